@@ -5,7 +5,7 @@
 
 Each size N gives rounds of N commands, one a container, each timed less the same file without these:
 
-- faults: ADDs whose first call is a listed fault, so that no kernel call is made: what the book costs;
+- faults: ADDs whose first call is a fault, so that no kernel call is made: what the book costs;
 - gone:   DELs of what isn't there, four kernel calls each on lists that are empty: what the book costs with its calls;
 - adds:   ADDs;
 - checks: CHECKs of what the ADDs of a round before made;

@@ -4,7 +4,7 @@ use Rattle.std.specs.List.{list_any}
 use Rattle.std.specs.Cmp.Lexicographic.{nat_list_eq_equiv}
 use Rattle.kernel_types.specs.Allowed.{IsVethPair}
 use Rattle.kernel_types.specs.Names.{host_name_of}
-use Rattle.kernel_types.specs.Words.{is_host_ns, is_link_of}
+use Rattle.kernel_types.specs.Terms.{is_host_ns, is_link_of}
 use Rattle.kernel_types.proofs.Cases.{att_eq-refl}
 use Rattle.kernel_types.specs.declared.object.Att.{Att}
 use Rattle.kernel_types.specs.declared.object.Tag.TheVariants.{Own}

@@ -1,4 +1,4 @@
--- What a plugin that makes interfaces answers (CNI specification, section 5, ADD Success).
+-- The results of `bridge` and `ptp` (CNI specification, section 5, ADD Success).
 use Rattle.std.specs.Prelude.{ℕ, Bool, not, ◌&&◌, List, [], ◌∷◌, ◌++◌, Option, Some, None, option_map, option_to_list, if◌then◌else◌}
 use Rattle.std.specs.List.{list_any}
 use Rattle.cni_addr.specs.Equal.{cidr_eq}

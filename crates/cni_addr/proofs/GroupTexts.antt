@@ -26,7 +26,7 @@ octet_fits a b c d (suc (suc zero)) h = h.2
 octet_fits a b c d (suc (suc (suc zero))) h = h.3
 octet_fits a b c d (suc (suc (suc (suc i)))) h = omega arith
 
--- a reader of the prefix that finds a value leaves nothing, if it found one of the whole
+-- a reader of the first part that finds a value leaves nothing, if it found one of the whole
 pub whole_some : {A : Type 0} (r : Read A) (x : A) → whole_value r ≡ Some x → r ≡ Some (x, [])
 whole_some None x e = absurd (none-some x e)
 whole_some (Some p) x e = whole_rest p.0 p.1 x e

@@ -1,4 +1,4 @@
--- Counts of faults and of failing calls.
+-- Counts of failures and of failing calls.
 use Rattle.std.proofs.Common.{◌≡◌, ℕ, ◌+◌, ◌^◌, ◌<◌, ◌≤◌, inl, inr, List, true, false, if◌then◌else◌, arith, refl, ◌∙◌}
 use Rattle.std.specs.Prelude.{⊤}
 use Rattle.std.specs.List.{count_by, range_with_len}
@@ -7,7 +7,7 @@ use Rattle.std.proofs.lemmas.List.FromFn.{length-range_with_len, sum_by-map-rang
 use Rattle.std.proofs.lemmas.List.Sums.{count_by-le-length}
 use Rattle.std.proofs.lemmas.Bool.Decides.{nat_tests}
 use Rattle.std.proofs.lemmas.Bool.{cases_Bool}
-use Rattle.cni_io.specs.Faults.{Rose, CountsFault}
+use Rattle.cni_io.specs.Failures.{Rose, CountsFailure}
 use Rattle.cni_io.specs.FailingCalls.{CallsState, failures, is_failing, is_numbered, fails_next, with_next_call}
 
 -- what rose later rose from the start on
@@ -50,17 +50,17 @@ failures-passes s passes =
       | inr last ↦ rw last refl
     ]
 
--- a call that fails counts its fault
-pub CountsFault-fails : (s : CallsState) → fails_next s ≡ true → CountsFault (failures s) (failures (with_next_call s)) ⊤
-CountsFault-fails s fails = record {
+-- a call that fails counts its failure
+pub CountsFailure-fails : (s : CallsState) → fails_next s ≡ true → CountsFailure (failures s) (failures (with_next_call s)) ⊤
+CountsFailure-fails s fails = record {
   later = omega (arith, (failures-fails s fails).0);
   bounded = omega (arith, (failures-fails s fails).0, (failures-fails s fails).1);
   rose = λ fault. inl (omega (arith, (failures-fails s fails).0));
 }
 
--- a call that does not fail has no fault to count
-pub CountsFault-passes : (s : CallsState) → fails_next s ≡ false → failures s < 2 ^ 64 → {fault : Type 0} → ¬ fault → CountsFault (failures s) (failures (with_next_call s)) fault
-CountsFault-passes s passes fits none = record {
+-- a call that does not fail has no failure to count
+pub CountsFailure-passes : (s : CallsState) → fails_next s ≡ false → failures s < 2 ^ 64 → {fault : Type 0} → ¬ fault → CountsFailure (failures s) (failures (with_next_call s)) fault
+CountsFailure-passes s passes fits none = record {
   later = omega (arith, failures-passes s passes);
   bounded = omega (arith, failures-passes s passes);
   rose = λ fault. absurd (none fault);

@@ -1,6 +1,6 @@
-pub mod Faults
+pub mod FailingCalls
+pub mod Failures
 pub mod Files
+pub mod Memory
 pub mod Sink
 pub mod Whole
-pub mod FailingCalls
-pub mod Memory

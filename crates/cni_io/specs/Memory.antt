@@ -9,7 +9,7 @@ use Rattle.cni_io.specs.declared.sink.SinkFault.{SinkFault}
 use Rattle.cni_io.specs.declared.sink.SinkFault.TheVariants.{Failed}
 use Rattle.cni_io.specs.FailingCalls.{CallsState, fails_next, with_next_call}
 use Rattle.cni_io.specs.Files.{StoredFiles, file_of}
-use Rattle.cni_io.specs.Sink.{taken_of, faults_counted}
+use Rattle.cni_io.specs.Sink.{taken_of, failures_counted}
 
 -- what `MemFiles` holds
 pub record FilesState : Type 0 where
@@ -36,7 +36,7 @@ pub record SinkState : Type 0 where
   pub most : ℕ
   pub room : ℕ
   pub writes : CallsState
-  pub faults : ℕ
+  pub failures : ℕ
 
 -- what the next write answers at a piece of this length
 abbrev pub next_write : SinkState → ℕ → Result ℕ SinkFault
@@ -49,5 +49,5 @@ sink_after s bytes = let answer = next_write s (length bytes) in record {
   most = s.most;
   room = s.room - taken_of answer;
   writes = with_next_call s.writes;
-  faults = faults_counted s.faults answer (length bytes);
+  failures = failures_counted s.failures answer (length bytes);
 }

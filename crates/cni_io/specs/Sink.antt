@@ -2,7 +2,7 @@
 use Rattle.std.specs.Prelude.{◌≡◌, ◌==◌, ◌&&◌, ℕ, ◌<◌, nat_lt, if◌then◌else◌, Result, Ok, Err, ⊤}
 use Rattle.cni_io.specs.declared.sink.SinkFault.{SinkFault}
 use Rattle.cni_io.specs.declared.sink.SinkFault.TheVariants.{Failed}
-use Rattle.cni_io.specs.Faults.{counted}
+use Rattle.cni_io.specs.Failures.{counted}
 
 -- how many bytes were taken
 abbrev pub taken_of : Result ℕ SinkFault → ℕ
@@ -10,11 +10,11 @@ taken_of (Ok taken) = taken
 taken_of (Err Failed) = 0
 
 -- the write failed, or took nothing of a piece of this length, which is not empty
-abbrev pub IsFault : Result ℕ SinkFault → ℕ → Type 0
-IsFault (Ok taken) len = (taken ≡ 0) × (0 < len)
-IsFault (Err Failed) len = ⊤
+abbrev pub IsFailure : Result ℕ SinkFault → ℕ → Type 0
+IsFailure (Ok taken) len = (taken ≡ 0) × (0 < len)
+IsFailure (Err Failed) len = ⊤
 
--- the count of faults after a write of a piece of this length
-abbrev pub faults_counted : ℕ → Result ℕ SinkFault → ℕ → ℕ
-faults_counted faults (Ok taken) len = if taken == 0 && nat_lt 0 len then counted faults else faults
-faults_counted faults (Err Failed) len = counted faults
+-- the count of failures after a write of a piece of this length
+abbrev pub failures_counted : ℕ → Result ℕ SinkFault → ℕ → ℕ
+failures_counted failures (Ok taken) len = if taken == 0 && nat_lt 0 len then counted failures else failures
+failures_counted failures (Err Failed) len = counted failures

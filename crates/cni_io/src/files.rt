@@ -26,14 +26,14 @@ pub enum FileFault {
 /// two reads, and their bytes are then free.
 pub trait Files {
     ghost use Rattle.std.specs.Prelude.{◌≡◌, ℕ, Option, IfSome};
-    ghost use Rattle.cni_io.specs.Faults.{CountsFault};
+    ghost use Rattle.cni_io.specs.Failures.{CountsFailure};
     ghost use Rattle.cni_io.specs.Files.{StoredFiles, ReadsTold, IsFailed, file_of, KeepsToLimit};
 
     // the files, where they are told
     ghost files: { Self → Option StoredFiles };
 
-    // a count of faults, which each read that fails raises
-    ghost faults: { Self → ℕ };
+    // a count of failures, which each read that fails raises
+    ghost failure_count: { Self → ℕ };
 
     /// Reads the file `name`, which is to have at most `limit` bytes.
     fn read(&mut self, alloc: Global, name: &str, limit: u64) -> Result<Vec<u8>, FileFault>
@@ -41,5 +41,5 @@ pub trait Files {
             (λ stored. ReadsTold result (file_of stored limit name.now)) }
         ensures keeps { files self.new ≡ files self.old }
         ensures limited { KeepsToLimit limit result }
-        ensures cause { CountsFault (faults self.old) (faults self.new) (IsFailed result) };
+        ensures cause { CountsFailure (failure_count self.old) (failure_count self.new) (IsFailed result) };
 }

@@ -1,7 +1,7 @@
 //! The outside of the runtime: files that are read whole, and a sink that takes the output.
 //!
 //! The crates above reach the outside only by the two traits here, [`Files`] and [`Sink`]. Each has
-//! a count of faults that never falls, so a caller that tells of a failed read or write can prove
+//! a count of failures that never falls, so a caller that tells of a failed read or write can prove
 //! that there was one. Where files tell what they hold and a sink tells what it was given, as
 //! [`MemFiles`] and [`MemSink`] do, the bytes that were read and written are known too.
 //! [`RealFiles`] and [`RealSink`] adapt the file system and standard output. They tell no bytes,

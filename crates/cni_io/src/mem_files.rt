@@ -3,7 +3,7 @@
 ghost use Rattle.std.specs.Prelude.{◌≡◌, ◌≢◌, ℕ, ◌≤◌, List, [], Option, Some, IfSome, IfErr, OnOk, OnErr, option_map, filter, not, vec_len};
 ghost use Rattle.std.specs.Str.{bytes_eq};
 ghost use Rattle.std.specs.Vec.{vec_capacity};
-ghost use Rattle.cni_io.specs.Faults.{CountsFault};
+ghost use Rattle.cni_io.specs.Failures.{CountsFailure};
 ghost use Rattle.cni_io.specs.Files.{ReadsTold, IsFailed, GivesOrNoMemory, KeepsToLimit, bytes_of, file_of, answer_within};
 ghost use Rattle.cni_io.specs.FailingCalls.{with_next_call, failures};
 ghost use Rattle.cni_io.specs.Memory.{FilesState, stored_with, HasEachNameOnce, next_read};
@@ -56,7 +56,7 @@ impl StoredFile {
 pub struct MemFiles {
     files: Vec<StoredFile>,
     reads: FailingCalls,
-    faults: u64,
+    failed_reads: u64,
 }
 
 impl Model for MemFiles {
@@ -69,7 +69,7 @@ impl Model for MemFiles {
     ghost view = { λ s. record { stored = s.files.items; reads = s.reads } };
 
     // the count is the number of the reads that failed, and no name stands twice
-    ghost invariant = { λ s. (s.faults ≡ failures s.reads) × HasEachNameOnce s.files.items };
+    ghost invariant = { λ s. (s.failed_reads ≡ failures s.reads) × HasEachNameOnce s.files.items };
 }
 
 impl MemFiles {
@@ -83,7 +83,7 @@ impl MemFiles {
         MemFiles {
             files: Vec::new(alloc),
             reads: FailingCalls::new(failing),
-            faults: 0,
+            failed_reads: 0,
         }
     }
 
@@ -118,21 +118,21 @@ impl Files for MemFiles {
 
     ghost files = { λ s. Some s.stored };
 
-    ghost faults = { λ s. failures s.reads };
+    ghost failure_count = { λ s. failures s.reads };
 
     fn read(&mut self, alloc: Global, name: &str, limit: u64) -> Result<Vec<u8>, FileFault>
         ensures told { IfSome (Some self.old.stored)
             (λ stored. ReadsTold result (file_of stored limit name.now)) }
         ensures keeps { Some self.new.stored ≡ Some self.old.stored }
         ensures limited { KeepsToLimit limit result }
-        ensures cause { CountsFault (failures self.old.reads) (failures self.new.reads)
+        ensures cause { CountsFailure (failures self.old.reads) (failures self.new.reads)
             (IsFailed result) }
         ensures exact { GivesOrNoMemory result (next_read self.old limit name.now) }
         ensures leaves { self.new ≡ record self.old { reads = with_next_call self.old.reads } }
     {
-        let faults = self.faults;
+        let failed_reads = self.failed_reads;
         if self.reads.next_fails() {
-            self.faults = faults + 1;
+            self.failed_reads = failed_reads + 1;
             return Err(FileFault::Failed);
         }
         copy_within(alloc, find_file(&self.files, name), limit)
@@ -189,14 +189,14 @@ mod tests {
         assert_eq!(rt; files.files.len(), 1);
         let read = files.read(rt.alloc(), "a", 5)?;
         assert_eq!(rt; read.as_slice(), b"bytes".as_slice());
-        for (name, limit, fault, faults) in [
+        for (name, limit, fault, failed_reads) in [
             ("a", 5, FileFault::Failed, 1),
             ("b", 5, FileFault::Missing, 1),
             ("a", 4, FileFault::TooLarge { limit: 4 }, 1),
         ] {
             let answer = files.read(rt.alloc(), name, limit);
             assert_eq!(rt; answer.err(), Some(fault), "{name} of {limit}");
-            assert_eq!(rt; files.faults, faults);
+            assert_eq!(rt; files.failed_reads, failed_reads);
         }
         Ok(())
     }

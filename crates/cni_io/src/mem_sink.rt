@@ -3,7 +3,7 @@
 ghost use Rattle.std.specs.Prelude.{◌≡◌, IfOk, []};
 
 use crate::failing_calls::FailingCalls;
-use crate::sink::{Sink, SinkFault, count_fault};
+use crate::sink::{Sink, SinkFault, count_failure};
 use cni_addr::NoMemory;
 use std::alloc::Global;
 use std::marker::Model;
@@ -19,7 +19,7 @@ pub struct MemSink {
     most: usize,
     room: usize,
     writes: FailingCalls,
-    faults: u64,
+    failures: u64,
 }
 
 impl Model for MemSink {
@@ -34,7 +34,7 @@ impl Model for MemSink {
       most = s.most;
       room = s.room;
       writes = s.writes;
-      faults = s.faults;
+      failures = s.failures;
     } };
 
     // the room that is left was reserved
@@ -54,7 +54,7 @@ impl MemSink {
           most = most;
           room = room;
           writes = record { failing = failing.items; calls = 0 };
-          faults = 0;
+          failures = 0;
         }) }
     {
         Ok(MemSink {
@@ -62,7 +62,7 @@ impl MemSink {
             most,
             room,
             writes: FailingCalls::new(failing),
-            faults: 0,
+            failures: 0,
         })
     }
 
@@ -80,7 +80,7 @@ impl Sink for MemSink {
 
     ghost written = { λ s. Some s.written };
 
-    ghost faults = { λ s. s.faults };
+    ghost failure_count = { λ s. s.failures };
 
     // a write answers so, and leaves this sink
     ghost write_gives = { λ s bytes answer t.
@@ -92,7 +92,7 @@ impl Sink for MemSink {
         } else {
             Ok(bytes.len().min(self.most.min(self.room)))
         };
-        self.faults = count_fault(self.faults, &outcome, bytes.len());
+        self.failures = count_failure(self.failures, &outcome, bytes.len());
         let taken = outcome?;
         self.written.extend_from_slice(&bytes[..taken]).unwrap();
         self.room -= taken;

@@ -1,7 +1,7 @@
 //! The files of the file system, each read whole and up to a limit.
 
 ghost use Rattle.std.specs.Prelude.{◌≡◌, is_ok, if◌then◌else◌};
-ghost use Rattle.cni_io.specs.Faults.{CountsFault, counted};
+ghost use Rattle.cni_io.specs.Failures.{CountsFailure, counted};
 ghost use Rattle.cni_io.specs.Files.{IsFailed, KeepsToLimit};
 
 use crate::files::{FileFault, Files};
@@ -13,11 +13,11 @@ use std::rt;
 
 /// The file system. A name is a path, and nothing is told of its file.
 ///
-/// A contract sees the count of faults, which each error raises.
+/// A contract sees the count of failures, which each error raises.
 #[derive(Drop)]
 pub struct RealFiles<R> {
     rt: R,
-    faults: u64,
+    failures: u64,
 }
 
 impl<R> Model for RealFiles<R> {
@@ -25,15 +25,15 @@ impl<R> Model for RealFiles<R> {
 
     ghost Value = { ℕ };
 
-    ghost view = { λ s. s.faults };
+    ghost view = { λ s. s.failures };
 }
 
 impl<R: rt::Files + Drop> RealFiles<R> {
-    /// The files that this runtime reaches, with no fault so far.
+    /// The files that this runtime reaches, with no failure so far.
     pub fn new(rt: R) -> RealFiles<R>
         ensures { result ≡ 0 }
     {
-        RealFiles { rt, faults: 0 }
+        RealFiles { rt, failures: 0 }
     }
 }
 
@@ -42,7 +42,7 @@ impl<R: rt::Files> Files for RealFiles<R> {
 
     ghost files = { λ _. None };
 
-    ghost faults = { λ count. count };
+    ghost failure_count = { λ count. count };
 
     /// Reads at most one byte more than the limit.
     ///
@@ -51,14 +51,14 @@ impl<R: rt::Files> Files for RealFiles<R> {
     /// leads through a file, a name that is too long and a file that may not be read.
     fn read(&mut self, alloc: Global, name: &str, limit: u64) -> Result<Vec<u8>, FileFault>
         ensures limited { KeepsToLimit limit result }
-        ensures cause { CountsFault self.old self.new (IsFailed result) }
+        ensures cause { CountsFailure self.old self.new (IsFailed result) }
         ensures counts { self.new ≡ (if is_ok result then self.old else counted self.old) }
     {
-        let faults = self.faults;
+        let failures = self.failures;
         match read_within(&self.rt, alloc, name, limit) {
             Ok(bytes) => Ok(bytes),
             Err(fault) => {
-                self.faults = faults.saturating_add(1);
+                self.failures = failures.saturating_add(1);
                 Err(fault)
             }
         }
@@ -133,7 +133,7 @@ mod tests {
             let answer = files.read(rt.alloc(), name, 5);
             assert_eq!(rt; answer.err(), Some(fault), "{name}");
         }
-        assert_eq!(rt; files.faults, 6);
+        assert_eq!(rt; files.failures, 6);
         Ok(())
     }
 }

@@ -2,19 +2,19 @@
 
 ghost use Rattle.std.specs.Prelude.{◌≡◌};
 
-use crate::sink::{Sink, SinkFault, count_fault};
+use crate::sink::{Sink, SinkFault, count_failure};
 use std::io::Write;
 use std::marker::Model;
 
 /// A writer of the system, as standard output. Nothing is told of its bytes.
 ///
-/// A contract sees the count of faults, which each error raises, and so does a write that takes
+/// A contract sees the count of failures, which each error raises, and so does a write that takes
 /// nothing of a piece that is not empty. The writer is to keep no bytes back, since a fault that it
 /// meets later is counted nowhere.
 #[derive(Drop)]
 pub struct RealSink<W> {
     writer: W,
-    faults: u64,
+    failures: u64,
 }
 
 impl<W> Model for RealSink<W> {
@@ -22,36 +22,39 @@ impl<W> Model for RealSink<W> {
 
     ghost Value = { ℕ };
 
-    ghost view = { λ s. s.faults };
+    ghost view = { λ s. s.failures };
 }
 
 impl<W: Write + Drop> RealSink<W> {
-    /// A sink over this writer, with no fault so far.
+    /// A sink over this writer, with no failure so far.
     pub fn new(writer: W) -> RealSink<W>
         ensures { result ≡ 0 }
     {
-        RealSink { writer, faults: 0 }
+        RealSink {
+            writer,
+            failures: 0,
+        }
     }
 }
 
 impl<W: Write> Sink for RealSink<W> {
     ghost use Rattle.std.specs.Prelude.{◌≡◌, None, length};
-    ghost use Rattle.cni_io.specs.Sink.{faults_counted};
+    ghost use Rattle.cni_io.specs.Sink.{failures_counted};
 
     ghost written = { λ _. None };
 
-    ghost faults = { λ count. count };
+    ghost failure_count = { λ count. count };
 
     // a write leaves this count
     ghost write_gives = { λ before bytes answer now.
-        now ≡ faults_counted before answer (length bytes) };
+        now ≡ failures_counted before answer (length bytes) };
 
     fn write(&mut self, bytes: &[u8]) -> Result<usize, SinkFault> {
         let outcome = match self.writer.write(bytes) {
             Ok(taken) => Ok(taken),
             Err(_) => Err(SinkFault::Failed),
         };
-        self.faults = count_fault(self.faults, &outcome, bytes.len());
+        self.failures = count_failure(self.failures, &outcome, bytes.len());
         outcome
     }
 }

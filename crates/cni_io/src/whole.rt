@@ -2,7 +2,7 @@
 
 ghost use Rattle.std.specs.Prelude.{◌≡◌, ◌≤◌, ◌<◌, ◌^◌, OnErr, length, take};
 ghost use Rattle.std.specs.Io.KnownBytes.{append_known};
-ghost use Rattle.cni_io.specs.Faults.{Rose};
+ghost use Rattle.cni_io.specs.Failures.{Rose};
 ghost use Rattle.cni_io.specs.Whole.{written_of, IsRunOfWrites};
 
 use crate::sink::{Sink, SinkFault};
@@ -25,9 +25,9 @@ pub fn write_whole<S: Sink>(sink: &mut S, bytes: &[u8]) -> Result<(), WriteEnd>
     ensures appended { let written = written_of (length bytes.now) result in
         S.written sink.new ≡ append_known (S.written sink.old) (take written bytes.now) }
     ensures writes { IsRunOfWrites S.write_gives bytes.now sink.old sink.new result }
-    ensures cause { OnErr result (Rose (S.faults sink.old) (S.faults sink.new)) }
-    ensures later { S.faults sink.old ≤ S.faults sink.new }
-    ensures bounded { S.faults sink.old < 2 ^ 64 → S.faults sink.new < 2 ^ 64 }
+    ensures cause { OnErr result (Rose (S.failure_count sink.old) (S.failure_count sink.new)) }
+    ensures later { S.failure_count sink.old ≤ S.failure_count sink.new }
+    ensures bounded { S.failure_count sink.old < 2 ^ 64 → S.failure_count sink.new < 2 ^ 64 }
 {
     let mut done = 0;
     while done < bytes.len() {

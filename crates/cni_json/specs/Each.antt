@@ -29,8 +29,8 @@ each_from read place (item d ds) = do
   Ok (first ∷ rest)
 
 -- these first, and then those that are read
-abbrev pub with_front : {A E : Type 0} → List A → Result (List A) E → Result (List A) E
-with_front front r = do
+abbrev pub with_prefix : {A E : Type 0} → List A → Result (List A) E → Result (List A) E
+with_prefix front r = do
   rest ← r
   Ok (front ++ rest)
 

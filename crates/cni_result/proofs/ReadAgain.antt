@@ -15,7 +15,7 @@ use Rattle.cni_addr.specs.CidrText.{cidr_of_text}
 use Rattle.cni_addr.specs.Value.{CidrValue}
 use Rattle.cni_result.specs.Reading.{cidr_of}
 use Rattle.cni_json.specs.Members.{text_data, number_data}
-use Rattle.cni_result.specs.Dns.{domain_of, dns_of, words_at, domain_at, dns_members_at}
+use Rattle.cni_result.specs.Dns.{domain_of, dns_of, texts_at, domain_at, dns_members_at}
 use Rattle.cni_result.specs.declared.refusal.ResultError.{ResultError}
 use Rattle.cni_result.specs.declared.result.Dns.{Dns}
 
@@ -54,7 +54,7 @@ domain_again wrong (c ∷ text) = refl
 
 -- name resolution, left out where it has no member
 pub dns_again : {E : Type 0} (wrong : E) (dns : Dns) (ms : Members) → dns_members_at wrong (object ms) ≡ Ok dns → dns_of wrong (field_of object_of (object_member ms)) ≡ Ok dns
-unfolding dns_members_at words_at domain_at
+unfolding dns_members_at texts_at domain_at
 dns_again wrong dns no_members is = is
 dns_again wrong dns (member k d ms) is = is
 

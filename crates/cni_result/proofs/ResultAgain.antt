@@ -12,7 +12,7 @@ use Rattle.cni_result.proofs.Depths.{result_depth}
 use Rattle.cni_result.proofs.EntriesAgain.{interface_again, ip_again, route_again}
 use Rattle.cni_result.proofs.Lookups.{at_other, at_other_text, at_other_list, at_other_object, at_key_text, at_key_list, at_key_object, list_member}
 use Rattle.cni_result.proofs.ReadAgain.{each_again, list_again, list_if_again, domain_again, dns_again, everywhere, each_of}
-use Rattle.cni_result.specs.Dns.{word_of, words_of, words_at, domain_of, domain_at, dns_members_at, dns_of, dns_of_object}
+use Rattle.cni_result.specs.Dns.{text_of, texts_of, texts_at, domain_of, domain_at, dns_members_at, dns_of, dns_of_object}
 use Rattle.cni_result.specs.Fields.{list_of, list_at}
 use Rattle.cni_result.specs.Laws.{IsInterfaceOf, IsIpEntry, IsRouteEntry, IsReadable}
 use Rattle.cni_json.specs.Members.{text_data, list_data, ◌▷◌, put_text_unless_empty, put_list_unless_empty, put_object_unless_empty}
@@ -31,12 +31,12 @@ use Rattle.cni_result.specs.declared.version.Version.TheVariants.{V0_4, V1_0, V1
 abbrev wrong : ResultError
 wrong = refusal.Invalid (codes "dns")
 
-all_words : (texts : List (List ℕ)) → AllByRecursion (λ t. word_of wrong (text_data t) ≡ Ok t) texts
-all_words texts = each_of (λ t. word_of wrong (text_data t) ≡ Ok t) texts (λ t. refl)
+all_texts : (texts : List (List ℕ)) → AllByRecursion (λ t. text_of wrong (text_data t) ≡ Ok t) texts
+all_texts texts = each_of (λ t. text_of wrong (text_data t) ≡ Ok t) texts (λ t. refl)
 
-words_again : (texts : List (List ℕ)) → words_of wrong (field_of as_array (list_member text_data texts)) ≡ Ok texts
-words_again [] = refl
-words_again (text ∷ texts) = each_again text_data (word_of wrong) (text ∷ texts) (all_words (text ∷ texts))
+texts_again : (texts : List (List ℕ)) → texts_of wrong (field_of as_array (list_member text_data texts)) ≡ Ok texts
+texts_again [] = refl
+texts_again (text ∷ texts) = each_again text_data (text_of wrong) (text ∷ texts) (all_texts (text ∷ texts))
 
 abbrev up_to_domain : Dns → Members
 up_to_domain dns = no_members ▷ put_text_unless_empty (codes "domain") dns.domain
@@ -47,33 +47,33 @@ up_to_nameservers dns = up_to_domain dns ▷ put_list_unless_empty text_data (co
 abbrev up_to_options : Dns → Members
 up_to_options dns = up_to_nameservers dns ▷ put_list_unless_empty text_data (codes "options") dns.options
 
-nameservers_again : (dns : Dns) → words_at wrong (codes "nameservers") (object (dns_members dns)) ≡ Ok dns.nameservers
-unfolding words_at dns_members
+nameservers_again : (dns : Dns) → texts_at wrong (codes "nameservers") (object (dns_members dns)) ≡ Ok dns.nameservers
+unfolding texts_at dns_members
 nameservers_again dns =
-    ap (λ g. words_of wrong (field_of as_array g))
+    ap (λ g. texts_of wrong (field_of as_array g))
     (at_other_list text_data (codes "nameservers") (codes "search") dns.search (up_to_options dns) refl
     ∙ at_other_list text_data (codes "nameservers") (codes "options") dns.options (up_to_nameservers dns) refl
     ∙ at_key_list text_data (codes "nameservers") dns.nameservers (up_to_domain dns) (at_other_text (codes "nameservers") (codes "domain") dns.domain no_members refl))
-    ∙ words_again dns.nameservers
+    ∙ texts_again dns.nameservers
 
-options_again : (dns : Dns) → words_at wrong (codes "options") (object (dns_members dns)) ≡ Ok dns.options
-unfolding words_at dns_members
+options_again : (dns : Dns) → texts_at wrong (codes "options") (object (dns_members dns)) ≡ Ok dns.options
+unfolding texts_at dns_members
 options_again dns =
-    ap (λ g. words_of wrong (field_of as_array g))
+    ap (λ g. texts_of wrong (field_of as_array g))
     (at_other_list text_data (codes "options") (codes "search") dns.search (up_to_options dns) refl
     ∙ at_key_list text_data (codes "options") dns.options (up_to_nameservers dns)
     (at_other_list text_data (codes "options") (codes "nameservers") dns.nameservers (up_to_domain dns) refl ∙ at_other_text (codes "options") (codes "domain") dns.domain no_members refl))
-    ∙ words_again dns.options
+    ∙ texts_again dns.options
 
-search_again : (dns : Dns) → words_at wrong (codes "search") (object (dns_members dns)) ≡ Ok dns.search
-unfolding words_at dns_members
+search_again : (dns : Dns) → texts_at wrong (codes "search") (object (dns_members dns)) ≡ Ok dns.search
+unfolding texts_at dns_members
 search_again dns =
-    ap (λ g. words_of wrong (field_of as_array g))
+    ap (λ g. texts_of wrong (field_of as_array g))
     (at_key_list text_data (codes "search") dns.search (up_to_options dns)
     (at_other_list text_data (codes "search") (codes "options") dns.options (up_to_nameservers dns) refl
     ∙ at_other_list text_data (codes "search") (codes "nameservers") dns.nameservers (up_to_domain dns) refl
     ∙ at_other_text (codes "search") (codes "domain") dns.domain no_members refl))
-    ∙ words_again dns.search
+    ∙ texts_again dns.search
 
 domain_at_again : (dns : Dns) → domain_at wrong (object (dns_members dns)) ≡ Ok dns.domain
 unfolding domain_at dns_members

@@ -8,16 +8,16 @@ use Rattle.cni_json.specs.Outcome.{◌>>=◌}
 use Rattle.cni_json.specs.declared.fields.Field.{Field}
 use Rattle.cni_result.specs.declared.result.Dns.{Dns}
 
-abbrev pub word_of : {E : Type 0} → E → Data → Result (List ℕ) E
-word_of wrong (string text) = Ok text
-word_of wrong d = Err wrong
+abbrev pub text_of : {E : Type 0} → E → Data → Result (List ℕ) E
+text_of wrong (string text) = Ok text
+text_of wrong d = Err wrong
 
-abbrev pub words_of : {E : Type 0} → E → Field Items → Result (List (List ℕ)) E
-words_of wrong f = list_or (Err wrong) (word_of wrong) f
+abbrev pub texts_of : {E : Type 0} → E → Field Items → Result (List (List ℕ)) E
+texts_of wrong f = list_or (Err wrong) (text_of wrong) f
 
 -- a list of texts, empty where there is none
-unfoldable pub words_at : {E : Type 0} → E → List ℕ → Data → Result (List (List ℕ)) E
-words_at wrong key d = words_of wrong (list_field key d)
+unfoldable pub texts_at : {E : Type 0} → E → List ℕ → Data → Result (List (List ℕ)) E
+texts_at wrong key d = texts_of wrong (list_field key d)
 
 abbrev pub domain_of : {E : Type 0} → E → Field (List ℕ) → Result (List ℕ) E
 domain_of wrong f = member_or (Ok []) (Err wrong) Ok f
@@ -29,10 +29,10 @@ domain_at wrong d = domain_of wrong (text_field (codes "domain") d)
 -- the members of a `dns` object
 unfoldable pub dns_members_at : {E : Type 0} → E → Data → Result Dns E
 dns_members_at wrong d = do
-  nameservers ← words_at wrong (codes "nameservers") d
+  nameservers ← texts_at wrong (codes "nameservers") d
   domain ← domain_at wrong d
-  searched ← words_at wrong (codes "search") d
-  options ← words_at wrong (codes "options") d
+  searched ← texts_at wrong (codes "search") d
+  options ← texts_at wrong (codes "options") d
   Ok (record { nameservers = nameservers; domain = domain; search = searched; options = options })
 
 -- nothing is configured

@@ -4,7 +4,7 @@ ghost use Rattle.std.specs.Prelude.{◌≡◌, IfOk};
 ghost use Rattle.serde_json.specs.View.{view};
 ghost use Rattle.cni_json.specs.Outcome.{Gives};
 ghost use Rattle.cni_json.specs.Readers.{IsRefusal};
-ghost use Rattle.cni_result.specs.Dns as wanted;
+ghost use Rattle.cni_result.specs.Dns as defined;
 
 use crate::result::Dns;
 use cni_addr::{Items, NoMemory, Text};
@@ -22,7 +22,7 @@ pub fn read_dns<E: Refusal, W: Fn() -> E>(
 ) -> Result<Dns, E>
     requires { W.IsAlwaysCallable refusal }
     ensures { (wrong : E) → IsRefusal E.is_out_of_memory W.FnOnce refusal wrong
-        → Gives E.is_out_of_memory result (wanted.dns_of_object wrong (view object.now)) }
+        → Gives E.is_out_of_memory result (defined.dns_of_object wrong (view object.now)) }
 {
     match field_object(object, "dns") {
         Field::Absent => Ok(no_dns(alloc)?),
@@ -33,7 +33,7 @@ pub fn read_dns<E: Refusal, W: Fn() -> E>(
 
 /// Nothing is configured: each list is empty and the domain is the empty text.
 pub fn no_dns(alloc: Global) -> Result<Dns, NoMemory>
-    ensures { IfOk result (λ dns. dns ≡ wanted.no_dns) }
+    ensures { IfOk result (λ dns. dns ≡ defined.no_dns) }
 {
     Ok(Dns {
         nameservers: Items::new(alloc),
@@ -51,12 +51,12 @@ fn dns_members<E: Refusal, W: Fn() -> E>(
 ) -> Result<Dns, E>
     requires { W.IsAlwaysCallable refusal.now }
     ensures { (wrong : E) → IsRefusal E.is_out_of_memory W.FnOnce refusal.now wrong
-        → Gives E.is_out_of_memory result (wanted.dns_members_at wrong (view members.now)) }
+        → Gives E.is_out_of_memory result (defined.dns_members_at wrong (view members.now)) }
 {
-    let nameservers = read_words(alloc, members, "nameservers", refusal)?;
+    let nameservers = read_texts(alloc, members, "nameservers", refusal)?;
     let domain = domain(alloc, members, refusal)?;
-    let search = read_words(alloc, members, "search", refusal)?;
-    let options = read_words(alloc, members, "options", refusal)?;
+    let search = read_texts(alloc, members, "search", refusal)?;
+    let options = read_texts(alloc, members, "options", refusal)?;
     Ok(Dns {
         nameservers,
         domain,
@@ -69,7 +69,7 @@ fn dns_members<E: Refusal, W: Fn() -> E>(
 fn domain<E: Refusal, W: Fn() -> E>(alloc: Global, members: &Value, refusal: &W) -> Result<Text, E>
     requires { W.IsAlwaysCallable refusal.now }
     ensures { (wrong : E) → IsRefusal E.is_out_of_memory W.FnOnce refusal.now wrong
-        → Gives E.is_out_of_memory result (wanted.domain_at wrong (view members.now)) }
+        → Gives E.is_out_of_memory result (defined.domain_at wrong (view members.now)) }
 {
     match field_str(members, "domain") {
         Field::Absent => Ok(Text::of(alloc, "")?),
@@ -80,8 +80,8 @@ fn domain<E: Refusal, W: Fn() -> E>(alloc: Global, members: &Value, refusal: &W)
 
 /// The texts that are the list under the key of an object, none where it is absent. Another value of the key is
 /// refused.
-#[tactic(auto, using(cni_json::proofs::Steps::steps), unfolding(crate::specs::Dns::words_at))]
-pub fn read_words<E: Refusal, W: Fn() -> E>(
+#[tactic(auto, using(cni_json::proofs::Steps::steps), unfolding(crate::specs::Dns::texts_at))]
+pub fn read_texts<E: Refusal, W: Fn() -> E>(
     alloc: Global,
     object: &Value,
     key: &str,
@@ -89,22 +89,26 @@ pub fn read_words<E: Refusal, W: Fn() -> E>(
 ) -> Result<Items<Text>, E>
     requires { W.IsAlwaysCallable refusal.now }
     ensures { (wrong : E) → IsRefusal E.is_out_of_memory W.FnOnce refusal.now wrong
-        → Gives E.is_out_of_memory result (wanted.words_at wrong key.now (view object.now)) }
+        → Gives E.is_out_of_memory result (defined.texts_at wrong key.now (view object.now)) }
 {
     read_list_or(
         alloc,
         object,
         key,
         || refusal(),
-        |entry| word(alloc, entry, refusal),
+        |entry| text_member(alloc, entry, refusal),
     )
 }
 
 #[tactic(auto, using(cni_json::proofs::Steps::steps))]
-fn word<E: Refusal, W: Fn() -> E>(alloc: Global, entry: &Value, refusal: &W) -> Result<Text, E>
+fn text_member<E: Refusal, W: Fn() -> E>(
+    alloc: Global,
+    entry: &Value,
+    refusal: &W,
+) -> Result<Text, E>
     requires { W.IsAlwaysCallable refusal.now }
     ensures { (wrong : E) → IsRefusal E.is_out_of_memory W.FnOnce refusal.now wrong
-        → Gives E.is_out_of_memory result (wanted.word_of wrong (view entry.now)) }
+        → Gives E.is_out_of_memory result (defined.text_of wrong (view entry.now)) }
 {
     match entry {
         Value::String(text) => Ok(Text::of(alloc, text.as_str())?),

@@ -3,7 +3,7 @@
 //! What it promises above: the types carry every field that the runtime's verbs speak of, each is compared by its
 //! fields, and a copy equals what was copied. `to_value` and `error_value` are the specification's JSON, `read_result`
 //! is exact with its first refusal, and a result that was printed is read again as the same result. `read_dns` reads
-//! the `dns` of a result and that of a plugin's object, `version_named` the text of `cniVersion`, `read_words` a list
+//! the `dns` of a result and that of a plugin's object, `version_named` the text of `cniVersion`, `read_texts` a list
 //! of texts.
 //!
 //! ```text
@@ -27,7 +27,7 @@ mod tests;
 pub mod version;
 
 pub use cached::{Cached, PortMapping, Proto, proto_named, proto_text};
-pub use dns::{no_dns, read_dns, read_words};
+pub use dns::{no_dns, read_dns, read_texts};
 pub use error::CniError;
 pub use printing::{error_value, result_line, to_value};
 pub use reading::read_result;

@@ -29,7 +29,7 @@ finished c s act finish is none_next turn_is finish_is not_open = record {
   not_open = λ h. not_open (subst IsUnended is h);
 }
 
--- a collection, by what is left of its work
+-- a GC, by what is left of its work
 collects : (c : Command) (s : State) (jobs : List Job) (sweeps : List Sweep) (faults : List ℕ) → act_of s ≡ Collects (record { jobs = jobs; sweeps = sweeps }) faults → IsCalling c s ⊎ IsFinished c s
 collects c s [] [] faults is = inr (finished c s _ _ is refl refl refl (λ h. h))
 collects c s [] (sweep ∷ sweeps) faults is = inl (calling c s _ _ is refl refl refl tt)

@@ -9,7 +9,7 @@ use Rattle.pod_file.specs.declared.command.Command.{Command}
 use Rattle.kernel_types.specs.declared.object.Att.{Att}
 use Rattle.kernel_types.specs.declared.call.Call.{Call}
 use Rattle.kernel_types.specs.declared.call.Call.TheVariants.{CachePut}
-use Rattle.kernel_types.specs.Words.{lease_of}
+use Rattle.kernel_types.specs.Terms.{lease_of}
 use Rattle.plugin_base.specs.Share.{Share, no_objects, share_after_calls}
 use Rattle.plugin_base.proofs.CallLists.{share_after_calls-append}
 use Rattle.cni_verbs.specs.CommandFields.{att_of}

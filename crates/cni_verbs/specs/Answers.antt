@@ -16,9 +16,9 @@ use Rattle.cni_result.specs.declared.version.Version.TheVariants.{V1_1}
 use Rattle.net_conf.specs.declared.list.NetList.{NetList}
 use Rattle.pod_file.specs.declared.command.Command.{Command}
 use Rattle.pod_file.specs.Commands.{verb_text}
-use Rattle.kernel_text.specs.Words.{attachment_text, tag_text, chain_text}
+use Rattle.kernel_text.specs.Texts.{attachment_text, tag_text, chain_text}
 use Rattle.kernel_types.specs.Texts.{table_text}
-use Rattle.kernel_types.specs.Words.{is_host_ns}
+use Rattle.kernel_types.specs.Terms.{is_host_ns}
 use Rattle.cni_verbs.specs.CommandFields.{att_of}
 use Rattle.cni_verbs.specs.ErrorKinds.{error_kind_code, error_kind_title, message_about, message_of_field}
 use Rattle.cni_verbs.specs.Script.{Finish}
@@ -95,11 +95,11 @@ set_text set = codes "set " ++ decimal set
 abbrev pub spaced : List ℕ → List ℕ → List ℕ
 spaced word text = word ++ (codes " " ++ text)
 
--- what has a name of its own in a namespace, after the term for what it is
+-- what has a name of its own in a namespace, behind the name of its kind of object
 abbrev pub named_text : List ℕ → List ℕ → List ℕ → List ℕ
 named_text word ns name = spaced word (spaced (place_text ns) name)
 
--- what a link has of a network, after the term for what it is
+-- what a link has of a network, behind the name of its kind of object
 abbrev pub on_link_text : List ℕ → List ℕ → List ℕ → Cidr → List ℕ
 on_link_text word ns link cidr = named_text word ns (spaced link (cidr_text cidr))
 

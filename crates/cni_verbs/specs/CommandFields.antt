@@ -15,7 +15,7 @@ use Rattle.net_conf.specs.declared.chained.Chained.{Chained}
 use Rattle.net_conf.specs.declared.list.NetList.{NetList}
 use Rattle.pod_file.specs.declared.command.Command.{Command}
 use Rattle.pod_file.specs.declared.command.RawMapping.{RawMapping}
-use Rattle.kernel_types.specs.Words.{is_host_ns}
+use Rattle.kernel_types.specs.Terms.{is_host_ns}
 use Rattle.kernel_types.specs.declared.object.Att.{Att}
 use Rattle.cni_verbs.specs.Plugins.{chained_plugin_of}
 use Rattle.cni_verbs.specs.declared.answer.Cause.{Cause}

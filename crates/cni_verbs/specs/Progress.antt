@@ -9,7 +9,7 @@ use Rattle.cni_verbs.specs.Answers.{answer_of, answer_outside}
 use Rattle.cni_verbs.specs.Script.{State, Turn, Finish, turn, finish_of, state_after, advance, outside_after, outside_advance}
 use Rattle.cni_verbs.specs.declared.answer.Answer.{Answer}
 
--- a garbage collection, which keeps more than a run does
+-- a GC, whose run keeps more than a `Run` does
 abbrev pub is_gc : Verb → Bool
 is_gc verbs.Gc = true
 is_gc verb = false

@@ -1,4 +1,4 @@
--- What a call is replied, by the kernel or as a listed fault, and the host after it.
+-- What a call is replied, by the kernel or as a fault, and the host after it.
 use Rattle.std.specs.Prelude.{Bool, if◌then◌else◌}
 use Rattle.kernel_types.specs.Apply.{apply}
 use Rattle.kernel_types.specs.Replies.{is_fault}
@@ -7,7 +7,7 @@ use Rattle.kernel_types.specs.declared.call.Call.{Call}
 use Rattle.kernel_types.specs.declared.call.Reply.{Reply}
 use Rattle.kernel_types.specs.declared.call.Reply.TheVariants.{Fault}
 
--- the reply to a call: the kernel's, or the listed fault
+-- the reply to a call: the kernel's, or `Fault`
 abbrev pub reply_to : Host → Call → Bool → Reply
 reply_to host call faulty = if faulty then Fault else (apply host call).1
 

@@ -32,7 +32,7 @@ use Rattle.cni_verbs.specs.declared.answer.Skip.TheVariants as skips
 
 -- What is left to do: Begin and all after it; the calls before the leases; sets to lease from; the calls after the
 -- leases; the cached result to read, ahead of the deletions; kinds to delete; the cached result to read, ahead of the
--- questions of a check; questions; one change from outside; the work of a collection, with its faults so far; nothing.
+-- questions of a check; questions; one change from outside; the work of a GC, with its faults so far; nothing.
 pub data State : Type 0 where
   AtBegin : State
   BeforeLeases : (next : Call) (left : List Call) → State
@@ -76,7 +76,7 @@ abbrev pub asking : List Question → State
 asking [] = Over Yes []
 asking (question ∷ questions) = Asking question questions
 
--- what a collection is asked for
+-- what a GC is asked for
 abbrev pub gc_of : NetList → Command → Gc
 gc_of list c = record { network = c.network; valid = c.valid; kinds = kinds_of list }
 
@@ -183,11 +183,11 @@ unless_refused cause state = unless_ended (option_map Refused cause) state
 abbrev pub old_ending : Version → Option Ending
 old_ending version = then_some (is_before_1_1 version) (Refused (causes.TooOld version))
 
--- how a list ends a collection before its first call, where it is older than the verb or disables it
+-- how a list ends a GC before its first call, where it is older than the verb or disables it
 abbrev pub early_ending : Version → Bool → Option Ending
 early_ending version disabled = option_or (old_ending version) (then_some disabled (Skipped skips.Gc))
 
--- a collection with this work and these faults, where its list doesn't end it before
+-- a GC with this work and these faults, where its list doesn't end it before
 abbrev pub collecting : Version → Bool → Work → List ℕ → State
 collecting version disabled work faults = unless_ended (early_ending version disabled) (Collecting work faults)
 
@@ -272,13 +272,13 @@ act_of (Changing change) = Makes (λ c. change)
 act_of (Collecting work faults) = Collects work faults
 act_of (Over ending given) = Ends (record { ending = ending; given = given })
 
--- what a collection calls next, by the name of its network, where work is left
+-- what a GC calls next, by the name of its network, where work is left
 abbrev pub collected_by : List Job → List Sweep → Option (List ℕ → Call)
 collected_by [] [] = None
 collected_by [] (s ∷ sweeps) = Some (λ network. OwnersOf network s.kind)
 collected_by (j ∷ jobs) sweeps = Some (λ network. step_call j.att j.step)
 
--- a collection that met no fault succeeds
+-- a GC that met no fault succeeds
 abbrev pub swept : List ℕ → Ending
 swept [] = Yes
 swept (number ∷ numbers) = Refused (causes.Faults (number ∷ numbers))
@@ -297,7 +297,7 @@ call_by c (Ends finish) = None
 unfoldable pub next_call : Command → State → Option Call
 next_call c s = call_by c (act_of s)
 
--- a collection has no call to make
+-- a GC has no call to make
 abbrev pub has_no_work : List Job → List Sweep → Bool
 has_no_work jobs sweeps = is_none (collected_by jobs sweeps)
 

@@ -1,4 +1,4 @@
--- A garbage collection as work that is left: sweeps over the owners of a kind, and jobs of single owners (CNI
+-- A GC as work that is left: sweeps over the owners of a kind, and jobs of single owners (CNI
 -- specification, section 3, "Garbage-collecting unused resources", and libcni, which deletes the cached attachments
 -- first).
 use Rattle.std.specs.Prelude.{ℕ, ◌&&◌, Bool, false, not, List, [], ◌∷◌, map, filter}
@@ -22,7 +22,7 @@ is_named att v = bytes_eq v.container att.container && bytes_eq v.ifname att.ifn
 abbrev pub is_valid : List ValidAtt → Att → Bool
 is_valid valid att = list_any (is_named att) valid
 
--- a collection: the network, the attachments of it that stay, and the kinds of a DEL, the cached result last
+-- a GC: the network, the attachments of it that stay, and the kinds of a DEL, the cached result last
 pub record Gc : Type 0 where
   pub network : List ℕ
   pub valid : List ValidAtt

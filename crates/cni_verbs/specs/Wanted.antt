@@ -22,7 +22,7 @@ use Rattle.kernel_types.specs.declared.call.Kind.{Kind}
 use Rattle.kernel_types.specs.declared.call.Kind.TheVariants as kinds
 use Rattle.kernel_types.specs.declared.call.Call.{Call}
 use Rattle.kernel_types.specs.declared.call.Call.TheVariants.{Begin, LinkDel, RuleDel, SettingDel, LeaseDel, CacheDel, CachePut}
-use Rattle.kernel_types.specs.Words.{lease_of}
+use Rattle.kernel_types.specs.Terms.{lease_of}
 use Rattle.plugin_base.specs.Plugins.{added_after}
 use Rattle.plugin_base.specs.Share.{Share}
 use Rattle.host_local.specs.Conf.{range_sets_of}

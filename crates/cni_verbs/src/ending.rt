@@ -21,7 +21,7 @@ use pod_file::Command;
 use std::alloc::Global;
 
 /// The answer to an ending without a result of its own, in this version. `Added` has one, and is Yes here: a run of no
-/// network and a collection, which are answered by this alone, never end so.
+/// network and a GC, which are answered by this alone, never end so.
 pub fn plain_answer(
     alloc: Global,
     version: Version,

@@ -14,7 +14,7 @@ use std::alloc::Global;
 pub enum ErrorKind {
     /// A version that isn't supported, or is older than the verb (code 1).
     IncompatibleVersion,
-    /// A field that asks for what isn't done (code 2).
+    /// A key that asks for what isn't done (code 2).
     UnsupportedField,
     /// An attachment without a cached result (code 3).
     ContainerUnknown,

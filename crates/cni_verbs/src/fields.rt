@@ -10,7 +10,7 @@ use crate::answer::{Cause, WrongFields};
 use crate::plugins::takes_mappings;
 use cni_addr::{Addr, Duplicate, Items, NoMemory, Text, read_addr};
 use cni_result::{PortMapping, Proto, proto_named};
-use kernel_types::words::is_host_ns;
+use kernel_types::terms::is_host_ns;
 use kernel_types::{Att, NamedAtt};
 use net_conf::{Chained, NetList, is_container_id, is_interface_name};
 use pod_file::{Command, RawMapping};

@@ -23,8 +23,7 @@ pub fn an_add_may_be_granted()
     ensures { AddMayBeGranted }
 {}
 
-/// Each plugin keeps what it owes (`plugin_base/specs/PluginLaws.antt`), the one that comes first and the chained ones,
-/// however they are configured.
+/// Each plugin keeps what it owes (`plugin_base/specs/PluginLaws.antt`), the first and the chained ones, however they are configured.
 #[tactic(auto, using(crate::proofs::PluginLaws::chained_laws))]
 pub fn each_plugin_keeps_its_laws()
     ensures firsts { FirstsKeepTheirLaws }

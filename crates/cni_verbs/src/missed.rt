@@ -5,8 +5,8 @@ ghost use Rattle.cni_verbs.specs.Answers as answers;
 
 use crate::answer::Missed;
 use cni_addr::{Addr, Cidr, NoMemory, Text, write_addr, write_cidr};
-use kernel_text::words::chain_text;
-use kernel_types::words::is_host_ns;
+use kernel_text::texts::chain_text;
+use kernel_types::terms::is_host_ns;
 use kernel_types::{Chain, Table, table_text};
 use std::alloc::Global;
 
@@ -23,7 +23,7 @@ pub(crate) fn spaced(alloc: Global, word: &str, text: &str) -> Result<Text, NoMe
     Text::of(alloc, format!(in alloc; "{word} {text}")?.as_str())
 }
 
-/// What has a name of its own in a namespace, after the term for what it is.
+/// What has a name of its own in a namespace, behind the name of its kind of object.
 fn named_text(alloc: Global, word: &str, ns: &Text, name: &Text) -> Result<Text, NoMemory>
     ensures { IfOk result (λ text. text ≡ answers.named_text word.now ns.now name.now) }
 {
@@ -31,7 +31,7 @@ fn named_text(alloc: Global, word: &str, ns: &Text, name: &Text) -> Result<Text,
     spaced(alloc, word, there.as_str())
 }
 
-/// What a link has of a network, after the term for what it is.
+/// What a link has of a network, behind the name of its kind of object.
 fn on_link_text(
     alloc: Global,
     word: &str,

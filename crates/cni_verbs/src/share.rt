@@ -2,7 +2,7 @@
 
 ghost use Rattle.std.specs.Prelude.{◌≡◌, ◌++◌, ◌∷◌, [], map, OnOk};
 ghost use Rattle.plugin_base.specs.Share.{no_objects, share_after_call, share_after_calls};
-ghost use Rattle.kernel_types.specs.Words.{lease_of};
+ghost use Rattle.kernel_types.specs.Terms.{lease_of};
 
 use cni_addr::{Addr, Duplicate, Items, NoMemory};
 use cni_result::Cached;

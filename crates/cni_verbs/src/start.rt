@@ -70,7 +70,7 @@ fn old_ending(version: Version) -> Option<Ending>
         .then_some(Ending::Refused(Cause::TooOld(version)))
 }
 
-/// How the list ends a garbage collection before its first call, if it does: it is older than the verb, or disables it.
+/// How the list ends a GC before its first call, if it does: it is older than the verb, or disables it.
 /// Takes no memory.
 pub fn early_ending(list: &NetList) -> Option<Ending>
     ensures { result ≡ script.early_ending list.now.version list.now.disable_gc }

@@ -3,7 +3,7 @@ use Rattle.std.proofs.Common.{◌≡◌, ℕ, Bool, true, false, not, List, [], 
 use Rattle.std.specs.Prelude.{map, ◌&&◌, ◌||◌}
 use Rattle.std.specs.List.{list_any, list_all}
 use Rattle.std.proofs.lemmas.Option.{same_Some, none-some}
-use Rattle.kernel_types.specs.Words.{is_own}
+use Rattle.kernel_types.specs.Terms.{is_own}
 use Rattle.kernel_types.specs.Apply.{apply}
 use Rattle.kernel_types.specs.Apply.Calls.{tags_of}
 use Rattle.kernel_types.specs.Sound.{IsSound}

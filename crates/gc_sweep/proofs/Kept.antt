@@ -1,9 +1,9 @@
--- What a garbage collection keeps true at each call.
+-- What a GC keeps true at each call.
 use Rattle.std.proofs.Common.{◌≡◌, true, false, ap, List, refl, ◌∙◌, arith}
 use Rattle.kernel_types.specs.Apply.{apply}
 use Rattle.kernel_types.specs.Apply.Calls.{tags_of}
 use Rattle.kernel_types.specs.Sound.{IsSound}
-use Rattle.kernel_types.specs.Words.{is_own}
+use Rattle.kernel_types.specs.Terms.{is_own}
 use Rattle.kernel_types.specs.declared.object.Tag.{Tag}
 use Rattle.kernel_types.specs.Touch.{DropsOnly, TouchesOwn}
 use Rattle.kernel_types.proofs.Isolation.{KeepsWhere-TouchesOwn}

@@ -1,4 +1,4 @@
--- What a garbage collection leaves.
+-- What a GC leaves.
 use Rattle.std.proofs.Common.{◌≡◌, ℕ, ◌+◌, Bool, true, false, ap, List, [], ◌∷◌, ◌++◌, refl, sym, ◌∙◌, subst, inl, inr, arith}
 use Rattle.std.specs.Prelude.{filter, if◌then◌else◌}
 use Rattle.std.specs.List.{list_any, list_all}
@@ -8,7 +8,7 @@ use Rattle.kernel_types.specs.Equal.{tag_eq}
 use Rattle.kernel_types.specs.Apply.Calls.{tags_of}
 use Rattle.kernel_types.specs.Replies.{is_fault}
 use Rattle.kernel_types.specs.Sound.{IsSound, address_fits_tag}
-use Rattle.kernel_types.specs.Words.{is_own, is_at, is_link_of}
+use Rattle.kernel_types.specs.Terms.{is_own, is_at, is_link_of}
 use Rattle.kernel_types.specs.declared.object.Tag.{Tag}
 use Rattle.kernel_types.specs.declared.object.Tag.TheVariants.{Outside, Base, Own}
 use Rattle.kernel_types.specs.declared.object.NsObj.{NsObj}

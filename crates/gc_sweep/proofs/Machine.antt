@@ -1,4 +1,4 @@
--- A collection's script and its run, by the work alone.
+-- A GC's script and its run, by the work alone.
 use Rattle.std.proofs.Common.{◌≡◌, ℕ, ◌+◌, List, [], ◌∷◌}
 use Rattle.kernel_types.specs.Replies.{is_fault}
 use Rattle.kernel_types.specs.declared.object.Host.{Host}

@@ -7,7 +7,7 @@ use Rattle.std.proofs.lemmas.Bool.{and_from}
 use Rattle.std.proofs.lemmas.Map.Views.{any-filter_same}
 use Rattle.kernel_types.specs.Equal.{att_eq}
 use Rattle.cni_addr.specs.Lists.{each_key_once}
-use Rattle.kernel_types.specs.Words.{is_own}
+use Rattle.kernel_types.specs.Terms.{is_own}
 use Rattle.kernel_types.specs.Apply.Calls.{owner_in}
 use Rattle.kernel_types.specs.declared.object.Att.{Att}
 use Rattle.kernel_types.specs.declared.object.Tag.{Tag}
@@ -22,7 +22,7 @@ use Rattle.kernel_types.proofs.ListLemmas.{list_all-kept, list_all-weaker}
 use Rattle.kernel_types.proofs.TouchRemoval.{by_bool}
 use Rattle.plugin_base.proofs.KeyLists.{list_all-each_key_once, list_any-each_key_once}
 
--- the attachment is of the network and outside the valid list
+-- the attachment is of the network and stale
 abbrev pub is_stale : List ℕ → List ValidAtt → Att → Bool
 is_stale network valid att = bytes_eq att.network network && not (is_valid valid att)
 

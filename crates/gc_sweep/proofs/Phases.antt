@@ -153,7 +153,7 @@ pub swept_faulty : (faults : List ℕ) → (length faults == 0) ≡ false → en
 swept_faulty [] some = cc
 swept_faulty (k ∷ faults) some = refl
 
--- the collection is answered as it ends
+-- the GC is answered as it ends
 abbrev AnswersSo : NetList → Command → State → Type 0
 AnswersSo list c s = option_map (plain_answer list.version c) (ending_in s) ≡ answer_in (Some list) c s
 
@@ -179,6 +179,6 @@ answers_by list c w faults =
     (λ new disabled. answers_skipped list c skips.Gc)
     (λ new enabled. answers_working list c w.jobs w.sweeps faults)
 
--- no ending of a collection has a result of its own
+-- no ending of a GC has a result of its own
 pub answers : (list : NetList) (c : Command) (w : Work) (faults : List ℕ) (ending : Option Ending) → (let s : State = collecting list.version list.disable_gc w faults in ending ≡ ending_in s → option_map (plain_answer list.version c) ending ≡ answer_in (Some list) c s)
 answers list c w faults ending is = ap (option_map (plain_answer list.version c)) is ∙ answers_by list c w faults

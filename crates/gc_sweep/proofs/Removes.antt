@@ -1,7 +1,7 @@
 -- Hosts that only lost objects.
 use Rattle.std.proofs.Common.{true, refl, ◌∙◌}
 use Rattle.kernel_types.specs.Isolation.{RemovesOwn}
-use Rattle.kernel_types.specs.Words.{is_own}
+use Rattle.kernel_types.specs.Terms.{is_own}
 use Rattle.kernel_types.specs.declared.object.Att.{Att}
 use Rattle.kernel_types.specs.declared.object.Host.{Host}
 use Rattle.gc_sweep.specs.Keep.{IsWithin, OnlyRemoves}

@@ -1,4 +1,4 @@
--- What every call of a collection lowers: m is the most owners that a sweep can name.
+-- What every call of a GC lowers: m is the most owners that a sweep can name.
 use Rattle.std.specs.Prelude.{ℕ, ◌+◌, ◌*◌, Bool, List, [], ◌∷◌, length, filter}
 use Rattle.kernel_types.specs.declared.object.Tag.{Tag}
 use Rattle.kernel_types.specs.declared.object.Host.{Host}

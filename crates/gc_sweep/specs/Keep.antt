@@ -1,4 +1,4 @@
--- What a garbage collection keeps (CNI specification, section 2, "GC", `cni.dev/valid-attachments`), and hosts that
+-- What a GC keeps (CNI specification, section 2, "GC", `cni.dev/valid-attachments`), and hosts that
 -- only lost objects.
 use Rattle.std.specs.Prelude.{◌≡◌, ℕ, Bool, true, not, ◌||◌, List, filter}
 use Rattle.std.specs.Str.{bytes_eq}

@@ -1,4 +1,4 @@
--- What a garbage collection leaves, and what it answers.
+-- What a GC leaves, and what it answers.
 use Rattle.std.specs.Prelude.{◌≡◌, ℕ, ◌+◌, Bool, true, false, ◌||◌, List, [], ◌∷◌, is_some, if◌then◌else◌}
 use Rattle.std.specs.List.{list_all}
 use Rattle.cni_result.specs.declared.version.Version.{Version}
@@ -19,15 +19,15 @@ use Rattle.gc_sweep.specs.Keep.{stays, keep, IsWithin}
 use Rattle.gc_sweep.specs.Trace.{Made, IsRun, Ends, host_from, is_blamed}
 use Rattle.cni_verbs.specs.Progress.{is_gc}
 
--- the list ends a collection before its first call: it is older than the verb, or disables it
+-- the list ends a GC before its first call: it is older than the verb, or disables it
 abbrev pub is_early : Version → Bool → Bool
 is_early version disabled = is_some (early_ending version disabled)
 
--- the list doesn't end a collection before its first call
+-- the list doesn't end a GC before its first call
 abbrev pub IsCollected : NetList → Type 0
 IsCollected list = is_early list.version list.disable_gc ≡ false
 
--- a collection that is answered Yes leaves exactly what is kept
+-- a GC that is answered Yes leaves exactly what is kept
 abbrev pub YesKeeps : Type 0
 YesKeeps = (list : NetList) (c : Command) (host : Host) (es : List Made) → is_gc c.verb ≡ true → IsSound host
     → IsRun list c host es → Ends list c es Yes → host_from host es ≡ keep c.network c.valid host

@@ -1,9 +1,9 @@
--- What a collection that is alone with a host has done.
+-- What a GC that is alone with a host has done.
 use Rattle.std.specs.Prelude.{◌≡◌, ℕ, ◌+◌, Bool, false, ◌&&◌, List, [], ◌∷◌, map, Some}
 use Rattle.std.specs.List.{fold, list_any}
 use Rattle.kernel_types.specs.Codes.{kind_eq}
 use Rattle.kernel_types.specs.Replies.{is_fault}
-use Rattle.kernel_types.specs.Words.{is_own}
+use Rattle.kernel_types.specs.Terms.{is_own}
 use Rattle.kernel_types.specs.declared.object.Tag.{Tag}
 use Rattle.kernel_types.specs.declared.object.Host.{Host}
 use Rattle.kernel_types.specs.declared.call.Call.{Call}
@@ -17,7 +17,7 @@ use Rattle.cni_verbs.specs.Replies.{host_after, reply_to}
 use Rattle.cni_verbs.specs.Script.{State, start_state, advance, next_call, state_after, finish_of}
 use Rattle.cni_verbs.specs.declared.answer.Ending.{Ending}
 
--- a call that the collection made, and its reply
+-- a call that the GC made, and its reply
 pub record Made : Type 0 where
   pub call : Call
   pub reply : Reply

@@ -1,4 +1,4 @@
--- What the fields of a run stand for.
+-- What a run keeps, and stands for.
 use Rattle.std.specs.Prelude.{◌≡◌, ℕ, ◌<◌, List, [], ◌∷◌, map, drop, length, Option, Some, None, option_map}
 use Rattle.std.specs.List.{after_first}
 use Rattle.kernel_types.specs.Codes.{kind_eq}

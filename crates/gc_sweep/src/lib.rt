@@ -1,8 +1,8 @@
 //! Garbage collection of a network, a call at a time, and what it leaves.
 //!
-//! A [`GcRun`] follows the script of a collection (`specs/Sweep.antt` and `specs/Script.antt` of the crate
+//! A [`GcRun`] follows the script of a GC (`specs/Sweep.antt` and `specs/Script.antt` of the crate
 //! `cni_verbs`): a deletion for each owner of a cached result that the valid list doesn't name, then, kind by kind,
-//! what such owners still have. A fault ends the part that it stands in and never the collection, and the answer
+//! what such owners still have. A fault ends the part that it stands in and never the GC, and the answer
 //! names each.
 //!
 //! To the book above it promises that a run is seen as the list, the command and the script's state
@@ -17,7 +17,7 @@
 //! run.next()?                          // OwnersOf { network: "pods", kind: Cached }
 //! run.take(&Reply::Owners(owners))?;   // c1 and c2, of which c2 is valid
 //! run.next()?                          // CacheGet, for c1
-//! run.take(&Reply::Fault)?;            // c1's deletion ends here, the collection goes on
+//! run.take(&Reply::Fault)?;            // c1's deletion ends here, the GC goes on
 //! run.next()?                          // OwnersOf { network: "pods", kind: Links }
 //! ```
 #![tactic(auto)]

@@ -1,4 +1,4 @@
-//! Where a collection is: the sweep at hand, its owners, and the step of the one at hand.
+//! Where a GC is: the sweep at hand, its owners, and the step of the one at hand.
 
 ghost use Rattle.std.specs.Prelude.{◌≡◌, ◌<◌, ◌≤◌, ◌+◌, not, false, List, filter, length, slice_get, Some, nat_le, nat_lt, [], IfOk, IsOk, OnErr, OnOk};
 ghost use Rattle.kernel_types.specs.Replies.{holds_text_or_list, is_fault};

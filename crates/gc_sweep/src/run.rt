@@ -1,4 +1,4 @@
-//! The run of a garbage collection, a call at a time.
+//! The run of a GC, a call at a time.
 
 ghost use Rattle.std.specs.Prelude.{◌≡◌, ◌+◌, ◌<◌, ◌^◌, IfOk, OnOk, OnErr, IsOk, Some, None, [], false, true};
 ghost use Rattle.std.specs.Bool.{FalseIff};
@@ -19,7 +19,7 @@ use pod_file::Command;
 use std::alloc::Global;
 use std::marker::Model;
 
-/// The run of one collection. It keeps the owners of the sweep at hand and the numbers of its faults, and no replies.
+/// The run of one GC. It keeps the owners of the sweep at hand and the numbers of its faults, and no replies.
 #[derive(Drop)]
 pub struct GcRun {
     list: RefCounted<NetList>,
@@ -44,7 +44,7 @@ impl Model for GcRun {
 }
 
 impl GcRun {
-    /// The run of a collection of this list's network, before its first call.
+    /// The run of a GC of this list's network, before its first call.
     ///
     /// It shares the list, copies the command, and keeps both until it is dropped. Texts are shared too, so that takes
     /// time and memory in proportion to the valid attachments of the command. Besides it indexes those, and makes the
@@ -119,7 +119,7 @@ impl GcRun {
         is_early(self.list.get()) || self.place.is_done()
     }
 
-    /// What the command is answered, where the run is over. A fault doesn't end a collection: the error names each call
+    /// What the command is answered, where the run is over. A fault doesn't end a GC: the error names each call
     /// that was one.
     pub fn answer(&self) -> Result<Option<Answer>, NoMemory>
         ensures { IfOk result (λ answer. answer ≡ answer_at self.now) }
@@ -136,7 +136,7 @@ impl GcRun {
         }
     }
 
-    /// How the collection ends, where it is over.
+    /// How the GC ends, where it is over.
     fn ending(&self) -> Result<Option<Ending>, NoMemory>
         ensures { IfOk result (λ ending. ending ≡ ending_in self.now.state) }
     {
@@ -160,7 +160,7 @@ fn is_early(list: &NetList) -> bool
     early_ending(list).is_some()
 }
 
-/// How a collection with these faults ends, where no work is left.
+/// How a GC with these faults ends, where no work is left.
 fn swept(faults: &Items<u64>) -> Result<Ending, NoMemory>
     ensures { IfOk result (λ ending. ending ≡ swept faults.now) }
 {

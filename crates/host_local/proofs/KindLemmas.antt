@@ -1,4 +1,4 @@
--- Where a plugin that makes an interface masquerades, DEL takes back its rules; where it gives addresses, the leases.
+-- Where a first plugin masquerades, DEL takes back its rules; where it gives addresses, the leases.
 use Rattle.std.proofs.Common.{◌≡◌, Bool, true, false, List, ◌∷◌, ◌++◌, Option, Some, None, refl}
 use Rattle.std.specs.Prelude.{is_some}
 use Rattle.std.specs.List.{list_any}

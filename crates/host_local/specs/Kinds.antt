@@ -1,4 +1,4 @@
--- The kinds of objects that DEL takes back where a plugin makes interfaces.
+-- The kinds of objects that DEL takes back of a first plugin.
 use Rattle.std.specs.Prelude.{Bool, List, [], ◌∷◌, ◌++◌, Option, Some, None, if◌then◌else◌}
 use Rattle.net_conf.specs.declared.first.HostLocalConf.{HostLocalConf}
 use Rattle.kernel_types.specs.declared.call.Kind.{Kind}

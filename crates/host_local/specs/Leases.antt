@@ -39,7 +39,7 @@ IsCandidateOf sets number addr = MatchOption (slice_get sets number) ⊥ (λ set
 abbrev pub given_at : List RangeSet → ℕ → Addr → Option Given
 given_at sets number addr = option_and_then (λ set. given_by_set set addr) (slice_get sets number)
 
--- the k-th address by the k-th set; one that its set doesn't hold is ignored, which no candidate is (Laws.antt)
+-- the k-th address by the k-th set; one that its set doesn't hold is left out, and no candidate is (Laws.antt)
 abbrev pub given_of : List RangeSet → List Addr → List Given
 given_of sets addrs = filter_map (λ p. given_by_set p.0 p.1) (zip sets addrs)
 

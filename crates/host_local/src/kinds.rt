@@ -1,4 +1,4 @@
-//! What DEL takes back where a plugin makes interfaces.
+//! What DEL takes back of a first plugin.
 
 ghost use Rattle.std.specs.Prelude.{◌≡◌, IfOk};
 ghost use Rattle.std.specs.Option.{option_copied};

@@ -80,7 +80,7 @@ fn find_given(set: &RangeSet, addr: &Addr) -> Option<Given>
     }
 }
 
-/// The k-th address by the k-th set. An address that no range of its set holds is ignored, which no candidate is: see
+/// The k-th address by the k-th set. An address that no range of its set holds is left out, and no candidate is: see
 /// [`candidates_are_given`](crate::laws::candidates_are_given). Linear in the ranges of the sets.
 pub fn given_of(alloc: Global, sets: &[RangeSet], addrs: &[Addr]) -> Result<Vec<Given>, NoMemory>
     ensures { IfOk result (λ given. given.items ≡ leases.given_of sets.now addrs.now) }

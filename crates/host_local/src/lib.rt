@@ -1,7 +1,7 @@
 //! The `host-local` plugin: one address of each range set, and what it means by its range.
 //!
 //! To the verbs it promises the calls that lease, what a leased address is given with, and the part of the result that
-//! the plugin which makes the interface completes (`specs/Leases.antt`, `specs/Results.antt`). It holds no addresses
+//! the first plugin completes (`specs/Leases.antt`, `specs/Results.antt`). It holds no addresses
 //! itself: leases live in the modelled kernel. The [`laws`] say that no candidate of a set is dropped
 //! (`specs/Laws.antt`).
 //!

@@ -1,7 +1,7 @@
 -- Links that leave by their own place, and by a place that is named.
 use Rattle.std.proofs.Common.{◌≡◌, true, Some, refl, arith}
 use Rattle.std.proofs.lemmas.Slice.Eq.{bytes_eq-Decides}
-use Rattle.kernel_types.specs.Words.{is_at, has_named_ns, link_at}
+use Rattle.kernel_types.specs.Terms.{is_at, has_named_ns, link_at}
 use Rattle.kernel_types.specs.Apply.Calls.{goes_with, without_links, drop_link_of}
 use Rattle.kernel_types.specs.declared.call.Reply.TheVariants.{Gone}
 use Rattle.kernel_types.specs.declared.object.Link.{Link}

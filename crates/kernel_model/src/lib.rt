@@ -17,9 +17,9 @@ mod compared;
 pub mod kernel;
 pub mod list_kernel;
 mod lists;
+mod lookups;
 mod owners;
 pub mod refusing;
-mod words;
 
 pub use kernel::Kernel;
 pub use kernel_types::{

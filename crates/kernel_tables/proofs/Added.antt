@@ -8,7 +8,7 @@ use Rattle.kernel_types.proofs.ListLemmas.{list_any-find_none, list_any-none}
 use Rattle.kernel_types.proofs.Removal.{same_place}
 use Rattle.kernel_types.specs.Equal.{tag_eq, rule_eq}
 use Rattle.kernel_types.specs.Keys.{is_same_addr, is_same_link, is_same_route, is_same_rule}
-use Rattle.kernel_types.specs.Words.{is_at, has_link_in, is_link_of}
+use Rattle.kernel_types.specs.Terms.{is_at, has_link_in, is_link_of}
 use Rattle.kernel_types.specs.declared.object.AddrObj.{AddrObj}
 use Rattle.kernel_types.specs.declared.object.Link.{Link}
 use Rattle.kernel_types.specs.declared.object.RouteObj.{RouteObj}

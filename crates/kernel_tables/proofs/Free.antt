@@ -8,7 +8,7 @@ use Rattle.std.proofs.lemmas.Slice.Eq.{bytes_eq-Decides}
 use Rattle.cni_addr.specs.Equal.{addr_eq}
 use Rattle.cni_addr.specs.Lists.{distinct}
 use Rattle.kernel_types.specs.Keys.{is_same_addr, is_same_link, is_same_setting}
-use Rattle.kernel_types.specs.Words.{is_at, is_host_link, is_host_ns}
+use Rattle.kernel_types.specs.Terms.{is_at, is_host_link, is_host_ns}
 use Rattle.kernel_types.specs.contracts.object.LinkKeyPartialEq.TheImpl.{eq-value as link_key_eq-value}
 use Rattle.kernel_types.specs.contracts.object.AddrObjPartialEq.TheImpl.{eq-value as addr_obj_eq-value}
 use Rattle.kernel_types.specs.contracts.object.SettingPartialEq.TheImpl.{eq-value as setting_eq-value}
@@ -18,7 +18,7 @@ use Rattle.kernel_types.specs.declared.object.AddrObj.{AddrObj}
 use Rattle.kernel_types.specs.declared.object.Setting.{Setting}
 use Rattle.cni_addr.specs.declared.mac.Mac.{Mac}
 use Rattle.kernel_types.specs.Apply.Calls.{is_own_at, link_set_of, master_is_bridge_or_none, set_link, veth_add_of, with_values}
-use Rattle.kernel_types.specs.Words.{has_named_ns, is_own, link_at}
+use Rattle.kernel_types.specs.Terms.{has_named_ns, is_own, link_at}
 use Rattle.kernel_types.specs.declared.call.Reply.{Reply}
 use Rattle.kernel_types.specs.declared.call.Reply.TheVariants.{Done}
 use Rattle.kernel_types.specs.declared.object.Att.{Att}

@@ -15,7 +15,7 @@ use Rattle.ip_pool.specs.NextAddress.{is_taken}
 use Rattle.ip_pool.proofs.Addresses.{same-address, addr_eq-itself}
 use Rattle.kernel_types.specs.Keys.{is_same_lease}
 use Rattle.kernel_types.specs.Sound.{HasDistinctKeys}
-use Rattle.kernel_types.specs.Words.{addresses_in, is_lease_at}
+use Rattle.kernel_types.specs.Terms.{addresses_in, is_lease_at}
 use Rattle.kernel_types.specs.declared.object.Lease.{Lease}
 use Rattle.kernel_types.proofs.ListLemmas.{list_any-map_filter, list_any-none}
 use Rattle.kernel_tables.specs.Leased.{kept_for, AreLeased}

@@ -11,7 +11,7 @@ use Rattle.cni_addr.specs.Lists.{distinct, IsAmong, without_first}
 use Rattle.kernel_types.specs.Apply.Calls.{drop_link_of, goes_with, link_del_of, without_link}
 use Rattle.kernel_types.specs.Equal.{tag_eq}
 use Rattle.kernel_types.specs.Sound.{HasTagsOn, IsSound, is_link_or_peer, link_fits_tag, may_be_on, peer_fits, peers_back}
-use Rattle.kernel_types.specs.Words.{has_ns_in, is_at, is_bridge, is_own, is_peer_at}
+use Rattle.kernel_types.specs.Terms.{has_ns_in, is_at, is_bridge, is_own, is_peer_at}
 use Rattle.kernel_types.specs.declared.call.Reply.TheVariants.{Gone, NoNs}
 use Rattle.kernel_types.specs.declared.object.Att.{Att}
 use Rattle.kernel_types.specs.declared.object.Host.{Host}

@@ -10,7 +10,7 @@ use Rattle.kernel_types.specs.Apply.Calls.{goes_with_ns, has_peer_in, ns_del_of,
 use Rattle.kernel_types.specs.Equal.{tag_eq}
 use Rattle.kernel_types.specs.Keys.{is_same_link}
 use Rattle.kernel_types.specs.Sound.{IsSound, address_fits_tag, peer_fits}
-use Rattle.kernel_types.specs.Words.{has_bridge_in, has_link_in, has_named_ns, is_at, is_host_bridge, is_host_link, is_host_ns, is_link_of}
+use Rattle.kernel_types.specs.Terms.{has_bridge_in, has_link_in, has_named_ns, is_at, is_host_bridge, is_host_link, is_host_ns, is_link_of}
 use Rattle.kernel_types.specs.declared.call.Reply.TheVariants.{Done, NoNs}
 use Rattle.kernel_types.specs.declared.object.AddrObj.{AddrObj}
 use Rattle.kernel_types.specs.declared.object.Host.{Host}

@@ -10,7 +10,7 @@ use Rattle.indexmap.specs.IndexMap.{IndexMap}
 use Rattle.ip_pool.specs.AddrSets.{AddrSet}
 use Rattle.ip_pool.specs.NextAddress.{is_taken}
 use Rattle.kernel_types.specs.contracts.object.LeasePartialEq.TheImpl.{eq-value as lease_eq-value}
-use Rattle.kernel_types.specs.Words.{is_lease_at, is_of_pool}
+use Rattle.kernel_types.specs.Terms.{is_lease_at, is_of_pool}
 use Rattle.kernel_types.specs.declared.object.Last.{Last}
 use Rattle.kernel_types.specs.declared.object.Lease.{Lease}
 use Rattle.kernel_types.proofs.ListLemmas.{filter-push_dropped, list_any-none}

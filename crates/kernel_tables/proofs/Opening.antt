@@ -17,7 +17,7 @@ use Rattle.ip_pool.specs.NextAddress.{is_taken}
 use Rattle.kernel_types.specs.Equal.{tag_eq}
 use Rattle.kernel_types.specs.Keys.{is_same_addr, is_same_cached, is_same_last, is_same_lease, is_same_link, is_same_namespace, is_same_route, is_same_rule, is_same_setting}
 use Rattle.kernel_types.specs.Sound.{HasDistinctKeys}
-use Rattle.kernel_types.specs.Words.{addresses_in, is_host_ns}
+use Rattle.kernel_types.specs.Terms.{addresses_in, is_host_ns}
 use Rattle.kernel_types.specs.declared.object.AddrObj.{AddrObj}
 use Rattle.kernel_types.specs.declared.object.CachedObj.{CachedObj}
 use Rattle.kernel_types.specs.declared.object.Last.{Last}

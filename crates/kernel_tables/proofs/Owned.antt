@@ -6,7 +6,7 @@ use Rattle.std.specs.Option.{option_copied}
 use Rattle.cni_addr.specs.Lists.{without_first}
 use Rattle.kernel_types.specs.contracts.object.AttPartialEq.TheImpl.{eq-value as att_eq-value}
 use Rattle.kernel_types.specs.Equal.{att_eq}
-use Rattle.kernel_types.specs.Words.{is_own}
+use Rattle.kernel_types.specs.Terms.{is_own}
 use Rattle.kernel_types.specs.declared.object.Att.{Att}
 use Rattle.kernel_types.specs.declared.object.Tag.{Tag}
 use Rattle.kernel_types.specs.declared.object.Tag.TheVariants.{Outside, Base, Own}

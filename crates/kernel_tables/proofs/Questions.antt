@@ -23,7 +23,7 @@ use Rattle.kernel_types.specs.contracts.object.LeasePartialEq.TheImpl.{eq-value 
 use Rattle.kernel_types.specs.Equal.{addr_eq, addr_obj_eq, att_eq, chain_eq, cidr_eq, key_eq, lease_eq, link_eq, link_kind_eq, mac_eq, route_eq, rule_eq, proto_eq, setting_eq, table_eq, tag_eq, target_eq}
 use Rattle.kernel_types.specs.Keys.{is_same_link}
 use Rattle.kernel_types.specs.Sound.{HasDistinctKeys}
-use Rattle.kernel_types.specs.Words.{is_at, is_bridge, is_bridge_with, is_host_link, is_host_ns, owner_in}
+use Rattle.kernel_types.specs.Terms.{is_at, is_bridge, is_bridge_with, is_host_link, is_host_ns, owner_in}
 use Rattle.kernel_types.specs.declared.object.AddrObj.{AddrObj}
 use Rattle.kernel_types.specs.declared.object.Att.{Att}
 use Rattle.kernel_types.specs.declared.object.Lease.{Lease}

@@ -6,7 +6,7 @@ use Rattle.cni_addr.specs.declared.address.Addr.{Addr}
 use Rattle.indexmap.specs.IndexMap.{IndexMap, get}
 use Rattle.ip_pool.specs.AddrSets.{AddrSet}
 use Rattle.ip_pool.specs.NextAddress.{is_taken}
-use Rattle.kernel_types.specs.Words.{addresses_in}
+use Rattle.kernel_types.specs.Terms.{addresses_in}
 use Rattle.kernel_types.specs.declared.object.Lease.{Lease}
 
 -- the addresses that are kept for the network

@@ -69,9 +69,10 @@ impl Tables {
 /// owner.
 ///
 /// A call takes as many look-ups as it names objects, and as many steps as the attachment that it is about has objects,
-/// but for these, which scan the objects that ever were of a kind: `OwnersOf`; `HasObj` of a link outside the host that
-/// nobody owns; `NsChange` that takes a namespace away; and `Outside`, unless it drops an attachment's link.
-/// `LeaseNext` and `PoolFree` take two steps for each range of the set, however many addresses are leased.
+/// but for these, which scan the objects that ever were of a kind: `OwnersOf`; `HasObj` of a link that nobody owns and
+/// that isn't in the host's own namespace; `NsChange` that takes a namespace away; and `Outside`, unless it drops an
+/// attachment's link. `LeaseNext` and `PoolFree` take two steps for each range of the set, however many addresses are
+/// leased.
 #[derive(Drop)]
 pub struct TableKernel {
     tables: Tables,

@@ -1,3 +1,3 @@
 pub mod Dump
 pub mod Replies
-pub mod Words
+pub mod Texts

@@ -3,13 +3,13 @@ use Rattle.std.specs.Prelude.{ℕ, List, ◌++◌, length, codes, decimal, true,
 use Rattle.serde_json.specs.Data.{Data, object, no_members, put}
 use Rattle.cni_addr.specs.AddrText.{addr_text}
 use Rattle.cni_json.specs.Members.{text_data, number_data, ◌▷◌}
-use Rattle.kernel_text.specs.Words.{tag_text}
+use Rattle.kernel_text.specs.Texts.{tag_text}
 use Rattle.kernel_types.specs.declared.call.Call.{Call}
 use Rattle.kernel_types.specs.declared.call.Call.TheVariants.{Begin, BridgeEnsure, GatewayEnsure, ForwardEnsure, VethAdd, MacvlanAdd, LinkSet, AddrAdd, RouteAdd, RuleAppend, SettingSet, LeaseNext, CachePut, LinkDel, RuleDel, SettingDel, LeaseDel, CacheDel, HasObj, CacheGet, OwnersOf, PoolFree, NsChange, Outside}
 use Rattle.kernel_types.specs.declared.call.Reply.{Reply}
 use Rattle.kernel_types.specs.declared.call.Reply.TheVariants.{Done, NoNs, NoLink, Taken, Empty, Leased, Gone, Has, Owners, Entry, Fault}
 
--- the kind of a call
+-- the name of a call
 abbrev pub call_name : Call → List ℕ
 call_name (Begin att netns) = codes "Begin"
 call_name (BridgeEnsure name mtu promisc) = codes "BridgeEnsure"
@@ -53,7 +53,7 @@ reply_text (Entry None) = codes "Entry none"
 reply_text (Entry (Some cached)) = codes "Entry some"
 reply_text Fault = codes "Fault"
 
--- an entry of the history: its number from 1, the number of its command, the kind of the call, and the reply
+-- an entry of the history: its number from 1, the number of its command, the name of the call, and the reply
 unfoldable pub trace_data : ℕ → ℕ → Call → Reply → Data
 trace_data index command call reply = object (no_members
     ▷ put (codes "call") (text_data (call_name call))

@@ -36,7 +36,7 @@ pub fn push_line(alloc: Global, value: &Value, lines: &mut Vec<u8>) -> Result<()
 }
 
 /// Appends a line for each object. It asks that what is shown be a line, which is so of each kind of objects.
-#[tactic(auto, using(crate::proofs::TextLemmas::front_of_append))]
+#[tactic(auto, using(crate::proofs::TextLemmas::prefix_of_append))]
 fn push_lines<T: Dumped>(alloc: Global, objects: &[T], lines: &mut Vec<u8>) -> Result<(), NoMemory>
     requires { (x : T) → has_float (T.shown x) ≡ false }
     ensures shown { OnOk result (lines.new.items ≡ lines.old.items ++ lines_of T.shown objects.now) }
@@ -51,7 +51,7 @@ fn push_lines<T: Dumped>(alloc: Global, objects: &[T], lines: &mut Vec<u8>) -> R
 
 /// Appends the lines of all objects, list by list in the order of [`Host`]. What stood in `lines` stays; a refusal may
 /// leave a part of the dump behind it. It takes time and memory in proportion to the lines.
-#[tactic(auto, using(crate::proofs::TextLemmas::front_of_front, crate::proofs::DumpLemmas::objects_are_whole))]
+#[tactic(auto, using(crate::proofs::TextLemmas::prefix_of_prefix, crate::proofs::DumpLemmas::objects_are_whole))]
 pub fn push_dump(alloc: Global, host: &Host, lines: &mut Vec<u8>) -> Result<(), NoMemory>
     ensures shown { OnOk result (lines.new.items ≡ lines.old.items ++ dump_of host.now) }
     ensures kept { take (vec_len lines.old) lines.new.items ≡ lines.old.items }

@@ -21,7 +21,7 @@ mod links;
 pub mod replies;
 mod rules;
 pub mod tags;
-pub mod words;
+pub mod texts;
 
 pub use dump::{push_dump, push_line};
 pub use replies::{call_name, reply_text, trace_value};

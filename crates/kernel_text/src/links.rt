@@ -7,7 +7,7 @@ ghost use Rattle.kernel_text.specs.Dump.{namespace_data, link_key_data, link_dat
 
 use crate::dump::Dumped;
 use crate::tags::put_tag;
-use crate::words::link_mode;
+use crate::texts::link_mode;
 use cni_addr::{NoMemory, mode_text};
 use cni_json::JsonObject;
 use kernel_types::{Link, LinkKey, NsObj, link_kind_text};

@@ -77,7 +77,7 @@ pub fn reply_text(alloc: Global, reply: &Reply) -> Result<Text, NoMemory>
     }
 }
 
-/// An entry of the history as JSON: its number, counted from 1, the number of its command, the kind of the call, and
+/// An entry of the history as JSON: its number, counted from 1, the number of its command, the name of the call, and
 /// the reply.
 #[tactic(auto, unfolding(crate::specs::Replies::trace_data))]
 pub fn trace_value(

@@ -6,7 +6,7 @@ ghost use Rattle.kernel_text.specs.Dump.{rule_data, put_match, put_chain, settin
 
 use crate::dump::Dumped;
 use crate::tags::put_tag;
-use crate::words::{chain_text, target_text};
+use crate::texts::{chain_text, target_text};
 use cni_addr::NoMemory;
 use cni_json::JsonObject;
 use kernel_types::{RefCounted, Rule, Setting, table_text};

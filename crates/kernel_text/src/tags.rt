@@ -3,7 +3,7 @@
 ghost use Rattle.std.specs.Prelude.{◌≡◌, IfOk, OnErr, OnOk};
 ghost use Rattle.cni_json.specs.Members.{members_of};
 ghost use Rattle.kernel_text.specs.Dump.{put_tag};
-ghost use Rattle.kernel_text.specs.Words.{attachment_text, tag_text};
+ghost use Rattle.kernel_text.specs.Texts.{attachment_text, tag_text};
 
 use cni_addr::{NoMemory, Text};
 use cni_json::JsonObject;

@@ -4,16 +4,16 @@ ghost use Rattle.std.specs.Prelude.{◌≡◌, true, false};
 ghost use Rattle.ip_pool.specs.NextAddress.{is_candidate_or_none};
 ghost use Rattle.kernel_types.specs.Apply.Calls.{last_leased};
 ghost use Rattle.kernel_types.specs.Allowed.{IsAllowed, IsAllowedChange, HasRangesApart, IsVethPair, IsMacvlanLink};
-ghost use Rattle.kernel_types.specs.Words.{is_host_ns, is_macvlan, is_owned, is_peer_at, is_veth};
+ghost use Rattle.kernel_types.specs.Terms.{is_host_ns, is_macvlan, is_owned, is_peer_at, is_veth};
 
 use cni_addr::{Addr, RangeSet, Text};
 use ip_pool::{are_apart, contains_candidate};
-use kernel_types::words::{is_host_ns, is_peer_at, last_in};
+use kernel_types::terms::{is_host_ns, is_peer_at, last_in};
 use kernel_types::{Call, Change, Host, Link, Setting, Tag};
 
 fn is_same_tag(tag: &Tag, other: &Tag) -> bool
     ensures same { result ≡ true → tag.now ≡ other.now }
-    ensures told { tag.now ≡ other.now → result ≡ true }
+    ensures found { tag.now ≡ other.now → result ≡ true }
 {
     tag == other
 }
@@ -22,7 +22,7 @@ fn is_same_tag(tag: &Tag, other: &Tag) -> bool
 
 fn is_veth_pair(host_end: &Link, inner_end: &Link) -> bool
     ensures pair { result ≡ true → IsVethPair host_end.now inner_end.now }
-    ensures told { IsVethPair host_end.now inner_end.now → result ≡ true }
+    ensures found { IsVethPair host_end.now inner_end.now → result ≡ true }
 {
     let kinds = host_end.kind.is_veth() & inner_end.kind.is_veth();
     let tags = host_end.tag.is_owned() & is_same_tag(&inner_end.tag, &host_end.tag);
@@ -41,7 +41,7 @@ fn is_veth_pair(host_end: &Link, inner_end: &Link) -> bool
 
 fn is_macvlan_link(link: &Link) -> bool
     ensures link { result ≡ true → IsMacvlanLink link.now }
-    ensures told { IsMacvlanLink link.now → result ≡ true }
+    ensures found { IsMacvlanLink link.now → result ≡ true }
 {
     let over = link.kind.is_macvlan() & link.master.is_some();
     let alone = link.tag.is_owned() & link.peer.is_none();
@@ -51,7 +51,7 @@ fn is_macvlan_link(link: &Link) -> bool
 fn is_attachments_setting(setting: &Setting) -> bool
     ensures owned { result ≡ true → is_owned setting.now.tag ≡ true }
     ensures inner { result ≡ true → is_host_ns setting.now.ns ≡ false }
-    ensures told { is_owned setting.now.tag ≡ true → is_host_ns setting.now.ns ≡ false → result ≡ true }
+    ensures found { is_owned setting.now.tag ≡ true → is_host_ns setting.now.ns ≡ false → result ≡ true }
 {
     setting.tag.is_owned() & !is_host_ns(setting.ns.as_str())
 }
@@ -67,7 +67,7 @@ fn is_candidate_or_none(set: &RangeSet, last: Option<Addr>) -> bool
 
 fn is_pool(set: &RangeSet) -> bool
     ensures pool { result ≡ true → HasRangesApart set.now }
-    ensures told { HasRangesApart set.now → result ≡ true }
+    ensures found { HasRangesApart set.now → result ≡ true }
 {
     are_apart(set.ranges.as_slice())
 }
@@ -75,7 +75,7 @@ fn is_pool(set: &RangeSet) -> bool
 fn may_lease(host: &Host, network: &Text, number: u32, set: &RangeSet) -> bool
     ensures pool { result ≡ true → HasRangesApart set.now }
     ensures last { result ≡ true → is_candidate_or_none set.now (last_leased host.now network.now number) ≡ true }
-    ensures told { HasRangesApart set.now
+    ensures found { HasRangesApart set.now
         → is_candidate_or_none set.now (last_leased host.now network.now number) ≡ true → result ≡ true }
 {
     is_pool(set)
@@ -87,7 +87,7 @@ fn may_lease(host: &Host, network: &Text, number: u32, set: &RangeSet) -> bool
 
 fn is_allowed_change(change: &Change) -> bool
     ensures allowed { result ≡ true → IsAllowedChange change.now }
-    ensures told { IsAllowedChange change.now → result ≡ true }
+    ensures found { IsAllowedChange change.now → result ≡ true }
 {
     match change {
         Change::DropLink(key) => !is_host_ns(key.ns.as_str()),
@@ -99,7 +99,7 @@ fn is_allowed_change(change: &Change) -> bool
 /// leased addresses it scans.
 pub fn is_allowed(host: &Host, call: &Call) -> bool
     ensures allowed { result ≡ true → IsAllowed host.now call.now }
-    ensures told { IsAllowed host.now call.now → result ≡ true }
+    ensures found { IsAllowed host.now call.now → result ≡ true }
 {
     match call {
         Call::VethAdd {

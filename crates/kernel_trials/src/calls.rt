@@ -1,17 +1,17 @@
-//! The calls that the words of a row stand for, a function each.
+//! The calls that the tokens of a row stand for, a function each.
 
 use crate::objects::{
     address, att, cached, host_end, inner_end, key, lease, macvlan, route, rule, set, set_number,
     setting,
 };
-use crate::words::{RowError, cidr_of, cut, family_of, kind_of, link_words};
+use crate::tokens::{RowError, cidr_of, cut, family_of, kind_of, link_tokens};
 use cni_addr::Text;
 use kernel_types::{Call, Change, Object, Probe, RefCounted, link_mac, table_named};
 use std::alloc::Global;
 
 /// `Begin CONTAINER NAMESPACE`; the host's own namespace is written `host`.
-fn begin(alloc: Global, words: &str) -> Result<Call, RowError> {
-    let (container, netns) = cut(words);
+fn begin(alloc: Global, tokens: &str) -> Result<Call, RowError> {
+    let (container, netns) = cut(tokens);
     let att = att(alloc, container)?;
     let netns = Text::of(alloc, if netns == "host" { "" } else { netns })?;
     Ok(Call::Begin { att, netns })
@@ -32,29 +32,29 @@ fn gateway_ensure(alloc: Global, bridge: &str) -> Result<Call, RowError> {
     Ok(Call::GatewayEnsure { bridge, cidr })
 }
 
-fn forward_ensure(words: &str) -> Result<Call, RowError> {
-    let family = family_of(words)?;
+fn forward_ensure(tokens: &str) -> Result<Call, RowError> {
+    let family = family_of(tokens)?;
     Ok(Call::ForwardEnsure { family })
 }
 
 /// `VethAdd CONTAINER NAMESPACE NAME OUTER MASTER`.
-fn veth_add(alloc: Global, words: &str) -> Result<Call, RowError> {
-    let host_end = RefCounted::of(alloc, host_end(alloc, words)?)?;
-    let inner_end = RefCounted::of(alloc, inner_end(alloc, words)?)?;
+fn veth_add(alloc: Global, tokens: &str) -> Result<Call, RowError> {
+    let host_end = RefCounted::of(alloc, host_end(alloc, tokens)?)?;
+    let inner_end = RefCounted::of(alloc, inner_end(alloc, tokens)?)?;
     Ok(Call::VethAdd {
         host_end,
         inner_end,
     })
 }
 
-fn macvlan_add(alloc: Global, words: &str) -> Result<Call, RowError> {
-    let link = RefCounted::of(alloc, macvlan(alloc, words)?)?;
+fn macvlan_add(alloc: Global, tokens: &str) -> Result<Call, RowError> {
+    let link = RefCounted::of(alloc, macvlan(alloc, tokens)?)?;
     Ok(Call::MacvlanAdd { link })
 }
 
 /// `LinkSet CONTAINER NAMESPACE NAME` turns the promiscuous mode on.
-fn link_set(alloc: Global, words: &str) -> Result<Call, RowError> {
-    let at = link_words(words);
+fn link_set(alloc: Global, tokens: &str) -> Result<Call, RowError> {
+    let at = link_tokens(tokens);
     let att = att(alloc, at.container)?;
     let key = key(alloc, at.ns, at.link)?;
     Ok(Call::LinkSet {
@@ -68,29 +68,29 @@ fn link_set(alloc: Global, words: &str) -> Result<Call, RowError> {
     })
 }
 
-fn addr_add(alloc: Global, words: &str) -> Result<Call, RowError> {
-    let obj = RefCounted::of(alloc, address(alloc, words)?)?;
+fn addr_add(alloc: Global, tokens: &str) -> Result<Call, RowError> {
+    let obj = RefCounted::of(alloc, address(alloc, tokens)?)?;
     Ok(Call::AddrAdd { obj })
 }
 
-fn route_add(alloc: Global, words: &str) -> Result<Call, RowError> {
-    let obj = RefCounted::of(alloc, route(alloc, words)?)?;
+fn route_add(alloc: Global, tokens: &str) -> Result<Call, RowError> {
+    let obj = RefCounted::of(alloc, route(alloc, tokens)?)?;
     Ok(Call::RouteAdd { obj })
 }
 
-fn rule_append(alloc: Global, words: &str) -> Result<Call, RowError> {
-    let rule = RefCounted::of(alloc, rule(alloc, words)?)?;
+fn rule_append(alloc: Global, tokens: &str) -> Result<Call, RowError> {
+    let rule = RefCounted::of(alloc, rule(alloc, tokens)?)?;
     Ok(Call::RuleAppend { rule })
 }
 
-fn setting_set(alloc: Global, words: &str) -> Result<Call, RowError> {
-    let setting = RefCounted::of(alloc, setting(alloc, words)?)?;
+fn setting_set(alloc: Global, tokens: &str) -> Result<Call, RowError> {
+    let setting = RefCounted::of(alloc, setting(alloc, tokens)?)?;
     Ok(Call::SettingSet { setting })
 }
 
 /// `LeaseNext CONTAINER SET`.
-fn lease_next(alloc: Global, words: &str) -> Result<Call, RowError> {
-    let (container, name) = cut(words);
+fn lease_next(alloc: Global, tokens: &str) -> Result<Call, RowError> {
+    let (container, name) = cut(tokens);
     let number = set_number(name)?;
     let set = set(alloc, name)?;
     let att = att(alloc, container)?;
@@ -104,8 +104,8 @@ fn cache_put(alloc: Global, container: &str) -> Result<Call, RowError> {
 }
 
 /// `BridgeAt NAME OTHER` asks for the bridge with the hardware address of a link named `OTHER`.
-fn bridge_at(alloc: Global, words: &str) -> Result<Call, RowError> {
-    let (name, other) = cut(words);
+fn bridge_at(alloc: Global, tokens: &str) -> Result<Call, RowError> {
+    let (name, other) = cut(tokens);
     let mac = link_mac(other);
     let name = Text::of(alloc, name)?;
     Ok(Call::HasObj {
@@ -120,8 +120,8 @@ fn has_master(alloc: Global, name: &str) -> Result<Call, RowError> {
     })
 }
 
-fn owners_of(alloc: Global, words: &str) -> Result<Call, RowError> {
-    let (network, kind) = cut(words);
+fn owners_of(alloc: Global, tokens: &str) -> Result<Call, RowError> {
+    let (network, kind) = cut(tokens);
     let kind = kind_of(kind)?;
     let network = Text::of(alloc, network)?;
     Ok(Call::OwnersOf { network, kind })
@@ -138,24 +138,24 @@ fn ns_change(alloc: Global, name: &str, add: bool) -> Result<Call, RowError> {
     Ok(Call::NsChange { name, add })
 }
 
-fn drop_link(alloc: Global, words: &str) -> Result<Call, RowError> {
-    let (ns, name) = cut(words);
+fn drop_link(alloc: Global, tokens: &str) -> Result<Call, RowError> {
+    let (ns, name) = cut(tokens);
     let key = key(alloc, ns, name)?;
     Ok(Call::Outside {
         change: Change::DropLink(key),
     })
 }
 
-fn flush(words: &str) -> Result<Call, RowError> {
-    let table = table_named(words).ok_or(RowError::NoCall)?;
+fn flush(tokens: &str) -> Result<Call, RowError> {
+    let table = table_named(tokens).ok_or(RowError::NoCall)?;
     Ok(Call::Outside {
         change: Change::Flush(table),
     })
 }
 
 /// A call of a container alone.
-fn of_container(alloc: Global, verb: &str, words: &str) -> Result<Call, RowError> {
-    let att = att(alloc, words)?;
+fn of_container(alloc: Global, verb: &str, tokens: &str) -> Result<Call, RowError> {
+    let att = att(alloc, tokens)?;
     match verb {
         "LinkDel" => Ok(Call::LinkDel { att }),
         "RuleDel" => Ok(Call::RuleDel { att }),
@@ -167,64 +167,64 @@ fn of_container(alloc: Global, verb: &str, words: &str) -> Result<Call, RowError
     }
 }
 
-fn outside(alloc: Global, verb: &str, words: &str) -> Result<Call, RowError> {
+fn outside(alloc: Global, verb: &str, tokens: &str) -> Result<Call, RowError> {
     match verb {
-        "NsAdd" => ns_change(alloc, words, true),
-        "NsDel" => ns_change(alloc, words, false),
-        "DropLink" => drop_link(alloc, words),
-        "Flush" => flush(words),
-        _ => of_container(alloc, verb, words),
+        "NsAdd" => ns_change(alloc, tokens, true),
+        "NsDel" => ns_change(alloc, tokens, false),
+        "DropLink" => drop_link(alloc, tokens),
+        "Flush" => flush(tokens),
+        _ => of_container(alloc, verb, tokens),
     }
 }
 
-fn object_question(alloc: Global, verb: &str, words: &str) -> Result<Call, RowError> {
+fn object_question(alloc: Global, verb: &str, tokens: &str) -> Result<Call, RowError> {
     let object = match verb {
-        "HasLink" => Object::Link(RefCounted::of(alloc, macvlan(alloc, words)?)?),
-        "HasAddress" => Object::Address(RefCounted::of(alloc, address(alloc, words)?)?),
-        "HasRoute" => Object::Route(RefCounted::of(alloc, route(alloc, words)?)?),
-        "HasRule" => Object::Rule(RefCounted::of(alloc, rule(alloc, words)?)?),
-        "HasSetting" => Object::Setting(RefCounted::of(alloc, setting(alloc, words)?)?),
-        "HasLease" => Object::Lease(RefCounted::of(alloc, lease(alloc, words)?)?),
-        _ => return outside(alloc, verb, words),
+        "HasLink" => Object::Link(RefCounted::of(alloc, macvlan(alloc, tokens)?)?),
+        "HasAddress" => Object::Address(RefCounted::of(alloc, address(alloc, tokens)?)?),
+        "HasRoute" => Object::Route(RefCounted::of(alloc, route(alloc, tokens)?)?),
+        "HasRule" => Object::Rule(RefCounted::of(alloc, rule(alloc, tokens)?)?),
+        "HasSetting" => Object::Setting(RefCounted::of(alloc, setting(alloc, tokens)?)?),
+        "HasLease" => Object::Lease(RefCounted::of(alloc, lease(alloc, tokens)?)?),
+        _ => return outside(alloc, verb, tokens),
     };
     Ok(Call::HasObj {
         probe: Probe::Whole(object),
     })
 }
 
-fn question(alloc: Global, verb: &str, words: &str) -> Result<Call, RowError> {
+fn question(alloc: Global, verb: &str, tokens: &str) -> Result<Call, RowError> {
     match verb {
-        "BridgeAt" => bridge_at(alloc, words),
-        "Master" => has_master(alloc, words),
-        "OwnersOf" => owners_of(alloc, words),
-        "PoolFree" => pool_free(alloc, words),
-        _ => object_question(alloc, verb, words),
+        "BridgeAt" => bridge_at(alloc, tokens),
+        "Master" => has_master(alloc, tokens),
+        "OwnersOf" => owners_of(alloc, tokens),
+        "PoolFree" => pool_free(alloc, tokens),
+        _ => object_question(alloc, verb, tokens),
     }
 }
 
-fn addition(alloc: Global, verb: &str, words: &str) -> Result<Call, RowError> {
+fn addition(alloc: Global, verb: &str, tokens: &str) -> Result<Call, RowError> {
     match verb {
-        "LinkSet" => link_set(alloc, words),
-        "AddrAdd" => addr_add(alloc, words),
-        "RouteAdd" => route_add(alloc, words),
-        "RuleAppend" => rule_append(alloc, words),
-        "SettingSet" => setting_set(alloc, words),
-        "LeaseNext" => lease_next(alloc, words),
-        "CachePut" => cache_put(alloc, words),
-        _ => question(alloc, verb, words),
+        "LinkSet" => link_set(alloc, tokens),
+        "AddrAdd" => addr_add(alloc, tokens),
+        "RouteAdd" => route_add(alloc, tokens),
+        "RuleAppend" => rule_append(alloc, tokens),
+        "SettingSet" => setting_set(alloc, tokens),
+        "LeaseNext" => lease_next(alloc, tokens),
+        "CachePut" => cache_put(alloc, tokens),
+        _ => question(alloc, verb, tokens),
     }
 }
 
-/// The call that the words of a row stand for.
-pub(crate) fn call_of(alloc: Global, words: &str) -> Result<Call, RowError> {
-    let (verb, words) = cut(words);
+/// The call that the tokens of a row stand for.
+pub(crate) fn call_of(alloc: Global, tokens: &str) -> Result<Call, RowError> {
+    let (verb, tokens) = cut(tokens);
     match verb {
-        "Begin" => begin(alloc, words),
-        "BridgeEnsure" => bridge_ensure(alloc, words),
-        "GatewayEnsure" => gateway_ensure(alloc, words),
-        "ForwardEnsure" => forward_ensure(words),
-        "VethAdd" => veth_add(alloc, words),
-        "MacvlanAdd" => macvlan_add(alloc, words),
-        _ => addition(alloc, verb, words),
+        "Begin" => begin(alloc, tokens),
+        "BridgeEnsure" => bridge_ensure(alloc, tokens),
+        "GatewayEnsure" => gateway_ensure(alloc, tokens),
+        "ForwardEnsure" => forward_ensure(tokens),
+        "VethAdd" => veth_add(alloc, tokens),
+        "MacvlanAdd" => macvlan_add(alloc, tokens),
+        _ => addition(alloc, verb, tokens),
     }
 }

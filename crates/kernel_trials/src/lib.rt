@@ -1,6 +1,6 @@
 //! Every call of the modelled kernel, tried once on its happy path and once on each refusal.
 //!
-//! A table has calls written as words, each with the reply that is expected of it; a test carries them out in order on
+//! A table has calls written as tokens, each with the reply that is expected of it; a test carries them out in order on
 //! a kernel and compares the replies as they are printed, so that the equations of the calls are held against replies
 //! that were worked out by hand. Beside it a [`ListKernel`](kernel_model::ListKernel) makes the same calls: after each
 //! row both have one reply and one host.
@@ -32,7 +32,7 @@ mod table;
 #[cfg(test)]
 mod tests;
 #[cfg(test)]
-mod words;
+mod tokens;
 pub mod worked;
 
 pub use allowed::is_allowed;

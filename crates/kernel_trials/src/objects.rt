@@ -1,10 +1,10 @@
-//! The objects that the words of a row stand for.
+//! The objects that the tokens of a row stand for.
 
 ghost use Rattle.std.specs.Prelude.{◌≡◌, [], ◌∷◌, None, IfOk};
 ghost use Rattle.kernel_types.specs.declared.object.LinkKind.TheVariants as kinds;
 ghost use Rattle.kernel_types.specs.declared.object.Tag.TheVariants as tags;
 
-use crate::words::{RowError, addr_of, cidr_of, cut, link_words, port_of};
+use crate::tokens::{RowError, addr_of, cidr_of, cut, link_tokens, port_of};
 use cni_addr::{Addr, Cidr, Family, Items, MacvlanMode, NoMemory, Range, RangeSet, Text};
 use cni_result::{AddResult, Cached, Version, no_dns};
 use kernel_types::{
@@ -84,9 +84,9 @@ pub(crate) fn device(alloc: Global, name: &str) -> Result<Link, NoMemory>
     ))
 }
 
-/// The host's end of a veth pair, by the words of the whole pair: container, inner place, outer name and its master.
-pub(crate) fn host_end(alloc: Global, words: &str) -> Result<Link, RowError> {
-    let at = link_words(words);
+/// The host's end of a veth pair, by the tokens of the whole pair: container, inner place, outer name and its master.
+pub(crate) fn host_end(alloc: Global, tokens: &str) -> Result<Link, RowError> {
+    let at = link_tokens(tokens);
     let (outer, master) = cut(at.rest);
     let place = key(alloc, "", outer)?;
     let master = Text::of(alloc, master)?;
@@ -95,9 +95,9 @@ pub(crate) fn host_end(alloc: Global, words: &str) -> Result<Link, RowError> {
     Ok(link(place, LinkKind::Veth, Some(master), Some(peer), tag))
 }
 
-/// The container's end, by the same words.
-pub(crate) fn inner_end(alloc: Global, words: &str) -> Result<Link, RowError> {
-    let at = link_words(words);
+/// The container's end, by the same tokens.
+pub(crate) fn inner_end(alloc: Global, tokens: &str) -> Result<Link, RowError> {
+    let at = link_tokens(tokens);
     let (outer, _) = cut(at.rest);
     let place = key(alloc, at.ns, at.link)?;
     let peer = key(alloc, "", outer)?;
@@ -106,8 +106,8 @@ pub(crate) fn inner_end(alloc: Global, words: &str) -> Result<Link, RowError> {
 }
 
 /// A macvlan link in bridge mode: container, place and master.
-pub(crate) fn macvlan(alloc: Global, words: &str) -> Result<Link, RowError> {
-    let at = link_words(words);
+pub(crate) fn macvlan(alloc: Global, tokens: &str) -> Result<Link, RowError> {
+    let at = link_tokens(tokens);
     let place = key(alloc, at.ns, at.link)?;
     let master = Text::of(alloc, at.rest)?;
     let tag = own(alloc, at.container)?;
@@ -116,8 +116,8 @@ pub(crate) fn macvlan(alloc: Global, words: &str) -> Result<Link, RowError> {
 }
 
 /// Container, place and address.
-pub(crate) fn address(alloc: Global, words: &str) -> Result<AddrObj, RowError> {
-    let at = link_words(words);
+pub(crate) fn address(alloc: Global, tokens: &str) -> Result<AddrObj, RowError> {
+    let at = link_tokens(tokens);
     let cidr = cidr_of(at.rest)?;
     let ns = Text::of(alloc, at.ns)?;
     let link = Text::of(alloc, at.link)?;
@@ -131,8 +131,8 @@ pub(crate) fn address(alloc: Global, words: &str) -> Result<AddrObj, RowError> {
 }
 
 /// A route by the gateway of its family: container, place and destination.
-pub(crate) fn route(alloc: Global, words: &str) -> Result<RouteObj, RowError> {
-    let at = link_words(words);
+pub(crate) fn route(alloc: Global, tokens: &str) -> Result<RouteObj, RowError> {
+    let at = link_tokens(tokens);
     let dst = cidr_of(at.rest)?;
     let gateway = addr_of(match dst.addr.family {
         Family::V4 => "10.88.0.1",
@@ -151,8 +151,8 @@ pub(crate) fn route(alloc: Global, words: &str) -> Result<RouteObj, RowError> {
 }
 
 /// A rule that accepts what comes to a port: container and port.
-pub(crate) fn rule(alloc: Global, words: &str) -> Result<Rule, RowError> {
-    let (container, port) = cut(words);
+pub(crate) fn rule(alloc: Global, tokens: &str) -> Result<Rule, RowError> {
+    let (container, port) = cut(tokens);
     let port = port_of(port)?;
     let tag = own(alloc, container)?;
     Ok(Rule {
@@ -170,9 +170,9 @@ pub(crate) fn rule(alloc: Global, words: &str) -> Result<Rule, RowError> {
 }
 
 /// The longest queue of a listening socket: container, namespace and value.
-pub(crate) fn setting(alloc: Global, words: &str) -> Result<Setting, RowError> {
-    let (container, words) = cut(words);
-    let (ns, value) = cut(words);
+pub(crate) fn setting(alloc: Global, tokens: &str) -> Result<Setting, RowError> {
+    let (container, tokens) = cut(tokens);
+    let (ns, value) = cut(tokens);
     let ns = Text::of(alloc, ns)?;
     let key = Text::of(alloc, "net.core.somaxconn")?;
     let value = Text::of(alloc, value)?;
@@ -186,8 +186,8 @@ pub(crate) fn setting(alloc: Global, words: &str) -> Result<Setting, RowError> {
 }
 
 /// Container and address.
-pub(crate) fn lease(alloc: Global, words: &str) -> Result<Lease, RowError> {
-    let (container, addr) = cut(words);
+pub(crate) fn lease(alloc: Global, tokens: &str) -> Result<Lease, RowError> {
+    let (container, addr) = cut(tokens);
     let addr = addr_of(addr)?;
     let network = Text::of(alloc, "pods")?;
     let tag = own(alloc, container)?;

@@ -1,6 +1,6 @@
 //! Each call on its happy path and on each refusal, one after another on one host, which begins with the device `ens1`
 //! alone. A container stands for its attachment to the network `pods` by `eth0`. Replies are as they are printed: of
-//! owners their number, of a kept result whether there is one.
+//! owners their number, of a cached result whether there is one.
 
 /// A line is a call, an arrow and the reply, or begins with `#` and says what the rows below it are of.
 pub(crate) const ROWS: &str = "\
@@ -85,7 +85,7 @@ PoolFree top => Has false
 HasLease c1 10.3.0.2 => Has true
 HasLease c1 ffff:ffff:ffff:ffff:ffff:ffff:ffff:fffe => Has true
 HasLease c2 10.3.0.2 => Has false
-# Kept results.
+# Cached results.
 CachePut c1 => Done
 CachePut c1 => Taken pods/c1/eth0
 CacheGet c1 => Entry some
@@ -122,7 +122,7 @@ HasAddress c1 /ns/a eth0 fd00:88::2/64 => Has false
 HasRoute c1 /ns/a eth0 0.0.0.0/0 => Has false
 HasRoute c1 /ns/a eth0 ::/0 => Has false
 Begin c1 /ns/a => Done
-# The world outside.
+# Changes from outside.
 Flush filter => Done
 HasRule c2 80 => Has true
 Flush nat => Done

@@ -9,7 +9,7 @@ use crate::is_allowed;
 use crate::objects::{device, one};
 use crate::random::try_by_chance;
 use crate::table::ROWS;
-use crate::words::RowError;
+use crate::tokens::RowError;
 use cni_addr::{NoMemory, Text};
 use kernel_model::{Kernel, ListKernel};
 use kernel_tables::TableKernel;
@@ -51,11 +51,11 @@ fn reply_of<K: Kernel>(kernel: &mut K, alloc: Global, call: &Call) -> Result<Rep
     Ok(kernel.call(alloc, call)?)
 }
 
-/// The reply in words, and whether it is the plain kernel's too.
+/// The reply as a text, and whether it is the plain kernel's too.
 // by value, so that no caller lets go of a reply whose variant it knows
-fn told(alloc: Global, reply: Reply, plain: Reply) -> Result<(Text, bool), NoMemory> {
-    let words = reply_text(alloc, &reply)?;
-    Ok((words, reply == plain))
+fn compared(alloc: Global, reply: Reply, plain: Reply) -> Result<(Text, bool), NoMemory> {
+    let text = reply_text(alloc, &reply)?;
+    Ok((text, reply == plain))
 }
 
 fn asked<K: Kernel>(
@@ -66,18 +66,18 @@ fn asked<K: Kernel>(
 ) -> Result<(Text, bool), RowError> {
     let reply = reply_of(kernel, alloc, call)?;
     let plain_reply = reply_of(plain, alloc, call)?;
-    Ok(told(alloc, reply, plain_reply)?)
+    Ok(compared(alloc, reply, plain_reply)?)
 }
 
-/// The reply to the words of a call, and whether the plain kernel replies so too.
+/// The reply to the tokens of a call, and whether the plain kernel replies so too.
 // `drop` is called, since the proof of a drop at the end of the scope goes through all variants and takes many minutes
 pub(crate) fn answer<K: Kernel>(
     kernel: &mut K,
     plain: &mut ListKernel,
     alloc: Global,
-    words: &str,
+    tokens: &str,
 ) -> Result<(Text, bool), RowError> {
-    let call = call_of(alloc, words)?;
+    let call = call_of(alloc, tokens)?;
     let given = asked(kernel, plain, alloc, &call);
     drop(call);
     given
@@ -135,8 +135,8 @@ fn calls_by_chance_over_tables(rt: HostRuntime) -> Result<(), Fail> {
     )
 }
 
-fn needs_no_memory(alloc: Global, words: &str) -> Result<bool, RowError> {
-    let call = call_of(alloc, words)?;
+fn needs_no_memory(alloc: Global, tokens: &str) -> Result<bool, RowError> {
+    let call = call_of(alloc, tokens)?;
     let needs_none = call.needs_no_memory();
     drop(call);
     Ok(needs_none)
@@ -144,7 +144,7 @@ fn needs_no_memory(alloc: Global, words: &str) -> Result<bool, RowError> {
 
 #[test]
 fn calls_that_need_no_memory(rt: HostRuntime) -> Result<(), Fail> {
-    for words in [
+    for tokens in [
         "LinkSet c1 /ns/a eth0",
         "LinkDel c1",
         "RuleDel c1",
@@ -156,10 +156,10 @@ fn calls_that_need_no_memory(rt: HostRuntime) -> Result<(), Fail> {
         "NsDel /ns/a",
         "Flush nat",
     ] {
-        assert!(rt; needs_no_memory(rt.alloc(), words)?, "{words}");
+        assert!(rt; needs_no_memory(rt.alloc(), tokens)?, "{tokens}");
     }
-    for words in ["NsAdd /ns/a", "RuleAppend c1 80", "OwnersOf pods links"] {
-        assert!(rt; !needs_no_memory(rt.alloc(), words)?, "{words}");
+    for tokens in ["NsAdd /ns/a", "RuleAppend c1 80", "OwnersOf pods links"] {
+        assert!(rt; !needs_no_memory(rt.alloc(), tokens)?, "{tokens}");
     }
     Ok(())
 }

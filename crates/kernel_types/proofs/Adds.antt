@@ -1,4 +1,4 @@
--- Addresses, routes, rules, settings and kept results that are appended leave a host sound, and are their attachment's.
+-- Addresses, routes, rules, settings and cached results that are appended leave a host sound, and are their attachment's.
 use Rattle.std.proofs.Common.{◌≡◌, ℕ, true, List, [], ◌∷◌, inl, inr, refl, sym, ◌∙◌, arith}
 use Rattle.std.specs.Prelude.{find, ◌&&◌}
 use Rattle.std.specs.List.{list_any}
@@ -8,7 +8,7 @@ use Rattle.cni_result.specs.declared.cached.Cached.{Cached}
 use Rattle.cni_addr.specs.declared.address.Cidr.{Cidr}
 use Rattle.cni_addr.specs.declared.address.Family.{Family}
 use Rattle.kernel_types.specs.Equal.{rule_eq, tag_eq}
-use Rattle.kernel_types.specs.Words.{is_own, is_owned, is_link_of, has_named_ns, has_host_bridge}
+use Rattle.kernel_types.specs.Terms.{is_own, is_owned, is_link_of, has_named_ns, has_host_bridge}
 use Rattle.kernel_types.specs.Apply.Calls.{cache_put_of, addr_add_of, route_add_of, rule_append_of, setting_set_of, gateway_ensure_of, forward_ensure_of, is_same_addr, is_same_route, is_same_setting, has_link_of, new_gateway, new_forward}
 use Rattle.kernel_types.specs.Sound.{IsSound, address_fits_tag, setting_fits_tag}
 use Rattle.kernel_types.specs.Touch.{AddsAddress, AddsSetting, TouchesOwnAlone, TouchesTag}
@@ -37,7 +37,7 @@ TouchesTag-nothing Outside host = refl
 TouchesTag-nothing Base host = refl
 TouchesTag-nothing (Own att) host = TouchesOwnAlone-nothing att host
 
--- ---- kept results
+-- ---- cached results
 
 pub IsSound-cache_put : (host : Host) (att : Att) (cached : Cached) → IsSound host → IsSound (cache_put_of host att cached).0
 IsSound-cache_put host att cached sound =

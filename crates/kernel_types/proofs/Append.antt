@@ -7,7 +7,7 @@ use Rattle.std.specs.Str.{bytes_eq}
 use Rattle.std.proofs.lemmas.Slice.Eq.{bytes_eq-Decides}
 use Rattle.cni_addr.specs.Lists.{distinct}
 use Rattle.kernel_types.specs.Equal.{tag_eq}
-use Rattle.kernel_types.specs.Words.{is_host_ns, is_host_or_ns, is_host_link, is_own, is_at, is_peer_at, is_owned, is_link_of, is_veth, has_named_ns, link_at, is_host_bridge, is_macvlan}
+use Rattle.kernel_types.specs.Terms.{is_host_ns, is_host_or_ns, is_host_link, is_own, is_at, is_peer_at, is_owned, is_link_of, is_veth, has_named_ns, link_at, is_host_bridge, is_macvlan}
 use Rattle.kernel_types.specs.Apply.Calls.{bridge_ensure_of, bridge_or_new, new_bridge, veth_add_of, macvlan_add_of, master_is_bridge_or_none, has_master}
 use Rattle.kernel_types.specs.Sound.{IsSound, peer_fits, peers_back, address_fits_tag, link_fits_tag, is_owned_kind}
 use Rattle.kernel_types.specs.Allowed.{IsVethPair, IsMacvlanLink}

@@ -7,7 +7,7 @@ use Rattle.std.specs.Cmp.Lexicographic.{nat_list_eq_equiv}
 use Rattle.std.proofs.lemmas.Bool.Decides.{nat_tests}
 use Rattle.cni_addr.proofs.Cases.{by_test}
 use Rattle.kernel_types.specs.Equal.{att_eq, tag_eq}
-use Rattle.kernel_types.specs.Words.{is_host_ns, is_host_bridge, is_own, is_owned, is_at, is_veth}
+use Rattle.kernel_types.specs.Terms.{is_host_ns, is_host_bridge, is_own, is_owned, is_at, is_veth}
 use Rattle.kernel_types.specs.Apply.Calls.{append_unless_taken, unless_there}
 use Rattle.kernel_types.specs.Sound.{is_unowned_kind}
 use Rattle.kernel_types.specs.Touch.{TouchesOwnAlone, TouchesTag}

@@ -2,7 +2,7 @@
 use Rattle.std.specs.Prelude.{◌&&◌, is_some}
 use Rattle.std.specs.Str.{bytes_eq}
 use Rattle.kernel_types.specs.Equal.{addr_eq, rule_eq, tag_eq}
-use Rattle.kernel_types.specs.Words.{is_own, is_owned}
+use Rattle.kernel_types.specs.Terms.{is_own, is_owned}
 use Rattle.kernel_types.specs.Apply.Calls.{rule_del_of, setting_del_of, lease_del_of, cache_del_of, is_same_setting, owner_in}
 use Rattle.kernel_types.specs.Sound.{IsSound, setting_fits_tag}
 use Rattle.kernel_types.proofs.ListLemmas.{list_all-without_first, distinct-without_first}
@@ -34,7 +34,7 @@ IsSound-lease_del host att sound = IsSound-with_leases host _ sound (record {
   tags = list_all-without_first (λ l. is_some (owner_in l.network l.tag)) (λ l. is_own att l.tag) host.leases sound.leases.tags;
 })
 
--- ---- kept results
+-- ---- cached results
 
 pub IsSound-cache_del : (host : Host) (att : Att) → IsSound host → IsSound (cache_del_of host att).0
 IsSound-cache_del host att sound = IsSound-with_cached host _ sound (record {

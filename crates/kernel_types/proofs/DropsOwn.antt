@@ -3,7 +3,7 @@ use Rattle.std.proofs.Common.{◌≡◌, Bool, not, List, Option, Some, None, re
 use Rattle.std.specs.Prelude.{find, ◌&&◌}
 use Rattle.std.specs.List.{list_any}
 use Rattle.std.proofs.lemmas.Option.{same_Some}
-use Rattle.kernel_types.specs.Words.{is_own, is_at}
+use Rattle.kernel_types.specs.Terms.{is_own, is_at}
 use Rattle.kernel_types.specs.Apply as apply
 use Rattle.kernel_types.specs.Apply.Calls.{goes_with, without_link, without_links, link_del_of, rule_del_of, setting_del_of, lease_del_of, cache_del_of}
 use Rattle.kernel_types.specs.Isolation.{RemovesOwn, deletes_for}

@@ -7,7 +7,7 @@ use Rattle.std.proofs.lemmas.Slice.Eq.{bytes_eq-Decides}
 use Rattle.kernel_types.specs.Allowed.{IsAllowed}
 use Rattle.kernel_types.specs.Equal.{att_eq, tag_eq}
 use Rattle.kernel_types.specs.Isolation.{KeepsWhere, KeepsPart, KeepsUnowned, names_att, is_from_outside, ensures_shared}
-use Rattle.kernel_types.specs.Words.{is_own, is_owned}
+use Rattle.kernel_types.specs.Terms.{is_own, is_owned}
 use Rattle.kernel_types.specs.Touch.{Touches, TouchesOwn, TouchesTag, AddsOne, AddsBridge, AddsAddress, AddsSetting, RemovesUnshared, is_unshared}
 use Rattle.kernel_types.proofs.Cases.{tag_eq-own}
 use Rattle.kernel_types.proofs.ChangeLemmas.{filter-ChangesOnly, filter-DropsOnly}

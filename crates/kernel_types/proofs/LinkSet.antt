@@ -3,7 +3,7 @@ use Rattle.std.proofs.Common.{◌≡◌, ℕ, Bool, true, not, List, ◌⊎◌, 
 use Rattle.std.specs.Prelude.{map, ◌&&◌, ◌||◌}
 use Rattle.std.specs.List.{list_any}
 use Rattle.cni_addr.specs.declared.mac.Mac.{Mac}
-use Rattle.kernel_types.specs.Words.{is_host_ns, is_host_or_ns, is_own, is_at, is_veth, is_link_of, is_host_bridge}
+use Rattle.kernel_types.specs.Terms.{is_host_ns, is_host_or_ns, is_own, is_at, is_veth, is_link_of, is_host_bridge}
 use Rattle.kernel_types.specs.Apply.Calls.{link_set_of, set_link, is_own_at}
 use Rattle.kernel_types.specs.Sound.{IsSound, peer_fits, peers_back, address_fits_tag, link_fits_tag}
 use Rattle.kernel_types.specs.Touch.{TouchesOwnAlone}

@@ -5,7 +5,7 @@ use Rattle.std.specs.List.{list_any}
 use Rattle.std.specs.Str.{bytes_eq}
 use Rattle.std.proofs.lemmas.Slice.Eq.{bytes_eq-Decides}
 use Rattle.kernel_types.specs.Equal.{tag_eq}
-use Rattle.kernel_types.specs.Words.{is_host_ns, is_host_or_ns, has_named_ns}
+use Rattle.kernel_types.specs.Terms.{is_host_ns, is_host_or_ns, has_named_ns}
 use Rattle.kernel_types.specs.Apply.Calls.{ns_add_of, ns_del_of, goes_with_ns, has_peer_in, without_links, without_ns, is_same_setting}
 use Rattle.kernel_types.specs.Sound.{IsSound, setting_fits_tag}
 use Rattle.kernel_types.specs.Touch.{AddsNamespace, RemovesUnshared, is_unshared}

@@ -1,6 +1,6 @@
 -- A host of which one list is changed.
 use Rattle.std.proofs.Common.{List, refl}
-use Rattle.kernel_types.specs.Words.{is_own}
+use Rattle.kernel_types.specs.Terms.{is_own}
 use Rattle.kernel_types.specs.Sound.{IsSound, AreAddresses, AreRoutes, AreRules, AreSettings, AreLeases, AreCached, AreLasts}
 use Rattle.kernel_types.specs.Touch.{ChangesOnly, TouchesOwn, TouchesOwnAlone}
 use Rattle.kernel_types.proofs.ChangeLemmas.{ChangesOnly-nothing}

@@ -4,7 +4,7 @@ use Rattle.std.specs.Prelude.{is_some, ◌&&◌, ◌||◌}
 use Rattle.std.specs.List.{list_any, list_all}
 use Rattle.std.proofs.lemmas.Slice.Eq.{bytes_eq-Decides}
 use Rattle.kernel_types.specs.Equal.{rule_eq, table_eq, tag_eq}
-use Rattle.kernel_types.specs.Words.{is_host_ns, is_at, is_peer_at, is_bridge, is_owned, is_veth, has_named_ns, link_at}
+use Rattle.kernel_types.specs.Terms.{is_host_ns, is_at, is_peer_at, is_bridge, is_owned, is_veth, has_named_ns, link_at}
 use Rattle.kernel_types.specs.Apply.Calls.{drop_link_of, flush_of, goes_with, without_link, without_links}
 use Rattle.kernel_types.specs.Sound.{IsSound, link_fits_tag, peer_fits}
 use Rattle.kernel_types.specs.Touch.{RemovesUnshared, is_unshared}
@@ -52,7 +52,7 @@ RemovesUnshared-nothing host = record {
 
 -- ---- links that are removed from outside
 
--- outside the host, or the end of a pair
+-- not in the host's own namespace, or the end of a pair
 abbrev pub is_loose : Link → Bool
 is_loose l = not (is_host_ns l.ns) || is_some l.peer
 

@@ -8,7 +8,7 @@ use Rattle.std.proofs.lemmas.Slice.Eq.{bytes_eq-Decides}
 use Rattle.std.specs.Cmp.Lexicographic.{nat_list_eq_equiv}
 use Rattle.kernel_types.specs.declared.call.Reply.TheVariants.{Gone}
 use Rattle.kernel_types.specs.Equal.{tag_eq}
-use Rattle.kernel_types.specs.Words.{is_own, is_at, is_peer_at, is_link_of, is_host_or_ns, is_host_ns, is_host_bridge}
+use Rattle.kernel_types.specs.Terms.{is_own, is_at, is_peer_at, is_link_of, is_host_or_ns, is_host_ns, is_host_bridge}
 use Rattle.kernel_types.specs.Apply.Calls.{without_links, goes_with, without_link, link_del_of, is_same_addr, is_same_route}
 use Rattle.kernel_types.specs.Sound.{IsSound, AreLinks, AreAddresses, AreRoutes, peer_fits, peers_back, address_fits_tag, link_fits_tag}
 use Rattle.kernel_types.proofs.ListLemmas.{list_all-filter, list_all-kept, list_any-kept, list_any-none, distinct-filter}

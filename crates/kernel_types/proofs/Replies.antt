@@ -5,7 +5,7 @@ use Rattle.std.specs.List.{list_any}
 use Rattle.std.specs.Option.{option_map, option_or}
 use Rattle.cni_addr.specs.declared.address.Addr.{Addr}
 use Rattle.kernel_types.specs.Equal.{rule_eq}
-use Rattle.kernel_types.specs.Words.{is_host_or_ns, is_host_link, is_bridge, is_own, has_named_ns, has_host_bridge, has_objects, link_at}
+use Rattle.kernel_types.specs.Terms.{is_host_or_ns, is_host_link, is_bridge, is_own, has_named_ns, has_host_bridge, has_objects, link_at}
 use Rattle.kernel_types.specs.Apply as apply
 use Rattle.kernel_types.specs.Apply.Calls.{append_unless_taken, bridge_or_new, master_is_bridge_or_none, has_master, has_link_of, is_own_at, is_same_addr, is_same_route, is_same_setting, lease_taken, leased_addresses, last_leased, new_bridge, without_link}
 use Rattle.ip_pool.specs.Pool.{pick_of}

@@ -9,7 +9,7 @@ use Rattle.std.proofs.lemmas.Bool.{and_parts}
 use Rattle.std.proofs.lemmas.Slice.Eq.{bytes_eq-Decides}
 use Rattle.cni_addr.specs.Lists.{distinct, IsAmong}
 use Rattle.kernel_types.specs.Equal.{addr_eq, tag_eq}
-use Rattle.kernel_types.specs.Words.{is_host_ns, is_host_or_ns, is_host_bridge, is_owned, is_at, is_peer_at, is_link_of, has_bridge_in, has_link_in}
+use Rattle.kernel_types.specs.Terms.{is_host_ns, is_host_or_ns, is_host_bridge, is_owned, is_at, is_peer_at, is_link_of, has_bridge_in, has_link_in}
 use Rattle.kernel_types.specs.Apply.Calls.{goes_with, goes_with_ns, has_peer_in}
 use Rattle.kernel_types.specs.Sound.{IsSound, AreInPlaces, HasTagsOn, NoNamespaceOwned, may_be_on, NoAddressTwice, is_link_or_peer, is_in_ns_or_peer, address_fits_tag, peer_fits, peers_back, setting_fits_tag}
 use Rattle.kernel_types.proofs.Cases.{host_bridge-at}

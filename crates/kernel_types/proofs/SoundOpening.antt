@@ -5,7 +5,7 @@ use Rattle.std.specs.List.{list_any, list_all}
 use Rattle.std.specs.Str.{bytes_eq}
 use Rattle.cni_addr.specs.Lists.{distinct}
 use Rattle.kernel_types.specs.Equal.{tag_eq}
-use Rattle.kernel_types.specs.Words.{is_host_ns, outside_namespace}
+use Rattle.kernel_types.specs.Terms.{is_host_ns, outside_namespace}
 use Rattle.kernel_types.specs.Sound.{IsSound, link_fits_tag, peer_fits, is_unowned_kind}
 use Rattle.kernel_types.specs.Opening.{opening_with, AreNamespaceNames, AreOutsideLinks, is_outside_link}
 use Rattle.kernel_types.proofs.Cases.{shared-no_veth}

@@ -7,7 +7,7 @@ use Rattle.std.proofs.lemmas.Option.{same_Some}
 use Rattle.std.specs.Cmp.Lexicographic.{nat_list_eq_equiv}
 use Rattle.cni_addr.specs.Lists.{distinct}
 use Rattle.kernel_types.specs.Equal.{tag_eq}
-use Rattle.kernel_types.specs.Words.{is_host_ns, is_own, is_at, is_peer_at, is_bridge, is_link_of, is_host_bridge}
+use Rattle.kernel_types.specs.Terms.{is_host_ns, is_own, is_at, is_peer_at, is_bridge, is_link_of, is_host_bridge}
 use Rattle.kernel_types.specs.Apply.Calls.{goes_with}
 use Rattle.kernel_types.specs.Sound.{IsSound, AreAddresses, AreRoutes, peer_fits, peers_back, address_fits_tag, link_fits_tag, is_owned_kind}
 use Rattle.kernel_types.proofs.Isolation.{tag_eq-same}

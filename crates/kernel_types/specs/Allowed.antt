@@ -3,7 +3,7 @@ use Rattle.std.specs.Prelude.{◌≡◌, true, false, None, is_some}
 use Rattle.cni_addr.specs.declared.range.RangeSet.{RangeSet}
 use Rattle.ip_pool.specs.Pool.{are_apart}
 use Rattle.ip_pool.specs.NextAddress.{is_candidate_or_none}
-use Rattle.kernel_types.specs.Words.{last_leased, is_host_ns, is_macvlan, is_owned, is_peer_at, is_veth}
+use Rattle.kernel_types.specs.Terms.{last_leased, is_host_ns, is_macvlan, is_owned, is_peer_at, is_veth}
 use Rattle.kernel_types.specs.declared.object.Link.{Link}
 use Rattle.kernel_types.specs.declared.object.Host.{Host}
 use Rattle.kernel_types.specs.declared.call.Call.{Call}
@@ -11,7 +11,7 @@ use Rattle.kernel_types.specs.declared.call.Call.TheVariants.{Begin, BridgeEnsur
 use Rattle.kernel_types.specs.declared.call.Change.{Change}
 use Rattle.kernel_types.specs.declared.call.Change.TheVariants.{DropLink, Flush}
 
--- the two ends of one pair of one owner, the first in the host and the second in another namespace
+-- the two ends of one pair of one owner, the first in the host's own namespace and the second in another namespace
 pub record IsVethPair (host_end inner_end : Link) : Type 0 where
   pub host_kind : is_veth host_end.kind ≡ true
   pub inner_kind : is_veth inner_end.kind ≡ true
@@ -22,7 +22,7 @@ pub record IsVethPair (host_end inner_end : Link) : Type 0 where
   pub outer : is_host_ns host_end.ns ≡ true
   pub inner : is_host_ns inner_end.ns ≡ false
 
--- an attachment's link over a master, outside the host
+-- an attachment's link over a master, in another namespace than the host's own
 pub record IsMacvlanLink (link : Link) : Type 0 where
   pub kind : is_macvlan link.kind ≡ true
   pub owned : is_owned link.tag ≡ true

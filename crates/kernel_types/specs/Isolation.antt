@@ -2,7 +2,7 @@
 use Rattle.std.specs.Prelude.{◌≡◌, Bool, true, false, not, ◌&&◌, filter, Option, Some, None}
 use Rattle.kernel_types.specs.Equal.{att_eq}
 use Rattle.kernel_types.specs.Touch.{DropsOnly}
-use Rattle.kernel_types.specs.Words.{is_own, is_owned}
+use Rattle.kernel_types.specs.Terms.{is_own, is_owned}
 use Rattle.kernel_types.specs.declared.object.Att.{Att}
 use Rattle.kernel_types.specs.declared.object.Host.{Host}
 use Rattle.kernel_types.specs.declared.object.Tag.{Tag}

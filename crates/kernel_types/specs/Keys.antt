@@ -2,7 +2,7 @@
 use Rattle.std.specs.Prelude.{Bool, ◌&&◌}
 use Rattle.std.specs.Str.{bytes_eq}
 use Rattle.kernel_types.specs.Equal.{addr_eq, cidr_eq, rule_eq, tag_eq}
-use Rattle.kernel_types.specs.Words.{is_at, is_lease_at, is_of_pool}
+use Rattle.kernel_types.specs.Terms.{is_at, is_lease_at, is_of_pool}
 use Rattle.kernel_types.specs.declared.object.NsObj.{NsObj}
 use Rattle.kernel_types.specs.declared.object.Link.{Link}
 use Rattle.kernel_types.specs.declared.object.AddrObj.{AddrObj}

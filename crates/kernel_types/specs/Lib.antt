@@ -9,6 +9,6 @@ pub mod Names
 pub mod Opening
 pub mod Replies
 pub mod Sound
+pub mod Terms
 pub mod Texts
 pub mod Touch
-pub mod Words

@@ -1,9 +1,9 @@
--- A host before the first call. All that stands in it was made outside.
+-- The opening: the host before the first call. All that stands in it was made outside.
 use Rattle.std.specs.Prelude.{ℕ, Bool, not, ◌&&◌, List, [], map, is_none}
 use Rattle.std.specs.Str.{bytes_eq}
 use Rattle.kernel_types.specs.Equal.{tag_eq}
 use Rattle.kernel_types.specs.Keys.{is_same_link}
-use Rattle.kernel_types.specs.Words.{is_host_ns, is_host_or_ns, outside_namespace}
+use Rattle.kernel_types.specs.Terms.{is_host_ns, is_host_or_ns, outside_namespace}
 use Rattle.kernel_types.specs.Sound.{HasDistinct, HasDistinctKeys, AllPassTest, is_unowned_kind}
 use Rattle.kernel_types.specs.declared.object.Host.{Host}
 use Rattle.kernel_types.specs.declared.object.Link.{Link}
@@ -32,7 +32,7 @@ pub record AreNamespaceNames (names : List (List ℕ)) : Type 0 where
 abbrev pub is_outside_link : Link → Bool
 is_outside_link link = is_unowned_kind link.kind && is_none link.peer && tag_eq link.tag Outside
 
--- links made outside, in the host or in a namespace of these names, no two at one place
+-- links made outside, in the host's own namespace or in one of these names, no two at one place
 pub record AreOutsideLinks (names : List (List ℕ)) (links : List Link) : Type 0 where
   pub outside : AllPassTest is_outside_link links
   pub places : AllPassTest (λ l. is_host_or_ns (map outside_namespace names) l.ns) links

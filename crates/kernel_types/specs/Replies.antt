@@ -5,7 +5,7 @@ use Rattle.kernel_types.specs.declared.call.Call.TheVariants.{LinkSet, LinkDel, 
 use Rattle.kernel_types.specs.declared.call.Reply.{Reply}
 use Rattle.kernel_types.specs.declared.call.Reply.TheVariants.{Taken, Owners, Entry, Fault}
 
--- a fault is listed by a pod command and never comes from a kernel
+-- a fault is named by a command, and never comes from a kernel
 abbrev pub is_fault : Reply → Bool
 is_fault Fault = true
 is_fault reply = false

@@ -5,7 +5,7 @@ use Rattle.std.specs.Str.{bytes_eq}
 use Rattle.cni_addr.specs.Lists.{distinct}
 use Rattle.kernel_types.specs.Equal.{addr_eq, tag_eq}
 use Rattle.kernel_types.specs.Keys.{is_same_addr, is_same_cached, is_same_last, is_same_lease, is_same_link, is_same_namespace, is_same_route, is_same_rule, is_same_setting}
-use Rattle.kernel_types.specs.Words.{is_host_ns, is_host_or_ns, is_owned, is_bridge, has_bridge_in, is_veth, is_at, is_peer_at, has_link_in, leased_addresses, owner_in}
+use Rattle.kernel_types.specs.Terms.{is_host_ns, is_host_or_ns, is_owned, is_bridge, has_bridge_in, is_veth, is_at, is_peer_at, has_link_in, leased_addresses, owner_in}
 use Rattle.kernel_types.specs.declared.object.LinkKey.{LinkKey}
 use Rattle.kernel_types.specs.declared.object.Tag.{Tag}
 use Rattle.kernel_types.specs.declared.object.Tag.TheVariants.{Outside, Base, Own}
@@ -66,7 +66,7 @@ abbrev pub peers_back : Link → LinkKey → Link → Bool
 peers_back link key peer =
     is_at key.ns key.name peer && is_peer_at link.ns link.name peer.peer && tag_eq peer.tag link.tag
 
--- exactly a veth end has a peer, and it is there, names this one as its peer and has its tag; one end is in the host
+-- exactly a veth end has a peer, and it is there, names this one as its peer and has its tag; one end is in the host's own namespace
 abbrev pub peer_fits : List Link → Link → Option LinkKey → Bool
 peer_fits links link None = not (is_veth link.kind)
 peer_fits links link (Some key) =
@@ -135,7 +135,7 @@ pub record IsSound (host : Host) : Type 0 where
 
 -- ---- what follows of a sound host
 
--- each object that has a place is in the host or in a namespace that is there
+-- each object that has a place is in the host's own namespace or in one that is there
 pub record AreInPlaces (host : Host) : Type 0 where
   pub links : AllPassTest (λ l. is_host_or_ns host.namespaces l.ns) host.links
   pub addresses : AllPassTest (λ a. is_host_or_ns host.namespaces a.ns) host.addresses

@@ -1,7 +1,7 @@
 -- What a call may change.
 use Rattle.std.specs.Prelude.{◌≡◌, ℕ, Bool, true, false, not, List, [], ◌∷◌, ◌++◌, ◌⊎◌}
 use Rattle.std.specs.List.{list_all}
-use Rattle.kernel_types.specs.Words.{is_of_pool, is_own}
+use Rattle.kernel_types.specs.Terms.{is_of_pool, is_own}
 use Rattle.kernel_types.specs.declared.object.AddrObj.{AddrObj}
 use Rattle.kernel_types.specs.declared.object.Att.{Att}
 use Rattle.kernel_types.specs.declared.object.Host.{Host}

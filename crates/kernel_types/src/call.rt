@@ -217,7 +217,7 @@ pub enum Reply {
     Owners(Items<Att>),
     /// The cached result, where there is one.
     Entry(Option<RefCounted<Cached>>),
-    /// The call failed and changed nothing. The kernel never answers so: it stands for a listed fault.
+    /// The call failed and changed nothing. The kernel never answers so: it stands for a fault.
     Fault,
 }
 

@@ -14,14 +14,14 @@ ghost use Rattle.kernel_types.specs.Opening.{opening_with, AreNamespaceNames, Ar
 ghost use Rattle.kernel_types.specs.Replies.{is_fault, holds_text_or_list};
 ghost use Rattle.kernel_types.specs.Sound.{AreInPlaces, HasTagsOn, IsSound, is_in_ns_or_peer, is_link_or_peer, NoAddressTwice, NoNamespaceOwned};
 ghost use Rattle.kernel_types.specs.Touch.{Touches};
-ghost use Rattle.kernel_types.specs.Words.{last_leased, leased_addresses};
+ghost use Rattle.kernel_types.specs.Terms.{last_leased, leased_addresses};
 
 use crate::call::{Call, Reply};
 use crate::object::{Att, Host, Link};
 use cni_addr::{Addr, Items, RangeSet, Text};
 
 /// A host is sound that has nothing but what was made outside: namespaces, with names that aren't empty and that no two
-/// share, and devices and bridges, in the host or in these namespaces, each at a place of its own.
+/// share, and devices and bridges, in the host's own namespace or in these, each at a place of its own.
 pub fn an_opening_is_sound(names: &Items<Text>, links: &Items<Link>)
     requires names { AreNamespaceNames names.now }
     requires links { AreOutsideLinks names.now links.now }
@@ -75,7 +75,7 @@ pub fn a_deletion_only_removes(host: &Host, call: &Call, att: &Att)
     ensures { RemovesOwn att.now host.now (apply host.now call.now).0 }
 {}
 
-/// In a sound host each link, address, route and setting is in the host or in a namespace that is there.
+/// In a sound host each link, address, route and setting is in the host's own namespace or in one that is there.
 pub fn every_object_is_in_its_place(host: &Host)
     requires { IsSound host.now }
     ensures { AreInPlaces host.now }

@@ -11,7 +11,7 @@
 //! - A call changes what is its attachment's, or adds what attachments share, and nothing else (`Touches`).
 //! - A kernel never replies with a fault, and a leased address was free and is the next of its pool.
 //!
-//! Each question in [`words`] and each text in [`texts`] is equal to a definition. Names and hardware addresses come of
+//! Each question in [`terms`] and each text in [`texts`] is equal to a definition. Names and hardware addresses come of
 //! an attachment alone, by SHA-256.
 //!
 //! A worked example, of a call in a host that has the namespace `/ns/a` and no link:
@@ -36,8 +36,8 @@ pub mod opening;
 pub mod ref_counted;
 pub mod rule;
 pub mod shared;
+pub mod terms;
 pub mod texts;
-pub mod words;
 
 pub use call::{Call, Change, Given, Kind, Object, Probe, Reply};
 pub use link_values::{LinkValues, set_links};

@@ -2,10 +2,10 @@
 
 ghost use Rattle.std.specs.Prelude.{◌≡◌, map};
 ghost use Rattle.kernel_types.specs.Apply.Calls.{is_own_at, set_link, with_values};
-ghost use Rattle.kernel_types.specs.Words.{new_link};
+ghost use Rattle.kernel_types.specs.Terms.{new_link};
 
 use crate::object::{Att, Link, LinkKey, LinkKind, Tag};
-use crate::words::is_at;
+use crate::terms::is_at;
 use cni_addr::Mac;
 
 /// What the call LinkSet gives a link: each value that is there, and each mode whose flag is set. All else stays.

@@ -1,6 +1,6 @@
 //! Names and hardware addresses that are derived from SHA-256 (FIPS 180-4).
 //!
-//! Two attachments may derive one host name; the later ADD is then refused, as the name is taken.
+//! Two attachments may derive one name of the host's end; the later ADD is then refused, as the name is taken.
 
 ghost use Rattle.std.specs.Prelude.{◌≡◌, IfOk};
 ghost use Rattle.kernel_types.specs.Names.{digest_of, host_name_of, link_mac_of, local_mac};

@@ -1,7 +1,7 @@
 //! The objects of the modelled kernel.
 
 ghost use Rattle.std.specs.Prelude.{◌≡◌, IfOk};
-ghost use Rattle.kernel_types.specs.Words.{is_own, lease_of, outside_namespace};
+ghost use Rattle.kernel_types.specs.Terms.{is_own, lease_of, outside_namespace};
 
 use crate::ref_counted::RefCounted;
 use crate::rule::Rule;
@@ -74,7 +74,7 @@ impl Duplicate for Att {
     }
 }
 
-/// The place of a link; the host is the namespace with the empty name.
+/// The place of a link; the host's own namespace has the empty name.
 #[derive(PartialEq, Eq, Hash, Drop)]
 pub struct LinkKey {
     pub ns: Text,

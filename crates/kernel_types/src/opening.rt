@@ -1,8 +1,8 @@
-//! The host as it is found.
+//! The opening.
 
 ghost use Rattle.std.specs.Prelude.{◌≡◌, IfOk, map};
 ghost use Rattle.kernel_types.specs.Opening.{opening_with};
-ghost use Rattle.kernel_types.specs.Words.{outside_namespace};
+ghost use Rattle.kernel_types.specs.Terms.{outside_namespace};
 
 use crate::object::{Host, Link, NsObj};
 use cni_addr::{Items, NoMemory, Text};

@@ -44,7 +44,7 @@ first_host_inside c is =
     let room = subnet_room c is in
     (contains_between c (first_host c)).1 (refl, omega arith, omega arith)
 
--- the first host has the network's family
+-- the address after the subnet's has the network's family
 first_host_family : (c : CidrValue) → is_address_of c.addr.family (first_host c) ≡ true
 unfolding first_host
 first_host_family c = eq-eqb _ _ refl

@@ -44,7 +44,7 @@ subnet_room c is =
     let size : 4 ≤ network_size c = room c.addr.family c.prefix says.most in
     omega arith
 
--- the first host, whose parts are known by other names: its family is that of the subnet's last address
+-- the address after the subnet's, whose parts are known by other names: its family is that of the subnet's last address
 pub first_host-is : (c : CidrValue) (own last : AddrValue) → own ≡ c.addr → last ≡ last_of c → record { family = last.family; bits = own.bits + 1 } ≡ first_host c
 unfolding first_host
 first_host-is c own last same is =

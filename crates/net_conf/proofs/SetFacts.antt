@@ -19,9 +19,9 @@ use Rattle.ip_pool.proofs.InOrder.{all_pairs-left, all_pairs-right}
 use Rattle.ip_pool.specs.Pool.{is_apart, are_apart}
 use Rattle.net_conf.proofs.Endings.{each_tested, each_count}
 use Rattle.cni_json.proofs.Endings.{goes, ok_same, passed, each_all}
-use Rattle.cni_json.proofs.EachLemmas.{each_after-front}
+use Rattle.cni_json.proofs.EachLemmas.{each_after-prefix}
 use Rattle.net_conf.proofs.RangeFacts.{addr_if_at-ok, range_at-ok, read_is_cidr}
-use Rattle.cni_json.specs.Each.{each, each_after, with_front}
+use Rattle.cni_json.specs.Each.{each, each_after, with_prefix}
 use Rattle.net_conf.specs.Ranges.{is_address_of, range_at}
 use Rattle.net_conf.specs.Routes.{destination_of, destination_at, route_at, read_routes_of, routes_at}
 use Rattle.net_conf.specs.Sets.{set_of, is_set, all_items, is_of_one_family, ranges_of, has_subnet, listed_at, is_set_count, one_if, well_formed, own_sets_of, separate, sets_at}
@@ -92,7 +92,7 @@ sets_at-ok d sets is =
     let own = goes (own_sets_of has_own d) _ sets form.rest in
     let found = goes (each_after (λ _ member. set_of member) own.value listed.value) _ sets own.rest in
     let tests = goes (separate found.value) _ sets found.rest in
-    let joined : with_front own.value (each set_of listed.value) ≡ Ok found.value = sym (each_after-front set_of own.value listed.value) ∙ found.first in
+    let joined : with_prefix own.value (each set_of listed.value) ≡ Ok found.value = sym (each_after-prefix set_of own.value listed.value) ∙ found.first in
     let others = goes (each set_of listed.value) _ found.value joined in
     let all = ok_same {x = own.value ++ others.value} {y = found.value} others.rest in
     let form_tests = and_parts (is_set_count (one_if has_own + items_len listed.value)) (all_items is_set listed.value) (passed _ tt form.value _ form.first).0 in

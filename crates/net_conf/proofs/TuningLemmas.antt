@@ -3,8 +3,8 @@ use Rattle.std.proofs.Common.{◌≡◌, ℕ, zero, suc, ◌+◌, ◌<◌, ◌||
 use Rattle.std.proofs.lemmas.List.{take_rest}
 use Rattle.std.specs.List.{starts_with}
 use Rattle.serde_json.specs.Data.{Data, Members, member}
-use Rattle.cni_json.proofs.EachLemmas.{with_front-more}
-use Rattle.cni_json.specs.Each.{with_front}
+use Rattle.cni_json.proofs.EachLemmas.{with_prefix-more}
+use Rattle.cni_json.specs.Each.{with_prefix}
 use Rattle.net_conf.specs.Members.{is_null}
 use Rattle.net_conf.specs.Tuning.{has_part, settings_of, read_setting_of}
 use Rattle.net_conf.specs.declared.chained.Sysctl.{Sysctl}
@@ -22,7 +22,7 @@ pub ruleset parts = (has_part-drop, take_rest)
 
 -- a setting that is read joins those that were found
 pub settings-found : (front : List Sysctl) (s : Sysctl) (key : List ℕ) (d : Data) (ms : Members) → is_null d ≡ false → read_setting_of key d ≡ Ok s
-    → with_front front (settings_of (member key d ms)) ≡ with_front (front ++ s ∷ []) (settings_of ms)
-settings-found front s key d ms there read = rw (there, read) (sym (with_front-more front s (settings_of ms)))
+    → with_prefix front (settings_of (member key d ms)) ≡ with_prefix (front ++ s ∷ []) (settings_of ms)
+settings-found front s key d ms there read = rw (there, read) (sym (with_prefix-more front s (settings_of ms)))
 
 pub ruleset settings = (settings-found)

@@ -57,7 +57,7 @@ read_ipam_of (Some d) = if is_empty d then Ok None else ok_map Some (host_local_
 unfoldable pub ipam_at : Data → Result (Option HostLocalConf) ConfError
 ipam_at d = read_ipam_of (member_at (codes "ipam") d)
 
--- the members that each plugin which makes an interface has last
+-- the members that each first plugin has last
 unfoldable pub addressing_at : Data → Result Addressing ConfError
 addressing_at d = do
   dns ← dns_of_object (refusal.Invalid (codes "dns")) d

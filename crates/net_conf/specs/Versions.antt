@@ -7,7 +7,7 @@ use Rattle.serde_json.specs.Data.{Data}
 use Rattle.cni_json.specs.Fields.{text_field, member_or}
 use Rattle.cni_json.specs.Outcome.{◌>>=◌}
 use Rattle.cni_json.specs.declared.fields.Field.{Field}
-use Rattle.cni_result.specs.Dns.{words_at}
+use Rattle.cni_result.specs.Dns.{texts_at}
 use Rattle.cni_result.specs.Versions.{known_versions, version_text}
 use Rattle.cni_result.specs.declared.version.Version.{Version}
 use Rattle.net_conf.specs.Refusals.{invalid}
@@ -23,7 +23,7 @@ single_version_at d = single_version_of (text_field (codes "cniVersion") d)
 
 -- the texts of `cniVersions`
 unfoldable pub listed_versions_at : Data → Result (List (List ℕ)) ConfError
-listed_versions_at d = words_at (refusal.Invalid (codes "cniVersions")) (codes "cniVersions") d
+listed_versions_at d = texts_at (refusal.Invalid (codes "cniVersions")) (codes "cniVersions") d
 
 -- the text of `cniVersion`, if there is one, and then those of `cniVersions`
 unfoldable pub version_texts_at : Data → Result (List (List ℕ)) ConfError

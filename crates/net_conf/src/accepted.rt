@@ -5,7 +5,7 @@ ghost use Rattle.serde_json.specs.Data.{string};
 ghost use Rattle.serde_json.specs.View.{view};
 ghost use Rattle.serde_json.specs.Written.{has_float};
 ghost use Rattle.cni_json.specs.Outcome.{Gives};
-ghost use Rattle.net_conf.specs.Accepted as wanted;
+ghost use Rattle.net_conf.specs.Accepted as defined;
 ghost use Rattle.net_conf.specs.Refusals.{is_out_of_memory};
 
 use crate::error::{ConfError, unsupported};
@@ -28,7 +28,7 @@ pub enum Accepted {
 }
 
 fn is_accepted(accepted: Accepted, value: &Value) -> bool
-    ensures { result ≡ wanted.accepts accepted (view value.now) }
+    ensures { result ≡ defined.accepts accepted (view value.now) }
 {
     match (accepted, value) {
         (Accepted::Zero, value) => value.as_u64() == Some(0),
@@ -45,7 +45,7 @@ fn is_accepted(accepted: Accepted, value: &Value) -> bool
 }
 
 fn is_default_text(default: &str, text: &str) -> bool
-    ensures { result ≡ wanted.is_default_text default.now (string text.now) }
+    ensures { result ≡ defined.is_default_text default.now (string text.now) }
 {
     text == "" || text == default
 }
@@ -59,7 +59,7 @@ pub fn supported(
     accepted: Accepted,
 ) -> Result<(), ConfError>
     requires { has_float (view object.now) ≡ false }
-    ensures { Gives is_out_of_memory result (wanted.supported accepted key.now (view object.now)) }
+    ensures { Gives is_out_of_memory result (defined.supported accepted key.now (view object.now)) }
 {
     match member(object, key) {
         None => Ok(()),
@@ -81,7 +81,7 @@ pub fn all_supported(
     rows: &[(&str, Accepted)],
 ) -> Result<(), ConfError>
     requires { has_float (view object.now) ≡ false }
-    ensures { Gives is_out_of_memory result (wanted.all_supported (wanted.rows_of rows.now) (view object.now)) }
+    ensures { Gives is_out_of_memory result (defined.all_supported (defined.rows_of rows.now) (view object.now)) }
 {
     for (key, accepted) in rows {
         supported(alloc, object, key, *accepted)?;

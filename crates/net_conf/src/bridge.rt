@@ -5,7 +5,7 @@ ghost use Rattle.serde_json.specs.View.{view};
 ghost use Rattle.serde_json.specs.Written.{has_float};
 ghost use Rattle.cni_json.specs.Outcome.{Gives};
 ghost use Rattle.net_conf.specs.Accepted as accepted;
-ghost use Rattle.net_conf.specs.Bridge as wanted;
+ghost use Rattle.net_conf.specs.Bridge as defined;
 ghost use Rattle.net_conf.specs.Refusals.{is_out_of_memory};
 
 use crate::accepted::{Accepted, all_supported};
@@ -24,7 +24,7 @@ use std::alloc::Global;
 #[tactic(auto, using(cni_json::proofs::Steps::steps), unfolding(crate::specs::Bridge::bridge_at))]
 pub fn bridge(alloc: Global, object: &Value) -> Result<BridgeConf, ConfError>
     requires { has_float (view object.now) ≡ false }
-    ensures { Gives is_out_of_memory result (wanted.bridge_at (view object.now)) }
+    ensures { Gives is_out_of_memory result (defined.bridge_at (view object.now)) }
 {
     bridge_supported(alloc, object)?;
     let bridge = BridgeName::of(bridge_name(alloc, object)?);
@@ -46,7 +46,7 @@ pub fn bridge(alloc: Global, object: &Value) -> Result<BridgeConf, ConfError>
 
 fn bridge_supported(alloc: Global, object: &Value) -> Result<(), ConfError>
     requires { has_float (view object.now) ≡ false }
-    ensures { Gives is_out_of_memory result (accepted.all_supported wanted.bridge_rows (view object.now)) }
+    ensures { Gives is_out_of_memory result (accepted.all_supported defined.bridge_rows (view object.now)) }
 {
     all_supported(
         alloc,
@@ -66,7 +66,7 @@ fn bridge_supported(alloc: Global, object: &Value) -> Result<(), ConfError>
 
 #[tactic(auto, using(cni_json::proofs::Steps::steps), unfolding(crate::specs::Bridge::bridge_name_at))]
 fn bridge_name(alloc: Global, object: &Value) -> Result<Text, ConfError>
-    ensures { Gives is_out_of_memory result (wanted.bridge_name_at (view object.now)) }
+    ensures { Gives is_out_of_memory result (defined.bridge_name_at (view object.now)) }
 {
     match field_str(object, "bridge") {
         Field::Absent => Ok(Text::of(alloc, "cni0")?),
@@ -77,7 +77,7 @@ fn bridge_name(alloc: Global, object: &Value) -> Result<Text, ConfError>
 
 #[tactic(auto, using(cni_json::proofs::Steps::steps), unfolding(crate::specs::Bridge::gateway_role_at))]
 fn gateway_role(alloc: Global, object: &Value) -> Result<GatewayRole, ConfError>
-    ensures { Gives is_out_of_memory result (wanted.gateway_role_at (view object.now)) }
+    ensures { Gives is_out_of_memory result (defined.gateway_role_at (view object.now)) }
 {
     let is_gateway = flag(alloc, object, "isGateway", false)?;
     let is_default = flag(alloc, object, "isDefaultGateway", false)?;
@@ -85,7 +85,7 @@ fn gateway_role(alloc: Global, object: &Value) -> Result<GatewayRole, ConfError>
 }
 
 fn role_of(is_gateway: bool, is_default: bool) -> GatewayRole
-    ensures { result ≡ wanted.role_of is_gateway is_default }
+    ensures { result ≡ defined.role_of is_gateway is_default }
 {
     match (is_gateway, is_default) {
         (_, true) => GatewayRole::DefaultGateway,
@@ -96,7 +96,7 @@ fn role_of(is_gateway: bool, is_default: bool) -> GatewayRole
 
 #[tactic(auto, using(cni_json::proofs::Steps::steps), unfolding(crate::specs::Bridge::bridge_mode_at))]
 fn bridge_mode(alloc: Global, object: &Value) -> Result<BridgeMode, ConfError>
-    ensures { Gives is_out_of_memory result (wanted.bridge_mode_at (view object.now)) }
+    ensures { Gives is_out_of_memory result (defined.bridge_mode_at (view object.now)) }
 {
     let hairpin = flag(alloc, object, "hairpinMode", false)?;
     let promisc = promisc(alloc, object)?;
@@ -105,14 +105,14 @@ fn bridge_mode(alloc: Global, object: &Value) -> Result<BridgeMode, ConfError>
 
 #[tactic(auto, unfolding(crate::specs::Bridge::promisc_at))]
 fn promisc(alloc: Global, object: &Value) -> Result<bool, ConfError>
-    ensures { Gives is_out_of_memory result (wanted.promisc_at (view object.now)) }
+    ensures { Gives is_out_of_memory result (defined.promisc_at (view object.now)) }
 {
     flag(alloc, object, "promiscMode", false)
 }
 
 #[tactic(auto, using(cni_json::proofs::Steps::steps))]
 fn mode_of(alloc: Global, hairpin: bool, promisc: bool) -> Result<BridgeMode, ConfError>
-    ensures { Gives is_out_of_memory result (wanted.mode_of hairpin promisc) }
+    ensures { Gives is_out_of_memory result (defined.mode_of hairpin promisc) }
 {
     match (hairpin, promisc) {
         (false, false) => Ok(BridgeMode::Plain),

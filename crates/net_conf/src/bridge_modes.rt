@@ -1,7 +1,7 @@
 //! What a bridge is to the containers on it, and how its ports take frames.
 
 ghost use Rattle.std.specs.Prelude.{◌≡◌};
-ghost use Rattle.net_conf.specs.BridgeModes as wanted;
+ghost use Rattle.net_conf.specs.BridgeModes as defined;
 
 /// Which addresses and default routes the `bridge` plugin adds for its containers (its keys `isGateway` and
 /// `isDefaultGateway`).
@@ -19,7 +19,7 @@ pub enum GatewayRole {
 impl GatewayRole {
     /// Whether the bridge gets the gateways' addresses. Takes no memory.
     pub fn is_gateway(self) -> bool
-        ensures { result ≡ wanted.is_gateway self }
+        ensures { result ≡ defined.is_gateway self }
     {
         match self {
             GatewayRole::None => false,
@@ -29,7 +29,7 @@ impl GatewayRole {
 
     /// Whether the containers get default routes by the gateways. Takes no memory.
     pub fn is_default(self) -> bool
-        ensures { result ≡ wanted.is_default self }
+        ensures { result ≡ defined.is_default self }
     {
         match self {
             GatewayRole::DefaultGateway => true,
@@ -53,7 +53,7 @@ pub enum BridgeMode {
 impl BridgeMode {
     /// Whether the container's port sends frames back where they came from. Takes no memory.
     pub fn hairpin(self) -> bool
-        ensures { result ≡ wanted.hairpin self }
+        ensures { result ≡ defined.hairpin self }
     {
         match self {
             BridgeMode::Hairpin => true,
@@ -63,7 +63,7 @@ impl BridgeMode {
 
     /// Whether the bridge is promiscuous. Takes no memory.
     pub fn promisc(self) -> bool
-        ensures { result ≡ wanted.promisc self }
+        ensures { result ≡ defined.promisc self }
     {
         match self {
             BridgeMode::Promisc => true,

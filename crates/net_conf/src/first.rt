@@ -1,4 +1,4 @@
-//! The plugin that makes the interface, the first of a list.
+//! The first plugin of a list, which makes the interface.
 
 use crate::bridge_modes::{BridgeMode, GatewayRole};
 use crate::range_sets::RangeSets;

@@ -4,7 +4,7 @@ ghost use Rattle.std.specs.Prelude.{◌≡◌, false};
 ghost use Rattle.serde_json.specs.View.{view, members_view};
 ghost use Rattle.serde_json.specs.Written.{has_float};
 ghost use Rattle.cni_json.specs.Outcome.{Gives};
-ghost use Rattle.net_conf.specs.Ipam as wanted;
+ghost use Rattle.net_conf.specs.Ipam as defined;
 ghost use Rattle.net_conf.specs.Refusals.{is_out_of_memory};
 
 use crate::accepted::{Accepted, supported};
@@ -27,7 +27,7 @@ pub struct Addressing {
 #[tactic(auto, using(cni_json::proofs::Steps::steps), unfolding(crate::specs::Ipam::addressing_at))]
 pub fn addressing_of(alloc: Global, plugin: &Value) -> Result<Addressing, ConfError>
     requires { has_float (view plugin.now) ≡ false }
-    ensures { Gives is_out_of_memory result (wanted.addressing_at (view plugin.now)) }
+    ensures { Gives is_out_of_memory result (defined.addressing_at (view plugin.now)) }
 {
     let dns = read_dns(alloc, plugin, || invalid(alloc, "dns"))?;
     let ipam = ipam(alloc, plugin)?;
@@ -39,7 +39,7 @@ pub fn addressing_of(alloc: Global, plugin: &Value) -> Result<Addressing, ConfEr
 #[tactic(auto, using(cni_json::proofs::Steps::steps, cni_json::proofs::WholeNumbers::parts_are_whole), unfolding(crate::specs::Ipam::ipam_at))]
 fn ipam(alloc: Global, plugin: &Value) -> Result<Option<HostLocalConf>, ConfError>
     requires { has_float (view plugin.now) ≡ false }
-    ensures { Gives is_out_of_memory result (wanted.ipam_at (view plugin.now)) }
+    ensures { Gives is_out_of_memory result (defined.ipam_at (view plugin.now)) }
 {
     match member(plugin, "ipam") {
         None => Ok(None),
@@ -55,7 +55,7 @@ fn ipam(alloc: Global, plugin: &Value) -> Result<Option<HostLocalConf>, ConfErro
 }
 
 fn is_empty(object: &Value) -> bool
-    ensures { result ≡ wanted.is_empty (view object.now) }
+    ensures { result ≡ defined.is_empty (view object.now) }
 {
     match object {
         Value::Object(members) => all_null(members),
@@ -64,7 +64,7 @@ fn is_empty(object: &Value) -> bool
 }
 
 fn all_null(members: &Map<String, Value>) -> bool
-    ensures { result ≡ wanted.all_null (members_view members.now.entries) }
+    ensures { result ≡ defined.all_null (members_view members.now.entries) }
 {
     for (_, member) in members.iter() {
         if !member.is_null() {
@@ -77,7 +77,7 @@ fn all_null(members: &Map<String, Value>) -> bool
 #[tactic(auto, using(cni_json::proofs::Steps::steps), unfolding(crate::specs::Ipam::host_local_at))]
 fn host_local(alloc: Global, object: &Value) -> Result<HostLocalConf, ConfError>
     requires { has_float (view object.now) ≡ false }
-    ensures { Gives is_out_of_memory result (wanted.host_local_at (view object.now)) }
+    ensures { Gives is_out_of_memory result (defined.host_local_at (view object.now)) }
 {
     need_object(object, || invalid(alloc, "ipam"))?;
     manager(alloc, object)?;
@@ -90,7 +90,7 @@ fn host_local(alloc: Global, object: &Value) -> Result<HostLocalConf, ConfError>
 #[tactic(auto, using(cni_json::proofs::Steps::steps, cni_json::proofs::WholeNumbers::parts_are_whole), unfolding(crate::specs::Ipam::manager_at))]
 fn manager(alloc: Global, object: &Value) -> Result<(), ConfError>
     requires { has_float (view object.now) ≡ false }
-    ensures { Gives is_out_of_memory result (wanted.manager_at (view object.now)) }
+    ensures { Gives is_out_of_memory result (defined.manager_at (view object.now)) }
 {
     match object.get("type") {
         Some(Value::String(text)) if text.as_str() == "host-local" => Ok(()),

@@ -5,7 +5,7 @@ ghost use Rattle.serde_json.specs.View.{view};
 ghost use Rattle.serde_json.specs.Written.{has_float};
 ghost use Rattle.cni_json.specs.Outcome.{Gives};
 ghost use Rattle.net_conf.specs.Accepted as accepted;
-ghost use Rattle.net_conf.specs.Macvlan as wanted;
+ghost use Rattle.net_conf.specs.Macvlan as defined;
 ghost use Rattle.net_conf.specs.Refusals.{is_out_of_memory};
 
 use crate::accepted::{Accepted, all_supported};
@@ -22,7 +22,7 @@ use std::alloc::Global;
 #[tactic(auto, using(cni_json::proofs::Steps::steps), unfolding(crate::specs::Macvlan::macvlan_at))]
 pub fn macvlan(alloc: Global, object: &Value) -> Result<MacvlanConf, ConfError>
     requires { has_float (view object.now) ≡ false }
-    ensures { Gives is_out_of_memory result (wanted.macvlan_at (view object.now)) }
+    ensures { Gives is_out_of_memory result (defined.macvlan_at (view object.now)) }
 {
     macvlan_supported(alloc, object)?;
     let master = master(alloc, object)?;
@@ -40,7 +40,7 @@ pub fn macvlan(alloc: Global, object: &Value) -> Result<MacvlanConf, ConfError>
 
 fn macvlan_supported(alloc: Global, object: &Value) -> Result<(), ConfError>
     requires { has_float (view object.now) ≡ false }
-    ensures { Gives is_out_of_memory result (accepted.all_supported wanted.macvlan_rows (view object.now)) }
+    ensures { Gives is_out_of_memory result (accepted.all_supported defined.macvlan_rows (view object.now)) }
 {
     all_supported(
         alloc,
@@ -51,7 +51,7 @@ fn macvlan_supported(alloc: Global, object: &Value) -> Result<(), ConfError>
 
 #[tactic(auto, using(cni_json::proofs::Steps::steps), unfolding(crate::specs::Macvlan::master_at))]
 fn master(alloc: Global, object: &Value) -> Result<Text, ConfError>
-    ensures { Gives is_out_of_memory result (wanted.master_at (view object.now)) }
+    ensures { Gives is_out_of_memory result (defined.master_at (view object.now)) }
 {
     match field_str(object, "master") {
         Field::Here(name) if is_interface_name(name) => Ok(Text::of(alloc, name)?),
@@ -61,7 +61,7 @@ fn master(alloc: Global, object: &Value) -> Result<Text, ConfError>
 
 #[tactic(auto, using(cni_json::proofs::Steps::steps), unfolding(crate::specs::Macvlan::mode_at))]
 fn mode(alloc: Global, object: &Value) -> Result<MacvlanMode, ConfError>
-    ensures { Gives is_out_of_memory result (wanted.mode_at (view object.now)) }
+    ensures { Gives is_out_of_memory result (defined.mode_at (view object.now)) }
 {
     match field_str(object, "mode") {
         Field::Absent => Ok(MacvlanMode::Bridge),

@@ -7,7 +7,7 @@ ghost use Rattle.serde_json.specs.Written.{has_float, items_have_float};
 ghost use Rattle.cni_json.specs.Each.{each_after};
 ghost use Rattle.cni_json.specs.Outcome.{Gives, GivesAs};
 ghost use Rattle.net_conf.specs.PluginTypes as plugin_types;
-ghost use Rattle.net_conf.specs.Plugins as wanted;
+ghost use Rattle.net_conf.specs.Plugins as defined;
 ghost use Rattle.net_conf.specs.Refusals.{is_out_of_memory};
 
 use crate::bridge::bridge;
@@ -117,7 +117,7 @@ pub struct PluginChain {
 #[tactic(auto, using(cni_json::proofs::Steps::steps), unfolding(crate::specs::Plugins::chain_at))]
 pub fn plugin_chain(alloc: Global, top: &Value) -> Result<PluginChain, ConfError>
     requires { has_float (view top.now) ≡ false }
-    ensures { Gives is_out_of_memory result (wanted.chain_at (view top.now)) }
+    ensures { Gives is_out_of_memory result (defined.chain_at (view top.now)) }
 {
     let plugins = plugins(alloc, top)?;
     let first = first_plugin(alloc, plugins)?;
@@ -129,7 +129,7 @@ pub fn plugin_chain(alloc: Global, top: &Value) -> Result<PluginChain, ConfError
 fn plugins<'a>(alloc: Global, top: &'a Value) -> Result<&'a [Value], ConfError>
     requires { has_float (view top.now) ≡ false }
     ensures given { GivesAs is_out_of_memory (λ list. items_view list.now) result
-        (wanted.plugins_at (view top.entry.now)) }
+        (defined.plugins_at (view top.entry.now)) }
     ensures numbers { IfOk result (λ list. items_have_float (items_view list.now) ≡ false) }
 {
     match field_list(top, "plugins") {
@@ -142,7 +142,7 @@ fn plugins<'a>(alloc: Global, top: &'a Value) -> Result<&'a [Value], ConfError>
 #[tactic(auto, using(cni_json::proofs::Steps::steps, cni_json::proofs::WholeNumbers::parts_are_whole))]
 fn first_plugin(alloc: Global, plugins: &[Value]) -> Result<First, ConfError>
     requires { items_have_float (items_view plugins.now) ≡ false }
-    ensures { Gives is_out_of_memory result (wanted.first_plugin (items_view plugins.now)) }
+    ensures { Gives is_out_of_memory result (defined.first_plugin (items_view plugins.now)) }
 {
     match plugins {
         [] => Err(invalid(alloc, "plugins")),
@@ -154,7 +154,7 @@ fn first_plugin(alloc: Global, plugins: &[Value]) -> Result<First, ConfError>
 #[tactic(auto, using(cni_json::proofs::Steps::steps))]
 fn later_plugins(alloc: Global, plugins: &[Value]) -> Result<ChainedPlugins, ConfError>
     requires { items_have_float (items_view plugins.now) ≡ false }
-    ensures { Gives is_out_of_memory result (wanted.later_plugins (items_view plugins.now)) }
+    ensures { Gives is_out_of_memory result (defined.later_plugins (items_view plugins.now)) }
 {
     let chained = after_first(alloc, plugins)?;
     Ok(ChainedPlugins::of_items(chained))
@@ -163,7 +163,7 @@ fn later_plugins(alloc: Global, plugins: &[Value]) -> Result<ChainedPlugins, Con
 #[tactic(auto, using(cni_json::proofs::Steps::steps, crate::proofs::ValueLemmas::by_length, cni_json::proofs::WholeNumbers::parts_are_whole))]
 fn after_first(alloc: Global, plugins: &[Value]) -> Result<Items<Chained>, ConfError>
     requires { items_have_float (items_view plugins.now) ≡ false }
-    ensures { Gives is_out_of_memory result (wanted.later_plugins (items_view plugins.now)) }
+    ensures { Gives is_out_of_memory result (defined.later_plugins (items_view plugins.now)) }
 {
     match plugins {
         [] => Ok(Items::new(alloc)),
@@ -174,7 +174,7 @@ fn after_first(alloc: Global, plugins: &[Value]) -> Result<Items<Chained>, ConfE
 #[tactic(auto, using(cni_json::proofs::Steps::steps, cni_json::proofs::WholeNumbers::parts_are_whole))]
 fn all_later(alloc: Global, plugins: &[Value]) -> Result<Items<Chained>, ConfError>
     requires { items_have_float (items_view plugins.now) ≡ false }
-    ensures { Gives is_out_of_memory result (each_after wanted.later_at [] (items_view plugins.now)) }
+    ensures { Gives is_out_of_memory result (each_after defined.later_at [] (items_view plugins.now)) }
 {
     read_each_after(
         Items::new(alloc),
@@ -187,7 +187,7 @@ fn all_later(alloc: Global, plugins: &[Value]) -> Result<Items<Chained>, ConfErr
 #[tactic(auto, using(cni_json::proofs::Steps::steps), unfolding(crate::specs::Plugins::later_at))]
 fn later(alloc: Global, before: &[Chained], plugin: &Value) -> Result<Chained, ConfError>
     requires { has_float (view plugin.now) ≡ false }
-    ensures { Gives is_out_of_memory result (wanted.later_at before.now (view plugin.now)) }
+    ensures { Gives is_out_of_memory result (defined.later_at before.now (view plugin.now)) }
 {
     need_object(plugin, || invalid(alloc, "plugins"))?;
     let plugin_type = plugin_type(alloc, plugin)?;
@@ -197,7 +197,7 @@ fn later(alloc: Global, before: &[Chained], plugin: &Value) -> Result<Chained, C
 
 #[tactic(auto, using(cni_json::proofs::Steps::steps), unfolding(crate::specs::Plugins::not_repeated))]
 fn not_repeated(alloc: Global, before: &[Chained], plugin_type: PluginType) -> Result<(), ConfError>
-    ensures { Gives is_out_of_memory result (wanted.not_repeated before.now plugin_type) }
+    ensures { Gives is_out_of_memory result (defined.not_repeated before.now plugin_type) }
 {
     (!has_type(before, plugin_type))
         .then_some(())
@@ -205,13 +205,13 @@ fn not_repeated(alloc: Global, before: &[Chained], plugin_type: PluginType) -> R
 }
 
 fn has_type(plugins: &[Chained], plugin_type: PluginType) -> bool
-    ensures { result ≡ list_any (wanted.is_of_type plugin_type) plugins.now }
+    ensures { result ≡ list_any (defined.is_of_type plugin_type) plugins.now }
 {
     plugins.iter().any(|plugin| is_of_type(plugin, plugin_type))
 }
 
 fn is_of_type(plugin: &Chained, plugin_type: PluginType) -> bool
-    ensures { result ≡ wanted.is_of_type plugin_type plugin.now }
+    ensures { result ≡ defined.is_of_type plugin_type plugin.now }
 {
     type_of_chained(plugin) == plugin_type
 }
@@ -219,7 +219,7 @@ fn is_of_type(plugin: &Chained, plugin_type: PluginType) -> bool
 #[tactic(auto, using(cni_json::proofs::Steps::steps), unfolding(crate::specs::Plugins::first_at))]
 fn first(alloc: Global, plugin: &Value) -> Result<First, ConfError>
     requires { has_float (view plugin.now) ≡ false }
-    ensures { Gives is_out_of_memory result (wanted.first_at (view plugin.now)) }
+    ensures { Gives is_out_of_memory result (defined.first_at (view plugin.now)) }
 {
     need_object(plugin, || invalid(alloc, "plugins"))?;
     let plugin_type = plugin_type(alloc, plugin)?;
@@ -228,7 +228,7 @@ fn first(alloc: Global, plugin: &Value) -> Result<First, ConfError>
 
 #[tactic(auto, using(cni_json::proofs::Steps::steps), unfolding(crate::specs::Plugins::type_at))]
 fn plugin_type(alloc: Global, plugin: &Value) -> Result<PluginType, ConfError>
-    ensures { Gives is_out_of_memory result (wanted.type_at (view plugin.now)) }
+    ensures { Gives is_out_of_memory result (defined.type_at (view plugin.now)) }
 {
     match field_str(plugin, "type") {
         Field::Here(found) => type_named(found).ok_or_else(|| invalid(alloc, "type")),
@@ -239,7 +239,7 @@ fn plugin_type(alloc: Global, plugin: &Value) -> Result<PluginType, ConfError>
 #[tactic(auto, using(cni_json::proofs::Steps::steps))]
 fn first_of(alloc: Global, plugin_type: PluginType, object: &Value) -> Result<First, ConfError>
     requires { has_float (view object.now) ≡ false }
-    ensures { Gives is_out_of_memory result (wanted.first_of plugin_type (view object.now)) }
+    ensures { Gives is_out_of_memory result (defined.first_of plugin_type (view object.now)) }
 {
     match plugin_type {
         PluginType::Bridge => {
@@ -263,7 +263,7 @@ fn first_of(alloc: Global, plugin_type: PluginType, object: &Value) -> Result<Fi
 #[tactic(auto, using(cni_json::proofs::Steps::steps))]
 fn later_of(alloc: Global, plugin_type: PluginType, object: &Value) -> Result<Chained, ConfError>
     requires { has_float (view object.now) ≡ false }
-    ensures { Gives is_out_of_memory result (wanted.later_of plugin_type (view object.now)) }
+    ensures { Gives is_out_of_memory result (defined.later_of plugin_type (view object.now)) }
 {
     match plugin_type {
         PluginType::Portmap => {

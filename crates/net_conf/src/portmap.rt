@@ -5,7 +5,7 @@ ghost use Rattle.serde_json.specs.View.{view};
 ghost use Rattle.serde_json.specs.Written.{has_float};
 ghost use Rattle.cni_json.specs.Outcome.{Gives};
 ghost use Rattle.net_conf.specs.Accepted as accepted;
-ghost use Rattle.net_conf.specs.Portmap as wanted;
+ghost use Rattle.net_conf.specs.Portmap as defined;
 ghost use Rattle.net_conf.specs.Refusals.{is_out_of_memory};
 
 use crate::accepted::{Accepted, all_supported};
@@ -19,7 +19,7 @@ use std::alloc::Global;
 #[tactic(auto, using(cni_json::proofs::Steps::steps), unfolding(crate::specs::Portmap::portmap_at))]
 pub fn portmap(alloc: Global, object: &Value) -> Result<PortmapConf, ConfError>
     requires { has_float (view object.now) ≡ false }
-    ensures { Gives is_out_of_memory result (wanted.portmap_at (view object.now)) }
+    ensures { Gives is_out_of_memory result (defined.portmap_at (view object.now)) }
 {
     portmap_supported(alloc, object)?;
     let mappings = mappings(alloc, object)?;
@@ -29,7 +29,7 @@ pub fn portmap(alloc: Global, object: &Value) -> Result<PortmapConf, ConfError>
 
 fn portmap_supported(alloc: Global, object: &Value) -> Result<(), ConfError>
     requires { has_float (view object.now) ≡ false }
-    ensures { Gives is_out_of_memory result (accepted.all_supported wanted.portmap_rows (view object.now)) }
+    ensures { Gives is_out_of_memory result (accepted.all_supported defined.portmap_rows (view object.now)) }
 {
     all_supported(
         alloc,
@@ -46,7 +46,7 @@ fn portmap_supported(alloc: Global, object: &Value) -> Result<(), ConfError>
 
 #[tactic(auto, using(cni_json::proofs::Steps::steps), unfolding(crate::specs::Portmap::takes_mappings_at))]
 fn mappings(alloc: Global, object: &Value) -> Result<bool, ConfError>
-    ensures { Gives is_out_of_memory result (wanted.takes_mappings_at (view object.now)) }
+    ensures { Gives is_out_of_memory result (defined.takes_mappings_at (view object.now)) }
 {
     match field_object(object, "capabilities") {
         Field::Absent => Ok(false),

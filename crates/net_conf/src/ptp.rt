@@ -4,7 +4,7 @@ ghost use Rattle.std.specs.Prelude.{◌≡◌, codes, false, ok_or};
 ghost use Rattle.serde_json.specs.View.{view};
 ghost use Rattle.serde_json.specs.Written.{has_float};
 ghost use Rattle.cni_json.specs.Outcome.{Gives};
-ghost use Rattle.net_conf.specs.Ptp as wanted;
+ghost use Rattle.net_conf.specs.Ptp as defined;
 ghost use Rattle.net_conf.specs.Refusals.{is_out_of_memory};
 ghost use Rattle.net_conf.specs.declared.error.ConfError.TheVariants as refusal;
 
@@ -19,7 +19,7 @@ use std::alloc::Global;
 #[tactic(auto, using(cni_json::proofs::Steps::steps), unfolding(crate::specs::Ptp::ptp_at))]
 pub fn ptp(alloc: Global, object: &Value) -> Result<PtpConf, ConfError>
     requires { has_float (view object.now) ≡ false }
-    ensures { Gives is_out_of_memory result (wanted.ptp_at (view object.now)) }
+    ensures { Gives is_out_of_memory result (defined.ptp_at (view object.now)) }
 {
     let ip_masq = flag(alloc, object, "ipMasq", false)?;
     let mtu = mtu(alloc, object)?;

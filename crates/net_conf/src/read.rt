@@ -4,7 +4,7 @@ ghost use Rattle.std.specs.Prelude.{◌≡◌, false};
 ghost use Rattle.serde_json.specs.View.{view};
 ghost use Rattle.serde_json.specs.Written.{has_float};
 ghost use Rattle.cni_json.specs.Outcome.{Gives};
-ghost use Rattle.net_conf.specs.List as wanted;
+ghost use Rattle.net_conf.specs.List as defined;
 ghost use Rattle.net_conf.specs.Refusals.{is_out_of_memory};
 
 use crate::error::{ConfError, invalid};
@@ -20,7 +20,7 @@ use std::alloc::Global;
 /// parts. It takes time in proportion to the bytes, and that of a sort of the ranges.
 #[tactic(auto, using(cni_json::proofs::Steps::steps), unfolding(crate::specs::List::list_of))]
 pub fn read_list(alloc: Global, bytes: &[u8]) -> Result<NetList, ConfError>
-    ensures { Gives is_out_of_memory result (wanted.list_of bytes.now) }
+    ensures { Gives is_out_of_memory result (defined.list_of bytes.now) }
 {
     match cni_json::read(alloc, bytes) {
         Ok(top) => list(alloc, &top),
@@ -33,7 +33,7 @@ pub fn read_list(alloc: Global, bytes: &[u8]) -> Result<NetList, ConfError>
 #[tactic(auto, using(cni_json::proofs::Steps::steps), unfolding(crate::specs::List::network_list_at))]
 fn list(alloc: Global, top: &Value) -> Result<NetList, ConfError>
     requires { has_float (view top.now) ≡ false }
-    ensures { Gives is_out_of_memory result (wanted.network_list_at (view top.now)) }
+    ensures { Gives is_out_of_memory result (defined.network_list_at (view top.now)) }
 {
     need_object(top, || invalid(alloc, "list"))?;
     let version = version(alloc, top)?;
@@ -53,7 +53,7 @@ fn list(alloc: Global, top: &Value) -> Result<NetList, ConfError>
 
 #[tactic(auto, using(cni_json::proofs::Steps::steps), unfolding(crate::specs::List::name_at))]
 fn name(alloc: Global, top: &Value) -> Result<Text, ConfError>
-    ensures { Gives is_out_of_memory result (wanted.name_at (view top.now)) }
+    ensures { Gives is_out_of_memory result (defined.name_at (view top.now)) }
 {
     match field_str(top, "name") {
         Field::Here(name) if is_network_name(name) => Ok(Text::of(alloc, name)?),
@@ -62,13 +62,13 @@ fn name(alloc: Global, top: &Value) -> Result<Text, ConfError>
 }
 
 fn check_disabled(alloc: Global, top: &Value) -> Result<bool, ConfError>
-    ensures { Gives is_out_of_memory result (wanted.switch_at wanted.disable_check_key (view top.now)) }
+    ensures { Gives is_out_of_memory result (defined.switch_at defined.disable_check_key (view top.now)) }
 {
     switch(alloc, top, DISABLE_CHECK_KEY)
 }
 
 fn gc_disabled(alloc: Global, top: &Value) -> Result<bool, ConfError>
-    ensures { Gives is_out_of_memory result (wanted.switch_at wanted.disable_gc_key (view top.now)) }
+    ensures { Gives is_out_of_memory result (defined.switch_at defined.disable_gc_key (view top.now)) }
 {
     switch(alloc, top, DISABLE_GC_KEY)
 }
@@ -76,7 +76,7 @@ fn gc_disabled(alloc: Global, top: &Value) -> Result<bool, ConfError>
 /// A truth value, or the text of one. Absent is false.
 #[tactic(auto, using(cni_json::proofs::Steps::steps), unfolding(crate::specs::List::switch_at))]
 fn switch(alloc: Global, top: &Value, key: &str) -> Result<bool, ConfError>
-    ensures { Gives is_out_of_memory result (wanted.switch_at key.now (view top.now)) }
+    ensures { Gives is_out_of_memory result (defined.switch_at key.now (view top.now)) }
 {
     match member(top, key) {
         None => Ok(false),

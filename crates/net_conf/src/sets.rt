@@ -7,7 +7,7 @@ ghost use Rattle.serde_json.specs.Events.{items_len};
 ghost use Rattle.serde_json.specs.View.{view, items_view};
 ghost use Rattle.cni_json.specs.Outcome.{Gives, GivesAs};
 ghost use Rattle.net_conf.specs.Refusals.{is_out_of_memory};
-ghost use Rattle.net_conf.specs.Sets as wanted;
+ghost use Rattle.net_conf.specs.Sets as defined;
 
 use crate::apart::share_no_address;
 use crate::error::{ConfError, invalid};
@@ -20,7 +20,7 @@ use std::alloc::Global;
 /// The set that the object's own `subnet` gives, and then those of its `ranges`.
 #[tactic(auto, using(cni_json::proofs::Steps::steps))]
 pub fn sets(alloc: Global, object: &Value) -> Result<RangeSets, ConfError>
-    ensures { Gives is_out_of_memory result (wanted.sets_at (view object.now)) }
+    ensures { Gives is_out_of_memory result (defined.sets_at (view object.now)) }
 {
     let sets = own_and_listed(alloc, object)?;
     Ok(RangeSets::of_items(sets))
@@ -28,7 +28,7 @@ pub fn sets(alloc: Global, object: &Value) -> Result<RangeSets, ConfError>
 
 #[tactic(auto, using(cni_json::proofs::Steps::steps), unfolding(crate::specs::Sets::sets_at))]
 fn own_and_listed(alloc: Global, object: &Value) -> Result<Items<RangeSet>, ConfError>
-    ensures { Gives is_out_of_memory result (wanted.sets_at (view object.now)) }
+    ensures { Gives is_out_of_memory result (defined.sets_at (view object.now)) }
 {
     let listed = listed(alloc, object)?;
     let has_own = has_subnet(object);
@@ -42,7 +42,7 @@ fn own_and_listed(alloc: Global, object: &Value) -> Result<Items<RangeSet>, Conf
 #[tactic(auto, using(cni_json::proofs::Steps::steps), unfolding(crate::specs::Sets::listed_at))]
 fn listed<'a>(alloc: Global, object: &'a Value) -> Result<&'a [Value], ConfError>
     ensures { GivesAs is_out_of_memory (λ list. items_view list.now) result
-        (wanted.listed_at (view object.entry.now)) }
+        (defined.listed_at (view object.entry.now)) }
 {
     match field_list(object, "ranges") {
         Field::Absent => Ok(&[]),
@@ -52,14 +52,14 @@ fn listed<'a>(alloc: Global, object: &'a Value) -> Result<&'a [Value], ConfError
 }
 
 fn has_subnet(object: &Value) -> bool
-    ensures { result ≡ wanted.has_subnet (view object.now) }
+    ensures { result ≡ defined.has_subnet (view object.now) }
 {
     member(object, "subnet").is_some()
 }
 
 #[tactic(auto, using(cni_json::proofs::Steps::steps, crate::proofs::ValueLemmas::tests))]
 fn well_formed(alloc: Global, has_own: bool, listed: &[Value]) -> Result<(), ConfError>
-    ensures { Gives is_out_of_memory result (wanted.well_formed has_own (items_view listed.now)) }
+    ensures { Gives is_out_of_memory result (defined.well_formed has_own (items_view listed.now)) }
 {
     (is_set_count(has_own, listed) && all_set_forms(listed))
         .then_some(())
@@ -68,7 +68,7 @@ fn well_formed(alloc: Global, has_own: bool, listed: &[Value]) -> Result<(), Con
 
 #[tactic(auto, using(crate::proofs::ValueLemmas::counts))]
 fn is_set_count(has_own: bool, listed: &[Value]) -> bool
-    ensures { result ≡ wanted.is_set_count (wanted.one_if has_own + items_len (items_view listed.now)) }
+    ensures { result ≡ defined.is_set_count (defined.one_if has_own + items_len (items_view listed.now)) }
 {
     if has_own {
         listed.len() < MOST_SETS
@@ -78,13 +78,13 @@ fn is_set_count(has_own: bool, listed: &[Value]) -> bool
 }
 
 fn all_set_forms(listed: &[Value]) -> bool
-    ensures { result ≡ list_all (λ set. wanted.is_set (view set)) listed.now }
+    ensures { result ≡ list_all (λ set. defined.is_set (view set)) listed.now }
 {
     listed.iter().all(|set| is_set_form(set))
 }
 
 fn is_set_form(set: &Value) -> bool
-    ensures { result ≡ wanted.is_set (view set.now) }
+    ensures { result ≡ defined.is_set (view set.now) }
 {
     match set {
         Value::Array(ranges) => is_set_list(ranges.as_slice()),
@@ -94,7 +94,7 @@ fn is_set_form(set: &Value) -> bool
 
 #[tactic(auto, using(crate::proofs::ValueLemmas::by_length))]
 fn is_set_list(ranges: &[Value]) -> bool
-    ensures { result ≡ wanted.is_set (array (items_view ranges.now)) }
+    ensures { result ≡ defined.is_set (array (items_view ranges.now)) }
 {
     match ranges {
         [] => false,
@@ -103,14 +103,14 @@ fn is_set_list(ranges: &[Value]) -> bool
 }
 
 fn all_objects(ranges: &[Value]) -> bool
-    ensures { result ≡ list_all (λ range. wanted.is_object (view range)) ranges.now }
+    ensures { result ≡ list_all (λ range. defined.is_object (view range)) ranges.now }
 {
     ranges.iter().all(|range| range.is_object())
 }
 
 #[tactic(auto, using(cni_json::proofs::Steps::steps))]
 fn own_sets(alloc: Global, has_own: bool, object: &Value) -> Result<Items<RangeSet>, ConfError>
-    ensures { Gives is_out_of_memory result (wanted.own_sets_of has_own (view object.now)) }
+    ensures { Gives is_out_of_memory result (defined.own_sets_of has_own (view object.now)) }
 {
     let mut own = Items::new(alloc);
     if has_own {
@@ -124,7 +124,7 @@ fn own_sets(alloc: Global, has_own: bool, object: &Value) -> Result<Items<RangeS
 
 #[tactic(auto, using(cni_json::proofs::Steps::steps))]
 fn set(alloc: Global, member: &Value) -> Result<RangeSet, ConfError>
-    ensures { Gives is_out_of_memory result (wanted.set_of (view member.now)) }
+    ensures { Gives is_out_of_memory result (defined.set_of (view member.now)) }
 {
     match member {
         Value::Array(list) => {
@@ -137,7 +137,7 @@ fn set(alloc: Global, member: &Value) -> Result<RangeSet, ConfError>
 
 #[tactic(auto, using(cni_json::proofs::Steps::steps))]
 fn separate(alloc: Global, sets: &[RangeSet]) -> Result<(), ConfError>
-    ensures { Gives is_out_of_memory result (wanted.separate sets.now) }
+    ensures { Gives is_out_of_memory result (defined.separate sets.now) }
 {
     let mut ranges = ranges_of(alloc, sets)?;
     (share_no_address(&mut ranges) && all_of_one_family(sets))
@@ -147,7 +147,7 @@ fn separate(alloc: Global, sets: &[RangeSet]) -> Result<(), ConfError>
 
 /// All ranges, set by set.
 fn ranges_of(alloc: Global, sets: &[RangeSet]) -> Result<Vec<Range>, NoMemory>
-    ensures { IfOk result (λ all. all.items ≡ wanted.ranges_of sets.now) }
+    ensures { IfOk result (λ all. all.items ≡ defined.ranges_of sets.now) }
 {
     let mut all = Vec::new(alloc);
     for set in sets {
@@ -157,13 +157,13 @@ fn ranges_of(alloc: Global, sets: &[RangeSet]) -> Result<Vec<Range>, NoMemory>
 }
 
 fn all_of_one_family(sets: &[RangeSet]) -> bool
-    ensures { result ≡ list_all wanted.is_of_one_family sets.now }
+    ensures { result ≡ list_all defined.is_of_one_family sets.now }
 {
     sets.iter().all(|set| is_of_one_family(set))
 }
 
 fn is_of_one_family(set: &RangeSet) -> bool
-    ensures { result ≡ wanted.is_of_one_family set.now }
+    ensures { result ≡ defined.is_of_one_family set.now }
 {
     match set.ranges.as_slice() {
         [] => true,
@@ -172,7 +172,7 @@ fn is_of_one_family(set: &RangeSet) -> bool
 }
 
 fn all_have_family(family: Family, ranges: &[Range]) -> bool
-    ensures { result ≡ list_all (wanted.is_range_of family) ranges.now }
+    ensures { result ≡ list_all (defined.is_range_of family) ranges.now }
 {
     ranges
         .iter()

@@ -4,7 +4,7 @@ ghost use Rattle.std.specs.Prelude.{◌≡◌, codes};
 ghost use Rattle.serde_json.specs.View.{view, members_view};
 ghost use Rattle.cni_json.specs.Outcome.{Gives};
 ghost use Rattle.net_conf.specs.Refusals.{is_out_of_memory};
-ghost use Rattle.net_conf.specs.Tuning as wanted;
+ghost use Rattle.net_conf.specs.Tuning as defined;
 
 use crate::chained::{Sysctl, TuningConf};
 use crate::error::{ConfError, invalid, unsupported};
@@ -16,7 +16,7 @@ use std::alloc::Global;
 /// The configuration of the `tuning` plugin, from its object in a list.
 #[tactic(auto, using(cni_json::proofs::Steps::steps), unfolding(crate::specs::Tuning::tuning_at))]
 pub fn tuning(alloc: Global, object: &Value) -> Result<TuningConf, ConfError>
-    ensures { Gives is_out_of_memory result (wanted.tuning_at (view object.now)) }
+    ensures { Gives is_out_of_memory result (defined.tuning_at (view object.now)) }
 {
     let sysctl = sysctl(alloc, object)?;
     let mac = new_mac(alloc, object)?;
@@ -36,7 +36,7 @@ pub fn tuning(alloc: Global, object: &Value) -> Result<TuningConf, ConfError>
 
 #[tactic(auto, using(cni_json::proofs::Steps::steps), unfolding(crate::specs::Tuning::sysctl_at))]
 fn sysctl(alloc: Global, object: &Value) -> Result<Items<Sysctl>, ConfError>
-    ensures { Gives is_out_of_memory result (wanted.sysctl_at (view object.now)) }
+    ensures { Gives is_out_of_memory result (defined.sysctl_at (view object.now)) }
 {
     match member(object, "sysctl") {
         None => Ok(Items::new(alloc)),
@@ -47,7 +47,7 @@ fn sysctl(alloc: Global, object: &Value) -> Result<Items<Sysctl>, ConfError>
 
 #[tactic(auto, using(cni_json::proofs::Steps::steps, crate::proofs::TuningLemmas::settings))]
 fn settings(alloc: Global, members: &Map<String, Value>) -> Result<Items<Sysctl>, ConfError>
-    ensures { Gives is_out_of_memory result (wanted.settings_of (members_view members.now.entries)) }
+    ensures { Gives is_out_of_memory result (defined.settings_of (members_view members.now.entries)) }
 {
     let mut found = Items::new(alloc);
     for (key, member) in members.iter() {
@@ -61,7 +61,7 @@ fn settings(alloc: Global, members: &Map<String, Value>) -> Result<Items<Sysctl>
 
 #[tactic(auto, using(cni_json::proofs::Steps::steps))]
 fn setting(alloc: Global, key: &str, member: &Value) -> Result<Sysctl, ConfError>
-    ensures { Gives is_out_of_memory result (wanted.read_setting_of key.now (view member.now)) }
+    ensures { Gives is_out_of_memory result (defined.read_setting_of key.now (view member.now)) }
 {
     match member {
         Value::String(text) => {
@@ -81,21 +81,21 @@ fn setting(alloc: Global, key: &str, member: &Value) -> Result<Sysctl, ConfError
 }
 
 fn is_network_setting(key: &str) -> bool
-    ensures { result ≡ wanted.is_network_setting key.now }
+    ensures { result ≡ defined.is_network_setting key.now }
 {
     key.as_bytes().starts_with(b"net.")
 }
 
 /// Whether the key has the place of an interface's name, as the `tuning` plugin of the CNI project writes it.
 fn names_interface(key: &str) -> bool
-    ensures { result ≡ wanted.has_part (codes "IFNAME") key.now }
+    ensures { result ≡ defined.has_part (codes "IFNAME") key.now }
 {
     has_part(key.as_bytes(), b"IFNAME")
 }
 
 #[tactic(auto, using(crate::proofs::TuningLemmas::parts))]
 fn has_part(text: &[u8], part: &[u8]) -> bool
-    ensures { result ≡ wanted.has_part part.now text.now }
+    ensures { result ≡ defined.has_part part.now text.now }
 {
     for start in 0..text.len() {
         if text[start..].starts_with(part) {
@@ -107,7 +107,7 @@ fn has_part(text: &[u8], part: &[u8]) -> bool
 
 #[tactic(auto, using(cni_json::proofs::Steps::steps), unfolding(crate::specs::Tuning::new_mac_at))]
 fn new_mac(alloc: Global, object: &Value) -> Result<Option<Mac>, ConfError>
-    ensures { Gives is_out_of_memory result (wanted.new_mac_at (view object.now)) }
+    ensures { Gives is_out_of_memory result (defined.new_mac_at (view object.now)) }
 {
     match field_str(object, "mac") {
         Field::Absent | Field::Here("") => Ok(None),
@@ -120,7 +120,7 @@ fn new_mac(alloc: Global, object: &Value) -> Result<Option<Mac>, ConfError>
 
 #[tactic(auto, using(cni_json::proofs::Steps::steps), unfolding(crate::specs::Tuning::queue_length_at))]
 fn queue_length(alloc: Global, object: &Value) -> Result<Option<u32>, ConfError>
-    ensures { Gives is_out_of_memory result (wanted.queue_length_at (view object.now)) }
+    ensures { Gives is_out_of_memory result (defined.queue_length_at (view object.now)) }
 {
     match field_u32(object, "txQLen") {
         Field::Absent => Ok(None),

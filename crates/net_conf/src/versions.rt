@@ -4,19 +4,19 @@ ghost use Rattle.std.specs.Prelude.{◌≡◌, ◌++◌, IfOk};
 ghost use Rattle.serde_json.specs.View.{view};
 ghost use Rattle.cni_json.specs.Outcome.{Gives};
 ghost use Rattle.net_conf.specs.Refusals.{is_out_of_memory};
-ghost use Rattle.net_conf.specs.Versions as wanted;
+ghost use Rattle.net_conf.specs.Versions as defined;
 
 use crate::error::{ConfError, invalid, version_refused};
 use cni_addr::{Items, NoMemory, Text};
 use cni_json::{Field, Value, field_str};
-use cni_result::{Version, read_words, version_text};
+use cni_result::{Version, read_texts, version_text};
 use std::alloc::Global;
 
 /// The version that the plugins are asked in: the newest of those that are known and that `cniVersion` or `cniVersions`
 /// names (CNI specification 1.1.0, section 1). Both keys count alike.
 #[tactic(auto, using(cni_json::proofs::Steps::steps), unfolding(crate::specs::Versions::version_at))]
 pub(crate) fn version(alloc: Global, top: &Value) -> Result<Version, ConfError>
-    ensures { Gives is_out_of_memory result (wanted.version_at (view top.now)) }
+    ensures { Gives is_out_of_memory result (defined.version_at (view top.now)) }
 {
     let texts = version_texts(alloc, top)?;
     let newest = newest_named(texts.as_slice());
@@ -26,7 +26,7 @@ pub(crate) fn version(alloc: Global, top: &Value) -> Result<Version, ConfError>
 /// The text of `cniVersion`, if there is one, and then those of `cniVersions`.
 #[tactic(auto, using(cni_json::proofs::Steps::steps), unfolding(crate::specs::Versions::version_texts_at))]
 fn version_texts(alloc: Global, top: &Value) -> Result<Items<Text>, ConfError>
-    ensures { Gives is_out_of_memory result (wanted.version_texts_at (view top.now)) }
+    ensures { Gives is_out_of_memory result (defined.version_texts_at (view top.now)) }
 {
     let single = single_version(alloc, top)?;
     let listed = listed_versions(alloc, top)?;
@@ -34,9 +34,9 @@ fn version_texts(alloc: Global, top: &Value) -> Result<Items<Text>, ConfError>
 }
 
 fn listed_versions(alloc: Global, top: &Value) -> Result<Items<Text>, ConfError>
-    ensures { Gives is_out_of_memory result (wanted.listed_versions_at (view top.now)) }
+    ensures { Gives is_out_of_memory result (defined.listed_versions_at (view top.now)) }
 {
-    read_words(alloc, top, "cniVersions", &|| invalid(alloc, "cniVersions"))
+    read_texts(alloc, top, "cniVersions", &|| invalid(alloc, "cniVersions"))
 }
 
 fn joined(front: Items<Text>, back: Items<Text>) -> Result<Items<Text>, NoMemory>
@@ -50,7 +50,7 @@ fn joined(front: Items<Text>, back: Items<Text>) -> Result<Items<Text>, NoMemory
 
 #[tactic(auto, using(cni_json::proofs::Steps::steps), unfolding(crate::specs::Versions::single_version_at))]
 fn single_version(alloc: Global, top: &Value) -> Result<Items<Text>, ConfError>
-    ensures { Gives is_out_of_memory result (wanted.single_version_at (view top.now)) }
+    ensures { Gives is_out_of_memory result (defined.single_version_at (view top.now)) }
 {
     match field_str(top, "cniVersion") {
         Field::Absent => Ok(Items::new(alloc)),
@@ -64,7 +64,7 @@ fn single_version(alloc: Global, top: &Value) -> Result<Items<Text>, ConfError>
 }
 
 fn newest_named(texts: &[Text]) -> Option<Version>
-    ensures { result ≡ wanted.newest_named texts.now }
+    ensures { result ≡ defined.newest_named texts.now }
 {
     Version::ALL
         .iter()
@@ -74,7 +74,7 @@ fn newest_named(texts: &[Text]) -> Option<Version>
 }
 
 fn names(texts: &[Text], version: Version) -> bool
-    ensures { result ≡ wanted.names texts.now version }
+    ensures { result ≡ defined.names texts.now version }
 {
     texts
         .iter()
@@ -82,7 +82,7 @@ fn names(texts: &[Text], version: Version) -> bool
 }
 
 fn first_or_empty(texts: &[Text]) -> &str
-    ensures { result.now ≡ wanted.first_or_empty texts.now }
+    ensures { result.now ≡ defined.first_or_empty texts.now }
 {
     match texts {
         [first, ..] => first.as_str(),

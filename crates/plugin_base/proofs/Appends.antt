@@ -5,7 +5,7 @@ use Rattle.std.specs.List.{list_all}
 use Rattle.std.proofs.lemmas.Bool.{and_parts}
 use Rattle.kernel_types.specs.Apply.{apply}
 use Rattle.kernel_types.specs.Equal.{rule_eq}
-use Rattle.kernel_types.specs.Words.{is_own}
+use Rattle.kernel_types.specs.Terms.{is_own}
 use Rattle.kernel_types.proofs.Cases.{att_eq-refl}
 use Rattle.kernel_types.specs.declared.object.Att.{Att}
 use Rattle.kernel_types.specs.declared.object.AddrObj.{AddrObj}

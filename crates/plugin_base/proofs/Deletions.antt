@@ -4,7 +4,7 @@ use Rattle.std.specs.Prelude.{filter, find, ◌||◌}
 use Rattle.std.specs.List.{list_any}
 use Rattle.std.proofs.lemmas.Bool.{true≢false, both_ways}
 use Rattle.cni_addr.specs.Lists.{without_first}
-use Rattle.kernel_types.specs.Words.{is_own, is_link_of}
+use Rattle.kernel_types.specs.Terms.{is_own, is_link_of}
 use Rattle.kernel_types.specs.Apply.Calls.{without_link}
 use Rattle.kernel_types.specs.Sound.{IsSound, address_fits_tag}
 use Rattle.kernel_types.proofs.Isolation.{is_own-one}

@@ -14,7 +14,7 @@ use Rattle.cni_result.specs.declared.cached.PortMapping.{PortMapping}
 use Rattle.cni_result.specs.declared.result.IpEntry.{IpEntry}
 use Rattle.cni_result.specs.declared.result.RouteEntry.{RouteEntry}
 use Rattle.kernel_types.specs.Apply.Calls.{is_own_at, is_same_addr, is_same_route, set_link}
-use Rattle.kernel_types.specs.Words.{is_link_of, is_own}
+use Rattle.kernel_types.specs.Terms.{is_link_of, is_own}
 use Rattle.kernel_types.proofs.Cases.{att_eq-refl, tag_eq-own, tag_eq-refl}
 use Rattle.kernel_types.proofs.ListLemmas.{list_all-weaker, list_any-weaker}
 use Rattle.kernel_types.specs.declared.object.Att.{Att}

@@ -7,7 +7,7 @@ use Rattle.cni_addr.specs.declared.address.Addr.{Addr}
 use Rattle.cni_addr.specs.declared.range.RangeSet.{RangeSet}
 use Rattle.ip_pool.specs.Pool.{pick_of}
 use Rattle.kernel_types.specs.Equal.{rule_eq}
-use Rattle.kernel_types.specs.Words.{is_own, has_named_ns, link_at, is_host_link, has_host_bridge}
+use Rattle.kernel_types.specs.Terms.{is_own, has_named_ns, link_at, is_host_link, has_host_bridge}
 use Rattle.kernel_types.specs.Apply.{apply}
 use Rattle.kernel_types.specs.Apply.Calls.{append_unless_taken, unless_there, bridge_or_new, new_bridge, new_gateway, new_forward, master_is_bridge_or_none, has_master, is_own_at, has_link_of, is_same_addr, is_same_route, is_same_setting, leased_addresses, last_leased, lease_taken, lease_next_of}
 use Rattle.kernel_types.specs.declared.object.Att.{Att}

@@ -6,7 +6,7 @@ use Rattle.kernel_types.specs.Apply.{apply}
 use Rattle.kernel_types.specs.Codes.{kind_eq}
 use Rattle.kernel_types.specs.Isolation.{names_att, ensures_shared, deletes_for}
 use Rattle.kernel_types.specs.Sound.{IsSound}
-use Rattle.kernel_types.specs.Words.{is_host_ns, is_owned}
+use Rattle.kernel_types.specs.Terms.{is_host_ns, is_owned}
 use Rattle.kernel_types.specs.declared.object.Att.{Att}
 use Rattle.kernel_types.specs.declared.object.Host.{Host}
 use Rattle.kernel_types.specs.declared.call.Call.{Call}
@@ -20,8 +20,7 @@ use Rattle.plugin_base.specs.Share.{Share, share_of, share_plus}
 abbrev pub is_call_of : Att → Call → Bool
 is_call_of att call = ensures_shared call || names_att att call
 
--- of an attachment's calls, one that no plugin makes: it begins, an address is leased, objects are deleted, or the kept
--- result is asked for
+-- of an attachment's calls, one that no plugin makes: it begins, an address is leased, objects are deleted, or the cached result is asked for
 abbrev pub is_beside_plugins : Call → Bool
 is_beside_plugins (Begin att netns) = true
 is_beside_plugins (LeaseNext att number set) = true

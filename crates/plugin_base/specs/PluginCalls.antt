@@ -3,7 +3,7 @@ use Rattle.std.specs.Prelude.{ℕ, Bool, true, false, not, ◌&&◌, ◌||◌, L
 use Rattle.std.specs.List.{list_any}
 use Rattle.std.specs.Str.{bytes_eq}
 use Rattle.kernel_types.specs.Apply.Calls.{is_own_at}
-use Rattle.kernel_types.specs.Words.{is_link_of}
+use Rattle.kernel_types.specs.Terms.{is_link_of}
 use Rattle.kernel_types.specs.declared.object.Att.{Att}
 use Rattle.kernel_types.specs.declared.object.Link.{Link}
 use Rattle.kernel_types.specs.declared.object.LinkKind.{LinkKind}
@@ -25,7 +25,7 @@ makes_interface bridge (VethAdd host_end inner_end) = true
 makes_interface bridge (MacvlanAdd link) = true
 makes_interface bridge call = false
 
--- it makes no link and keeps no result, and a setting that it makes is of this namespace
+-- it makes no link and caches no result, and a setting that it makes is of this namespace
 abbrev pub is_later_call : List ℕ → Call → Bool
 is_later_call netns (VethAdd host_end inner_end) = false
 is_later_call netns (MacvlanAdd link) = false

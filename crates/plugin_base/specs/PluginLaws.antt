@@ -5,7 +5,7 @@ use Rattle.cni_result.specs.declared.cached.PortMapping.{PortMapping}
 use Rattle.cni_result.specs.declared.result.AddResult.{AddResult}
 use Rattle.cni_result.specs.declared.result.IpEntry.{IpEntry}
 use Rattle.kernel_types.specs.Sound.{IsSound}
-use Rattle.kernel_types.specs.Words.{is_host_ns, is_macvlan, is_veth}
+use Rattle.kernel_types.specs.Terms.{is_host_ns, is_macvlan, is_veth}
 use Rattle.kernel_types.specs.declared.object.Att.{Att}
 use Rattle.kernel_types.specs.declared.object.Host.{Host}
 use Rattle.kernel_types.specs.declared.object.Link.{Link}
@@ -29,8 +29,7 @@ pub record AreCallsBefore (p : FirstPlugin) (att : Att) (netns : List ℕ) : Typ
   pub ensured : is_ensured p.bridge (p.calls_before att netns) ≡ true
   pub in_order : is_ensured_first p.bridge (p.calls_before att netns) ≡ true
 
--- its calls after them: each is the attachment's own, or ensures what all attachments share; they make no link, keep no
--- result, and add settings of the namespace alone; what they make is of its kinds; each lies on its links, and stands
+-- its calls after them: each is the attachment's own, or ensures what all attachments share; they make no link, cache no result, and add settings of the namespace alone; what they make is of its kinds; each lies on its links, and stands
 -- under no bridge but its own; none sets values of a link
 pub record AreCallsAfter (p : FirstPlugin) (att : Att) (netns : List ℕ) (given : List Given) : Type 0 where
   pub own : list_all (is_plugin_call_of att) (p.calls_after att netns given) ≡ true

@@ -15,7 +15,7 @@ use Rattle.kernel_types.specs.declared.call.Given.{Given}
 use Rattle.kernel_types.specs.declared.call.Kind.{Kind}
 use Rattle.plugin_base.specs.Share.{Share, no_objects}
 
--- ---- the plugin that makes the interface, the first of a list
+-- ---- the first plugin of a list, which makes the interface
 
 -- what it does, by the attachment, its namespace and the leased addresses
 pub record FirstPlugin : Type 0 where

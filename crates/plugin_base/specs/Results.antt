@@ -1,4 +1,4 @@
--- What a plugin that makes an interface adds to the address plugin's result (CNI specification, section 4, "IPAM
+-- What a first plugin adds to the address plugin's result (CNI specification, section 4, "IPAM
 -- plugins"), and the interfaces that a result names.
 use Rattle.std.specs.Prelude.{ℕ, Bool, true, false, List, [], ◌∷◌, map, Option, Some, None}
 use Rattle.std.specs.Str.{bytes_eq}

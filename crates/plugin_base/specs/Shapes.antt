@@ -25,7 +25,7 @@ use Rattle.kernel_types.specs.declared.rule.Target.{Target}
 use Rattle.kernel_types.specs.declared.rule.Target.TheVariants.{Accept, Masquerade}
 use Rattle.kernel_types.specs.Apply.Calls.{is_same_addr, is_same_route}
 use Rattle.kernel_types.specs.Equal.{rule_eq}
-use Rattle.kernel_types.specs.Words.{new_link}
+use Rattle.kernel_types.specs.Terms.{new_link}
 use Rattle.kernel_types.specs.declared.call.Call.{Call}
 use Rattle.kernel_types.specs.declared.call.Call.TheVariants.{ForwardEnsure}
 use Rattle.kernel_types.specs.declared.call.Given.{Given}

@@ -1,6 +1,6 @@
 -- What an attachment has in a host, and what calls add to it.
 use Rattle.std.specs.Prelude.{List, [], ◌∷◌, ◌++◌, fold, map, filter}
-use Rattle.kernel_types.specs.Words.{is_own}
+use Rattle.kernel_types.specs.Terms.{is_own}
 use Rattle.kernel_types.specs.Apply.Calls.{set_link}
 use Rattle.kernel_types.specs.declared.object.Att.{Att}
 use Rattle.kernel_types.specs.declared.object.Link.{Link}

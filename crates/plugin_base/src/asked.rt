@@ -2,7 +2,7 @@
 
 use crate::key_writes::{hash_addr, hash_cidr, hash_rule};
 use cni_addr::NoMemory;
-use kernel_types::words::{is_same_addr, is_same_route, is_same_setting};
+use kernel_types::terms::{is_same_addr, is_same_route, is_same_setting};
 use kernel_types::{AddrObj, Call, RefCounted, RouteObj, Rule, Setting};
 use std::alloc::Global;
 use std::hash::{Hash, Hasher};

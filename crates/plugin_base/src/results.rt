@@ -1,4 +1,4 @@
-//! How a plugin that makes an interface completes the address plugin's result.
+//! How a first plugin completes the address plugin's result.
 
 ghost use Rattle.std.specs.Prelude.{◌≡◌, map, IfOk};
 ghost use Rattle.plugin_base.specs.Results as results;

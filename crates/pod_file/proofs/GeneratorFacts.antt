@@ -14,7 +14,7 @@ use Rattle.std.proofs.lemmas.Slice.Eq.{bytes_eq-Decides}
 use Rattle.cni_addr.proofs.Lists.{list_all-append}
 use Rattle.cni_addr.specs.Lists.{distinct}
 use Rattle.kernel_types.specs.Opening.{AreNamespaceNames}
-use Rattle.kernel_types.specs.Words.{is_host_ns}
+use Rattle.kernel_types.specs.Terms.{is_host_ns}
 use Rattle.pod_file.proofs.CommandFacts.{AreCommands, count-all_numbered}
 use Rattle.pod_file.proofs.OpeningFacts.{opening_with-ok, no_links}
 use Rattle.pod_file.proofs.PodFacts.{numbered_by-ok}

@@ -5,7 +5,7 @@ use Rattle.std.specs.List.{list_any}
 use Rattle.std.specs.Str.{bytes_eq}
 use Rattle.std.proofs.lemmas.List.Folds.{list_any-append}
 use Rattle.std.proofs.lemmas.Slice.Eq.{bytes_eq-Decides}
-use Rattle.kernel_types.specs.Words.{is_at}
+use Rattle.kernel_types.specs.Terms.{is_at}
 use Rattle.kernel_types.specs.declared.object.Link.{Link}
 use Rattle.pod_file.specs.Indexed.{HasNames, Place, place_eq, HasPlaces}
 

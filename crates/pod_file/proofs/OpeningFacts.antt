@@ -14,7 +14,7 @@ use Rattle.kernel_types.proofs.SoundOpening.{IsSound-opening_with}
 use Rattle.kernel_types.specs.Equal.{tag_eq}
 use Rattle.kernel_types.specs.Opening.{opening_with, AreNamespaceNames, AreOutsideLinks, is_outside_link}
 use Rattle.kernel_types.specs.Sound.{is_unowned_kind}
-use Rattle.kernel_types.specs.Words.{is_at, is_host_ns, is_host_or_ns, outside_namespace}
+use Rattle.kernel_types.specs.Terms.{is_at, is_host_ns, is_host_or_ns, outside_namespace}
 use Rattle.kernel_types.specs.declared.object.Host.{Host}
 use Rattle.kernel_types.specs.declared.object.Link.{Link}
 use Rattle.kernel_types.specs.declared.object.LinkKind.{LinkKind}
@@ -82,7 +82,7 @@ kind_at-ok : (index : ℕ) (d : Data) (kind : LinkKind) → kind_at index d ≡ 
 unfolding kind_at
 kind_at-ok index d kind is = kind_of-ok index (text_field (codes "kind") d) kind is
 
--- the host, or a namespace of these names
+-- the host's own namespace, or one of these names
 abbrev IsPlace : List (List ℕ) → List ℕ → Type 0
 IsPlace names ns = is_host_or_ns (map outside_namespace names) ns ≡ true
 

@@ -85,7 +85,7 @@ texts_at place verb d = do
   args ← text_at place (codes "args") [] d
   Ok (record { network = network; container = container; netns = netns; ifname = ifname; args = args })
 
--- ---- the table, and when to stop or to fail
+-- ---- the table, the stop and the faults
 
 abbrev pub no_table : CommandPlace → Verb → Result (Option Table) PodError
 no_table place verb = if needs_table verb then wrong_key place (codes "table") else Ok None
@@ -114,11 +114,11 @@ abbrev pub fault_of : CommandPlace → Option ℕ → Result ℕ PodError
 fault_of place None = wrong_key place (codes "faults")
 fault_of place (Some n) = tested (wrong_key place (codes "faults")) is_call_number n
 
--- a call that fails
+-- the number of a fault
 abbrev pub fault_at : CommandPlace → Data → Result ℕ PodError
 fault_at place d = fault_of place (u32_of d)
 
--- the calls that fail, in any order
+-- the numbers of the faults, in any order
 unfoldable pub faults_at : CommandPlace → Data → Result (List ℕ) PodError
 faults_at place d = list_at place (codes "faults") (fault_at place) d
 

@@ -1,4 +1,4 @@
--- A workload that a number alone gives: a network, and containers that are added, checked, half of them deleted,
+-- A plan that a number alone gives: a network, and containers that are added, checked, half of them deleted,
 -- collected and checked again. It is this project's own.
 use Rattle.std.specs.Prelude.{ℕ, ◌+◌, ◌%◌, ◌==◌, ◌++◌, List, [], ◌∷◌, map, filter, codes, decimal, true, false, Some, None}
 use Rattle.std.specs.List.{range_with_len}
@@ -39,7 +39,7 @@ ipv4 bits = record { family = V4; bits = bits }
 abbrev pub tens : Cidr
 tens = record { addr = ipv4 0x0a00_0000; prefix = 8 }
 
--- what a range is by default: from the first host, which is the gateway's, to the last
+-- what a range is by default: from the subnet's second address, which is the gateway's, to its last but one
 abbrev pub range_of_tens : Range
 range_of_tens = record {
   subnet = tens;

@@ -2,7 +2,7 @@
 use Rattle.std.specs.Prelude.{◌≡◌, ℕ, List, Bool, ◌&&◌}
 use Rattle.std.specs.List.{list_any}
 use Rattle.std.specs.Str.{bytes_eq}
-use Rattle.kernel_types.specs.Words.{is_at}
+use Rattle.kernel_types.specs.Terms.{is_at}
 use Rattle.kernel_types.specs.declared.object.Link.{Link}
 
 -- the test tells which names these are

@@ -9,7 +9,7 @@ use Rattle.cni_json.specs.Fields.{text_field, list_field, u64_field, member_or, 
 use Rattle.cni_json.specs.declared.fields.Field.{Field}
 use Rattle.kernel_types.specs.Names.{link_mac_of}
 use Rattle.kernel_types.specs.Texts.{link_kind_text}
-use Rattle.kernel_types.specs.Words.{is_host_ns, is_at, new_link}
+use Rattle.kernel_types.specs.Terms.{is_host_ns, is_at, new_link}
 use Rattle.kernel_types.specs.declared.object.Link.{Link}
 use Rattle.kernel_types.specs.declared.object.LinkKind.{LinkKind}
 use Rattle.kernel_types.specs.declared.object.LinkKind.TheVariants.{Bridge, Device}
@@ -57,7 +57,7 @@ kind_of index f =
 unfoldable pub kind_at : ℕ → Data → Result LinkKind PodError
 kind_at index d = kind_of index (text_field (codes "kind") d)
 
--- the host, or a namespace of these names
+-- the host's own namespace, or one of these names
 abbrev pub is_place : List (List ℕ) → List ℕ → Bool
 is_place names ns = is_host_ns ns || list_any (bytes_eq ns) names
 
@@ -67,7 +67,7 @@ place_named names index text = tested (wrong_link index) (is_place names) text
 abbrev pub ns_of : List (List ℕ) → ℕ → Field (List ℕ) → Result (List ℕ) PodError
 ns_of names index f = member_or (Ok []) (wrong_link index) (place_named names index) f
 
--- the namespace that the link is in; the empty text is the host
+-- the namespace that the link is in; the empty text is the host's own
 unfoldable pub ns_at : List (List ℕ) → ℕ → Data → Result (List ℕ) PodError
 ns_at names index d = ns_of names index (text_field (codes "ns") d)
 

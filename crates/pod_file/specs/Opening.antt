@@ -1,4 +1,4 @@
--- The host as it is found.
+-- The opening.
 use Rattle.std.specs.Prelude.{ℕ, ◌||◌, Bool, List, [], length, codes, if◌then◌else◌, Result, Ok}
 use Rattle.std.specs.List.{list_any}
 use Rattle.std.specs.Str.{bytes_eq}
@@ -7,7 +7,7 @@ use Rattle.cni_json.specs.Fields.{object_field, member_or}
 use Rattle.cni_json.specs.Outcome.{◌>>=◌}
 use Rattle.cni_json.specs.declared.fields.Field.{Field}
 use Rattle.kernel_types.specs.Opening.{opening_with}
-use Rattle.kernel_types.specs.Words.{is_host_ns}
+use Rattle.kernel_types.specs.Terms.{is_host_ns}
 use Rattle.kernel_types.specs.declared.object.Host.{Host}
 use Rattle.pod_file.specs.Links.{links_at, listed_at}
 use Rattle.pod_file.specs.Refusals.{wrong, member_path}

@@ -3,7 +3,7 @@
 ghost use Rattle.std.specs.Prelude.{◌≡◌};
 ghost use Rattle.serde_json.specs.View.{view};
 ghost use Rattle.cni_json.specs.Outcome.{Gives};
-ghost use Rattle.pod_file.specs.Commands as wanted;
+ghost use Rattle.pod_file.specs.Commands as defined;
 ghost use Rattle.pod_file.specs.Refusals.{is_out_of_memory};
 
 use crate::command::{Command, Verb, verb_named};
@@ -32,7 +32,7 @@ pub(crate) fn read_command(
     place: CommandPlace,
     value: &Value,
 ) -> Result<Command, PodError>
-    ensures { Gives is_out_of_memory result (wanted.command_at place (view value.now)) }
+    ensures { Gives is_out_of_memory result (defined.command_at place (view value.now)) }
 {
     need_object(value, || wrong_command(alloc, place))?;
     let verb = verb(alloc, place, value)?;
@@ -60,7 +60,7 @@ pub(crate) fn read_command(
 
 #[tactic(auto, using(cni_json::proofs::Steps::steps), unfolding(crate::specs::Commands::verb_at))]
 fn verb(alloc: Global, place: CommandPlace, command: &Value) -> Result<Verb, PodError>
-    ensures { Gives is_out_of_memory result (wanted.verb_at place (view command.now)) }
+    ensures { Gives is_out_of_memory result (defined.verb_at place (view command.now)) }
 {
     match field_str(command, "verb") {
         Field::Absent | Field::WrongKind => Err(wrong_key(alloc, place, "verb")),
@@ -75,7 +75,7 @@ fn texts(
     verb: Verb,
     command: &Value,
 ) -> Result<CommandTexts, PodError>
-    ensures { Gives is_out_of_memory result (wanted.texts_at place verb (view command.now)) }
+    ensures { Gives is_out_of_memory result (defined.texts_at place verb (view command.now)) }
 {
     let network = network(alloc, place, verb, command)?;
     let container = text(alloc, place, "container", "", command)?;
@@ -98,7 +98,7 @@ fn network(
     verb: Verb,
     command: &Value,
 ) -> Result<Text, PodError>
-    ensures { Gives is_out_of_memory result (wanted.network_at place verb (view command.now)) }
+    ensures { Gives is_out_of_memory result (defined.network_at place verb (view command.now)) }
 {
     if verb.is_of_network() {
         needed_text(alloc, place, "network", "network", command)
@@ -114,7 +114,7 @@ fn table(
     verb: Verb,
     command: &Value,
 ) -> Result<Option<Table>, PodError>
-    ensures { Gives is_out_of_memory result (wanted.table_at place verb (view command.now)) }
+    ensures { Gives is_out_of_memory result (defined.table_at place verb (view command.now)) }
 {
     match field_str(command, "table") {
         Field::Absent if verb.needs_table() => Err(wrong_key(alloc, place, "table")),
@@ -128,7 +128,7 @@ fn table(
 
 #[tactic(auto, using(cni_json::proofs::Steps::steps), unfolding(crate::specs::Commands::stop_at))]
 fn stop(alloc: Global, place: CommandPlace, command: &Value) -> Result<Option<u32>, PodError>
-    ensures { Gives is_out_of_memory result (wanted.stop_at place (view command.now)) }
+    ensures { Gives is_out_of_memory result (defined.stop_at place (view command.now)) }
 {
     match field_u32(command, "stop") {
         Field::Absent => Ok(None),
@@ -139,7 +139,7 @@ fn stop(alloc: Global, place: CommandPlace, command: &Value) -> Result<Option<u3
 
 #[tactic(auto, using(cni_json::proofs::Steps::steps), unfolding(crate::specs::Commands::faults_at))]
 fn faults(alloc: Global, place: CommandPlace, command: &Value) -> Result<Items<u32>, PodError>
-    ensures { Gives is_out_of_memory result (wanted.faults_at place (view command.now)) }
+    ensures { Gives is_out_of_memory result (defined.faults_at place (view command.now)) }
 {
     list(
         alloc,
@@ -152,7 +152,7 @@ fn faults(alloc: Global, place: CommandPlace, command: &Value) -> Result<Items<u
 
 #[tactic(auto, using(cni_json::proofs::Steps::steps))]
 fn fault(alloc: Global, place: CommandPlace, member: &Value) -> Result<u32, PodError>
-    ensures { Gives is_out_of_memory result (wanted.fault_at place (view member.now)) }
+    ensures { Gives is_out_of_memory result (defined.fault_at place (view member.now)) }
 {
     match u32_of(member) {
         Some(number) if number != 0 => Ok(number),

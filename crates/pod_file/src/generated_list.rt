@@ -2,7 +2,7 @@
 
 ghost use Rattle.std.specs.Prelude.{◌≡◌, IfOk};
 ghost use Rattle.cni_addr.specs.declared.address.Family.TheVariants.{V4};
-ghost use Rattle.pod_file.specs.Generator as wanted;
+ghost use Rattle.pod_file.specs.Generator as defined;
 
 use cni_addr::{Addr, Cidr, Family, Items, NoMemory, Range, RangeSet, Text};
 use cni_result::{Version, no_dns};
@@ -15,8 +15,8 @@ use std::alloc::Global;
 
 /// The network list of the generator, whose name is given.
 pub(crate) fn generated_list(alloc: Global, name: Text) -> Result<NetList, NoMemory>
-    requires { name ≡ wanted.network_name }
-    ensures { IfOk result (λ list. list ≡ wanted.generated_list) }
+    requires { name ≡ defined.network_name }
+    ensures { IfOk result (λ list. list ≡ defined.generated_list) }
 {
     Ok(NetList {
         version: Version::V1_1,
@@ -29,7 +29,7 @@ pub(crate) fn generated_list(alloc: Global, name: Text) -> Result<NetList, NoMem
 }
 
 fn gateway_bridge(alloc: Global) -> Result<BridgeConf, NoMemory>
-    ensures { IfOk result (λ conf. conf ≡ wanted.gateway_bridge) }
+    ensures { IfOk result (λ conf. conf ≡ defined.gateway_bridge) }
 {
     Ok(BridgeConf {
         bridge: BridgeName::of(Text::of(alloc, "cni0")?),
@@ -43,7 +43,7 @@ fn gateway_bridge(alloc: Global) -> Result<BridgeConf, NoMemory>
 }
 
 fn addresses_of_tens(alloc: Global) -> Result<HostLocalConf, NoMemory>
-    ensures { IfOk result (λ conf. conf ≡ wanted.addresses_of_tens) }
+    ensures { IfOk result (λ conf. conf ≡ defined.addresses_of_tens) }
 {
     let mut ranges = Items::new(alloc);
     ranges.push(range_of_tens())?;
@@ -55,9 +55,9 @@ fn addresses_of_tens(alloc: Global) -> Result<HostLocalConf, NoMemory>
     })
 }
 
-/// 10.0.0.0/8, from its first host to its last.
+/// 10.0.0.0/8, from its second address to its last but one.
 fn range_of_tens() -> Range
-    ensures { result ≡ wanted.range_of_tens }
+    ensures { result ≡ defined.range_of_tens }
 {
     let first = ipv4(0x0a00_0001);
     Range {
@@ -69,7 +69,7 @@ fn range_of_tens() -> Range
 }
 
 fn tens() -> Cidr
-    ensures { result ≡ wanted.tens }
+    ensures { result ≡ defined.tens }
 {
     Cidr {
         addr: ipv4(0x0a00_0000),
@@ -78,7 +78,7 @@ fn tens() -> Cidr
 }
 
 fn ipv4(bits: u32) -> Addr
-    ensures { result ≡ wanted.ipv4 bits }
+    ensures { result ≡ defined.ipv4 bits }
 {
     Addr {
         family: Family::V4,
@@ -87,7 +87,7 @@ fn ipv4(bits: u32) -> Addr
 }
 
 fn later_plugins(alloc: Global) -> Result<ChainedPlugins, NoMemory>
-    ensures { IfOk result (λ plugins. plugins ≡ wanted.later_plugins) }
+    ensures { IfOk result (λ plugins. plugins ≡ defined.later_plugins) }
 {
     let mut plugins = Items::new(alloc);
     plugins.push(Chained::Portmap(PortmapConf {

@@ -1,7 +1,7 @@
-//! A workload that a number alone gives, for runs on many containers.
+//! A plan that a number alone gives, for runs on many containers.
 
 ghost use Rattle.std.specs.Prelude.{◌≡◌, ◌+◌, ◌%◌, ◌==◌, ◌<◌, ◌≤◌, [], ◌∷◌, map, filter, length, IfOk};
-ghost use Rattle.pod_file.specs.Generator as wanted;
+ghost use Rattle.pod_file.specs.Generator as defined;
 ghost use Rattle.pod_file.specs.Rounds.{are_few};
 
 use crate::command::{Command, RawMapping, ValidAtt, Verb};
@@ -47,13 +47,13 @@ pub(crate) struct SharedTexts {
     pub empty: Text,
 }
 
-/// The workload of so many containers: they are added and checked; then those of an even number are deleted, all but
+/// The plan of so many containers: they are added and checked; then those of an even number are deleted, all but
 /// each fourth are collected, and these are checked again. A text that several commands have is made once. It takes
 /// time and memory in proportion to the number.
 pub fn generate(alloc: Global, count: u32) -> Result<Generated, NoMemory>
     requires some { 1 ≤ count }
-    requires few { count ≤ wanted.most_containers }
-    ensures { IfOk result (λ made. made ≡ wanted.generated count) }
+    requires few { count ≤ defined.most_containers }
+    ensures { IfOk result (λ made. made ≡ defined.generated count) }
 {
     let texts = shared_texts(alloc)?;
     let containers = containers(alloc, count)?;
@@ -63,7 +63,7 @@ pub fn generate(alloc: Global, count: u32) -> Result<Generated, NoMemory>
 }
 
 fn shared_texts(alloc: Global) -> Result<SharedTexts, NoMemory>
-    ensures { IfOk result (λ texts. texts ≡ wanted.shared_texts) }
+    ensures { IfOk result (λ texts. texts ≡ defined.shared_texts) }
 {
     Ok(SharedTexts {
         network: Text::of(alloc, "gen")?,
@@ -75,8 +75,8 @@ fn shared_texts(alloc: Global) -> Result<SharedTexts, NoMemory>
 
 /// The containers of the numbers from 1 on.
 fn containers(alloc: Global, count: u32) -> Result<Items<Container>, NoMemory>
-    requires { count ≤ wanted.most_containers }
-    ensures { IfOk result (λ containers. containers ≡ wanted.containers count) }
+    requires { count ≤ defined.most_containers }
+    ensures { IfOk result (λ containers. containers ≡ defined.containers count) }
 {
     let mut containers = Vec::with_capacity(alloc, count as usize)?;
     for before in 0..count {
@@ -86,7 +86,7 @@ fn containers(alloc: Global, count: u32) -> Result<Items<Container>, NoMemory>
 }
 
 fn container_of(alloc: Global, number: u32) -> Result<Container, NoMemory>
-    ensures { IfOk result (λ container. container ≡ wanted.container_of number) }
+    ensures { IfOk result (λ container. container ≡ defined.container_of number) }
 {
     let name = format!(in alloc; "p{number}")?;
     let netns = format!(in alloc; "/ns/p{number}")?;
@@ -98,9 +98,9 @@ fn container_of(alloc: Global, number: u32) -> Result<Container, NoMemory>
 }
 
 fn pods_for(alloc: Global, texts: &SharedTexts, containers: &[Container]) -> Result<Pods, NoMemory>
-    requires texts { texts.now ≡ wanted.shared_texts }
-    requires few { length containers.now ≤ wanted.most_containers }
-    ensures { IfOk result (λ pods. pods ≡ wanted.pods_for containers.now) }
+    requires texts { texts.now ≡ defined.shared_texts }
+    requires few { length containers.now ≤ defined.most_containers }
+    ensures { IfOk result (λ pods. pods ≡ defined.pods_for containers.now) }
 {
     let opening = opening_for(alloc, containers)?;
     let rounds = rounds_for(alloc, texts, containers)?;
@@ -113,14 +113,14 @@ fn pods_for(alloc: Global, texts: &SharedTexts, containers: &[Container]) -> Res
 
 /// The host on which each container's namespace is.
 fn opening_for(alloc: Global, containers: &[Container]) -> Result<Host, NoMemory>
-    ensures { IfOk result (λ host. host ≡ wanted.opening_for containers.now) }
+    ensures { IfOk result (λ host. host ≡ defined.opening_for containers.now) }
 {
     let names = namespaces_of(alloc, containers)?;
     opening_with(alloc, names.as_slice(), Items::new(alloc))
 }
 
 fn namespaces_of(alloc: Global, containers: &[Container]) -> Result<Items<Text>, NoMemory>
-    ensures { IfOk result (λ names. names ≡ wanted.namespaces_of containers.now) }
+    ensures { IfOk result (λ names. names ≡ defined.namespaces_of containers.now) }
 {
     let mut names = Vec::with_capacity(alloc, containers.len())?;
     for container in containers {
@@ -134,8 +134,8 @@ fn rounds_for(
     texts: &SharedTexts,
     containers: &[Container],
 ) -> Result<Items<Items<Command>>, NoMemory>
-    requires { texts.now ≡ wanted.shared_texts }
-    ensures { IfOk result (λ rounds. rounds ≡ wanted.rounds_for containers.now) }
+    requires { texts.now ≡ defined.shared_texts }
+    ensures { IfOk result (λ rounds. rounds ≡ defined.rounds_for containers.now) }
 {
     let deleted = leaving(alloc, 2, 0, containers)?;
     let kept = leaving(alloc, 4, 1, containers)?;
@@ -156,7 +156,7 @@ fn leaving(
     containers: &[Container],
 ) -> Result<Items<Container>, NoMemory>
     requires { 0 < divisor }
-    ensures { IfOk result (λ chosen. chosen ≡ wanted.leaving divisor rest containers.now) }
+    ensures { IfOk result (λ chosen. chosen ≡ defined.leaving divisor rest containers.now) }
 {
     let mut chosen = Items::new(alloc);
     for container in containers {
@@ -174,8 +174,8 @@ fn commands_of(
     verb: Verb,
     containers: &[Container],
 ) -> Result<Items<Command>, NoMemory>
-    requires { texts.now ≡ wanted.shared_texts }
-    ensures { IfOk result (λ commands. commands ≡ map (wanted.command_of verb) containers.now) }
+    requires { texts.now ≡ defined.shared_texts }
+    ensures { IfOk result (λ commands. commands ≡ map (defined.command_of verb) containers.now) }
 {
     let mut commands = Vec::with_capacity(alloc, containers.len())?;
     for container in containers {
@@ -190,8 +190,8 @@ fn command_of(
     verb: Verb,
     container: &Container,
 ) -> Result<Command, NoMemory>
-    requires { texts.now ≡ wanted.shared_texts }
-    ensures { IfOk result (λ command. command ≡ wanted.command_of verb container.now) }
+    requires { texts.now ≡ defined.shared_texts }
+    ensures { IfOk result (λ command. command ≡ defined.command_of verb container.now) }
 {
     let mut mappings = Items::new(alloc);
     mappings.push(mapping_of(texts, container)?)?;
@@ -212,8 +212,8 @@ fn command_of(
 }
 
 fn mapping_of(texts: &SharedTexts, container: &Container) -> Result<RawMapping, NoMemory>
-    requires { texts.now ≡ wanted.shared_texts }
-    ensures { IfOk result (λ mapping. mapping ≡ wanted.mapping_of container.now) }
+    requires { texts.now ≡ defined.shared_texts }
+    ensures { IfOk result (λ mapping. mapping ≡ defined.mapping_of container.now) }
 {
     Ok(RawMapping {
         host_port: 1024 + u64::from(container.number),
@@ -223,14 +223,14 @@ fn mapping_of(texts: &SharedTexts, container: &Container) -> Result<RawMapping, 
     })
 }
 
-/// A round with a collection that keeps these containers.
+/// A round with a GC that keeps these containers.
 fn collection_round(
     alloc: Global,
     texts: &SharedTexts,
     kept: &[Container],
 ) -> Result<Items<Command>, NoMemory>
-    requires { texts.now ≡ wanted.shared_texts }
-    ensures { IfOk result (λ commands. commands ≡ wanted.collection_of kept.now ∷ []) }
+    requires { texts.now ≡ defined.shared_texts }
+    ensures { IfOk result (λ commands. commands ≡ defined.collection_of kept.now ∷ []) }
 {
     let mut commands = Items::new(alloc);
     commands.push(collection_of(alloc, texts, kept)?)?;
@@ -242,8 +242,8 @@ fn collection_of(
     texts: &SharedTexts,
     kept: &[Container],
 ) -> Result<Command, NoMemory>
-    requires { texts.now ≡ wanted.shared_texts }
-    ensures { IfOk result (λ command. command ≡ wanted.collection_of kept.now) }
+    requires { texts.now ≡ defined.shared_texts }
+    ensures { IfOk result (λ command. command ≡ defined.collection_of kept.now) }
 {
     Ok(Command {
         number: 0,
@@ -266,8 +266,8 @@ fn attachments_of(
     texts: &SharedTexts,
     containers: &[Container],
 ) -> Result<Items<ValidAtt>, NoMemory>
-    requires { texts.now ≡ wanted.shared_texts }
-    ensures { IfOk result (λ attachments. attachments ≡ map wanted.attachment_of containers.now) }
+    requires { texts.now ≡ defined.shared_texts }
+    ensures { IfOk result (λ attachments. attachments ≡ map defined.attachment_of containers.now) }
 {
     let mut attachments = Vec::with_capacity(alloc, containers.len())?;
     for container in containers {

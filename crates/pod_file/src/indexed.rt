@@ -3,7 +3,7 @@
 ghost use Rattle.std.specs.Prelude.{◌≡◌, [], ◌∷◌, ◌++◌, IfOk};
 ghost use Rattle.std.specs.List.{list_any};
 ghost use Rattle.std.specs.Str.{bytes_eq};
-ghost use Rattle.kernel_types.specs.Words.{is_at};
+ghost use Rattle.kernel_types.specs.Terms.{is_at};
 
 use cni_addr::{Duplicate, Items, NoMemory, Text};
 use kernel_types::Link;

@@ -1,4 +1,4 @@
-//! What every pod file that is read keeps, and what every generated workload does. The functions do nothing: what they
+//! What every pod file that is read keeps, and what every generated plan does. The functions do nothing: what they
 //! ensure are the laws, and a proof above this crate gets them by calling the function, or by the lemma that its answer
 //! names.
 
@@ -19,7 +19,7 @@ pub fn pod_file_laws()
     ensures well_formed { (bytes : List ℕ) (pods : Pods) → pods_of bytes ≡ Ok pods → IsWellFormedPods pods }
 {}
 
-/// A generated workload keeps what everything keeps that is read: its list and its pods are well formed. All of its
+/// A generated plan keeps what everything keeps that is read: its list and its pods are well formed. All of its
 /// commands are of its own network; for 1, 10 and 1000 containers they are 4, 29 and 2751.
 pub fn generator_laws()
     ensures list { IsWellFormedList generated_list }

@@ -1,4 +1,4 @@
-//! Pod files: an opening host, and rounds of commands for containers' attachments.
+//! Pod files: an opening, and rounds of commands for containers' attachments.
 //!
 //! What it promises above: [`read_pods`] gives exactly the pod file that the definition `pods_of` of the bytes is
 //! (`specs/PodFile.antt`), or its first refusal with the place that is wrong, for every byte string. The types carry

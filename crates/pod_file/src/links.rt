@@ -4,7 +4,7 @@ ghost use Rattle.std.specs.Prelude.{◌≡◌, [], codes};
 ghost use Rattle.serde_json.specs.View.{view, items_view};
 ghost use Rattle.cni_json.specs.Each.{each_after};
 ghost use Rattle.cni_json.specs.Outcome.{Gives, TellsAs};
-ghost use Rattle.pod_file.specs.Links as wanted;
+ghost use Rattle.pod_file.specs.Links as defined;
 ghost use Rattle.pod_file.specs.Refusals.{is_out_of_memory, member_path};
 ghost use Rattle.pod_file.specs.declared.error.PodError.TheVariants as refusal;
 
@@ -12,7 +12,7 @@ use crate::error::{PodError, wrong, wrong_member};
 use crate::indexed::{Names, PlacedLinks};
 use cni_addr::{Items, Text};
 use cni_json::{Field, Value, field_list, field_str, field_u64, need_object};
-use kernel_types::words::is_host_ns;
+use kernel_types::terms::is_host_ns;
 use kernel_types::{Link, LinkKey, LinkKind, Tag, link_kind_text, link_mac};
 use net_conf::{DEFAULT_MTU, is_interface_name, is_mtu};
 use std::alloc::Global;
@@ -23,7 +23,7 @@ const KINDS: [LinkKind; 2] = [LinkKind::Device, LinkKind::Bridge];
 /// The links, none where there is no list of them.
 #[tactic(auto, using(cni_json::proofs::Steps::steps), unfolding(crate::specs::Links::listed_at, crate::specs::Links::links_at))]
 pub(crate) fn links(alloc: Global, names: &Names, opening: &Value) -> Result<Items<Link>, PodError>
-    ensures { Gives is_out_of_memory result (wanted.links_at names.now (view opening.now)) }
+    ensures { Gives is_out_of_memory result (defined.links_at names.now (view opening.now)) }
 {
     match field_list(opening, "links") {
         Field::Absent => Ok(Items::new(alloc)),
@@ -35,7 +35,7 @@ pub(crate) fn links(alloc: Global, names: &Names, opening: &Value) -> Result<Ite
 #[tactic(auto, using(cni_json::proofs::Steps::steps))]
 fn all_links(alloc: Global, names: &Names, list: &[Value]) -> Result<Items<Link>, PodError>
     ensures { Gives is_out_of_memory result
-        (each_after (wanted.next_link names.now) [] (items_view list.now)) }
+        (each_after (defined.next_link names.now) [] (items_view list.now)) }
 {
     let mut links = PlacedLinks::new(alloc);
     for member in list {
@@ -51,7 +51,7 @@ fn next_link(
     before: &PlacedLinks,
     member: &Value,
 ) -> Result<Link, PodError>
-    ensures { Gives is_out_of_memory result (wanted.next_link names.now before.now (view member.now)) }
+    ensures { Gives is_out_of_memory result (defined.next_link names.now before.now (view member.now)) }
 {
     link(alloc, names, before, before.as_slice().len(), member)
 }
@@ -64,7 +64,7 @@ fn link(
     index: usize,
     member: &Value,
 ) -> Result<Link, PodError>
-    ensures { Gives is_out_of_memory result (wanted.link_at names.now before.now index (view member.now)) }
+    ensures { Gives is_out_of_memory result (defined.link_at names.now before.now index (view member.now)) }
 {
     need_object(member, || wrong_link(alloc, index))?;
     let name = name(alloc, index, member)?;
@@ -79,7 +79,7 @@ fn link(
 
 /// A link that was made outside.
 fn outside_link(ns: Text, name: Text, kind: LinkKind, mtu: u32) -> Link
-    ensures { result ≡ wanted.outside_link ns name kind mtu }
+    ensures { result ≡ defined.outside_link ns name kind mtu }
 {
     let mac = link_mac(name.as_str());
     Link::new(LinkKey { ns, name }, kind, mac, mtu, Tag::Outside)
@@ -87,7 +87,7 @@ fn outside_link(ns: Text, name: Text, kind: LinkKind, mtu: u32) -> Link
 
 #[tactic(auto, using(cni_json::proofs::Steps::steps), unfolding(crate::specs::Links::name_at))]
 fn name(alloc: Global, index: usize, member: &Value) -> Result<Text, PodError>
-    ensures { Gives is_out_of_memory result (wanted.name_at index (view member.now)) }
+    ensures { Gives is_out_of_memory result (defined.name_at index (view member.now)) }
 {
     match field_str(member, "name") {
         Field::Here(name) if is_interface_name(name) => Ok(Text::of(alloc, name)?),
@@ -97,7 +97,7 @@ fn name(alloc: Global, index: usize, member: &Value) -> Result<Text, PodError>
 
 #[tactic(auto, using(cni_json::proofs::Steps::steps), unfolding(crate::specs::Links::kind_at))]
 fn kind(alloc: Global, index: usize, member: &Value) -> Result<LinkKind, PodError>
-    ensures { Gives is_out_of_memory result (wanted.kind_at index (view member.now)) }
+    ensures { Gives is_out_of_memory result (defined.kind_at index (view member.now)) }
 {
     match field_str(member, "kind") {
         Field::Absent | Field::WrongKind => Err(wrong_link(alloc, index)),
@@ -106,7 +106,7 @@ fn kind(alloc: Global, index: usize, member: &Value) -> Result<LinkKind, PodErro
 }
 
 fn kind_named(text: &str) -> Option<LinkKind>
-    ensures { result ≡ wanted.kind_named text.now }
+    ensures { result ≡ defined.kind_named text.now }
 {
     KINDS
         .iter()
@@ -116,7 +116,7 @@ fn kind_named(text: &str) -> Option<LinkKind>
 
 #[tactic(auto, using(cni_json::proofs::Steps::steps), unfolding(crate::specs::Links::ns_at))]
 fn ns(alloc: Global, names: &Names, index: usize, member: &Value) -> Result<Text, PodError>
-    ensures { Gives is_out_of_memory result (wanted.ns_at names.now index (view member.now)) }
+    ensures { Gives is_out_of_memory result (defined.ns_at names.now index (view member.now)) }
 {
     match field_str(member, "ns") {
         Field::Absent => Ok(Text::of(alloc, "")?),
@@ -127,7 +127,7 @@ fn ns(alloc: Global, names: &Names, index: usize, member: &Value) -> Result<Text
 
 #[tactic(auto, using(cni_json::proofs::Steps::steps))]
 fn place_named(alloc: Global, names: &Names, index: usize, ns: &str) -> Result<Text, PodError>
-    ensures { Gives is_out_of_memory result (wanted.place_named names.now index ns.now) }
+    ensures { Gives is_out_of_memory result (defined.place_named names.now index ns.now) }
 {
     let ns = Text::of(alloc, ns)?;
     if is_place(names, &ns) {
@@ -139,14 +139,14 @@ fn place_named(alloc: Global, names: &Names, index: usize, ns: &str) -> Result<T
 
 /// Whether the text is the host's, or the name of one of the namespaces.
 fn is_place(names: &Names, ns: &Text) -> bool
-    ensures { result ≡ wanted.is_place names.now ns.now }
+    ensures { result ≡ defined.is_place names.now ns.now }
 {
     is_host_ns(ns.as_str()) || names.contains(ns)
 }
 
 #[tactic(auto, using(cni_json::proofs::Steps::steps), unfolding(crate::specs::Links::mtu_at))]
 fn mtu(alloc: Global, index: usize, member: &Value) -> Result<u32, PodError>
-    ensures { Gives is_out_of_memory result (wanted.mtu_at index (view member.now)) }
+    ensures { Gives is_out_of_memory result (defined.mtu_at index (view member.now)) }
 {
     match field_u64(member, "mtu") {
         Field::Absent => Ok(DEFAULT_MTU),
@@ -162,7 +162,7 @@ fn not_taken(
     index: usize,
     place: &(Text, Text),
 ) -> Result<(), PodError>
-    ensures { Gives is_out_of_memory result (wanted.not_taken before.now index place.now.0 place.now.1) }
+    ensures { Gives is_out_of_memory result (defined.not_taken before.now index place.now.0 place.now.1) }
 {
     (!before.has_at(place))
         .then_some(())

@@ -7,7 +7,7 @@ ghost use Rattle.serde_json.specs.View.{view};
 ghost use Rattle.cni_json.specs.Fields.{object_or};
 ghost use Rattle.cni_json.specs.Outcome.{Gives};
 ghost use Rattle.cni_json.specs.Readers.{IsReader};
-ghost use Rattle.pod_file.specs.Members as wanted;
+ghost use Rattle.pod_file.specs.Members as defined;
 ghost use Rattle.pod_file.specs.Refusals.{is_out_of_memory, wrong_key};
 ghost use Rattle.pod_file.specs.declared.error.PodError.{PodError};
 
@@ -26,7 +26,7 @@ pub(crate) fn text(
     default: &str,
     command: &Value,
 ) -> Result<Text, PodError>
-    ensures { Gives is_out_of_memory result (wanted.text_at place key.now default.now (view command.now)) }
+    ensures { Gives is_out_of_memory result (defined.text_at place key.now default.now (view command.now)) }
 {
     inner_text(alloc, place, key, key, default, command)
 }
@@ -42,7 +42,7 @@ fn inner_text(
     object: &Value,
 ) -> Result<Text, PodError>
     ensures { Gives is_out_of_memory result
-        (wanted.inner_text_at place outer.now key.now default.now (view object.now)) }
+        (defined.inner_text_at place outer.now key.now default.now (view object.now)) }
 {
     match field_str(object, key) {
         Field::Absent => Ok(Text::of(alloc, default)?),
@@ -60,7 +60,7 @@ pub(crate) fn needed_text(
     key: &str,
     object: &Value,
 ) -> Result<Text, PodError>
-    ensures { Gives is_out_of_memory result (wanted.needed_text_at place outer.now key.now (view object.now)) }
+    ensures { Gives is_out_of_memory result (defined.needed_text_at place outer.now key.now (view object.now)) }
 {
     match field_str(object, key) {
         Field::Absent | Field::WrongKind => Err(wrong_key(alloc, place, outer)),
@@ -79,7 +79,7 @@ pub(crate) fn list<T: Drop, R: Fn(&Value) -> Result<T, PodError>>(
 ) -> Result<Items<T>, PodError>
     requires { R.IsAlwaysCallable read }
     ensures { (read_as : Data → Result T PodError) → IsReader is_out_of_memory R.Fn read read_as
-        → Gives is_out_of_memory result (wanted.list_at place key.now read_as (view command.now)) }
+        → Gives is_out_of_memory result (defined.list_at place key.now read_as (view command.now)) }
 {
     read_list_or(alloc, command, key, || wrong_key(alloc, place, key), read)
 }
@@ -91,7 +91,7 @@ pub(crate) fn mappings(
     place: CommandPlace,
     command: &Value,
 ) -> Result<Items<RawMapping>, PodError>
-    ensures { Gives is_out_of_memory result (wanted.mappings_at place (view command.now)) }
+    ensures { Gives is_out_of_memory result (defined.mappings_at place (view command.now)) }
 {
     list(
         alloc,
@@ -104,7 +104,7 @@ pub(crate) fn mappings(
 
 #[tactic(auto, using(cni_json::proofs::Steps::steps), unfolding(crate::specs::Members::mapping_at))]
 fn mapping(alloc: Global, place: CommandPlace, member: &Value) -> Result<RawMapping, PodError>
-    ensures { Gives is_out_of_memory result (wanted.mapping_at place (view member.now)) }
+    ensures { Gives is_out_of_memory result (defined.mapping_at place (view member.now)) }
 {
     need_object_in(alloc, place, "portMappings", member)?;
     let host_port = port(alloc, place, "hostPort", member)?;
@@ -133,7 +133,7 @@ fn need_object_in(
 
 #[tactic(auto, using(cni_json::proofs::Steps::steps), unfolding(crate::specs::Members::port_at))]
 fn port(alloc: Global, place: CommandPlace, key: &str, mapping: &Value) -> Result<u64, PodError>
-    ensures { Gives is_out_of_memory result (wanted.port_at place key.now (view mapping.now)) }
+    ensures { Gives is_out_of_memory result (defined.port_at place key.now (view mapping.now)) }
 {
     match field_u64(mapping, key) {
         Field::Absent => Ok(0),
@@ -149,7 +149,7 @@ fn mapping_text(
     key: &str,
     mapping: &Value,
 ) -> Result<Text, PodError>
-    ensures { Gives is_out_of_memory result (wanted.mapping_text_at place key.now (view mapping.now)) }
+    ensures { Gives is_out_of_memory result (defined.mapping_text_at place key.now (view mapping.now)) }
 {
     inner_text(alloc, place, "portMappings", key, "", mapping)
 }
@@ -161,7 +161,7 @@ pub(crate) fn valid_attachments(
     place: CommandPlace,
     command: &Value,
 ) -> Result<Items<ValidAtt>, PodError>
-    ensures { Gives is_out_of_memory result (wanted.valid_at place (view command.now)) }
+    ensures { Gives is_out_of_memory result (defined.valid_at place (view command.now)) }
 {
     list(
         alloc,
@@ -178,7 +178,7 @@ fn valid_attachment(
     place: CommandPlace,
     member: &Value,
 ) -> Result<ValidAtt, PodError>
-    ensures { Gives is_out_of_memory result (wanted.valid_attachment_at place (view member.now)) }
+    ensures { Gives is_out_of_memory result (defined.valid_attachment_at place (view member.now)) }
 {
     let container = needed_text(alloc, place, "valid", "containerID", member)?;
     let ifname = needed_text(alloc, place, "valid", "ifname", member)?;

@@ -4,7 +4,7 @@ ghost use Rattle.std.specs.Prelude.{◌≡◌, [], codes};
 ghost use Rattle.serde_json.specs.View.{view, items_view};
 ghost use Rattle.cni_json.specs.Each.{each_after};
 ghost use Rattle.cni_json.specs.Outcome.{Gives, TellsAs};
-ghost use Rattle.pod_file.specs.Opening as wanted;
+ghost use Rattle.pod_file.specs.Opening as defined;
 ghost use Rattle.pod_file.specs.Refusals.{is_out_of_memory, member_path};
 ghost use Rattle.pod_file.specs.declared.error.PodError.TheVariants as refusal;
 
@@ -13,14 +13,14 @@ use crate::indexed::Names;
 use crate::links::links;
 use cni_addr::{Items, Text};
 use cni_json::{Field, Value, field_list, field_object};
-use kernel_types::words::is_host_ns;
+use kernel_types::terms::is_host_ns;
 use kernel_types::{Host, opening_with};
 use std::alloc::Global;
 
-/// The host as it is found, empty where there is no opening.
+/// The opening, an empty host where there is none.
 #[tactic(auto, using(cni_json::proofs::Steps::steps), unfolding(crate::specs::Opening::opening_at))]
 pub(crate) fn opening(alloc: Global, top: &Value) -> Result<Host, PodError>
-    ensures { Gives is_out_of_memory result (wanted.opening_at (view top.now)) }
+    ensures { Gives is_out_of_memory result (defined.opening_at (view top.now)) }
 {
     match field_object(top, "opening") {
         Field::Absent => Ok(opening_with(alloc, &[], Items::new(alloc))?),
@@ -31,7 +31,7 @@ pub(crate) fn opening(alloc: Global, top: &Value) -> Result<Host, PodError>
 
 #[tactic(auto, using(cni_json::proofs::Steps::steps), unfolding(crate::specs::Opening::opening_members_at))]
 fn opening_members(alloc: Global, members: &Value) -> Result<Host, PodError>
-    ensures { Gives is_out_of_memory result (wanted.opening_members_at (view members.now)) }
+    ensures { Gives is_out_of_memory result (defined.opening_members_at (view members.now)) }
 {
     let names = namespaces(alloc, members)?;
     let links = links(alloc, &names, members)?;
@@ -41,7 +41,7 @@ fn opening_members(alloc: Global, members: &Value) -> Result<Host, PodError>
 /// The names of the namespaces, none where there is no list of them.
 #[tactic(auto, using(cni_json::proofs::Steps::steps), unfolding(crate::specs::Links::listed_at, crate::specs::Opening::namespaces_at))]
 fn namespaces(alloc: Global, members: &Value) -> Result<Names, PodError>
-    ensures { Gives is_out_of_memory result (wanted.namespaces_at (view members.now)) }
+    ensures { Gives is_out_of_memory result (defined.namespaces_at (view members.now)) }
 {
     match field_list(members, "namespaces") {
         Field::Absent => Ok(Names::new(alloc)),
@@ -52,7 +52,7 @@ fn namespaces(alloc: Global, members: &Value) -> Result<Names, PodError>
 
 #[tactic(auto, using(cni_json::proofs::Steps::steps))]
 fn all_namespaces(alloc: Global, list: &[Value]) -> Result<Names, PodError>
-    ensures { Gives is_out_of_memory result (each_after wanted.next_namespace [] (items_view list.now)) }
+    ensures { Gives is_out_of_memory result (each_after defined.next_namespace [] (items_view list.now)) }
 {
     let mut names = Names::new(alloc);
     for member in list {
@@ -63,14 +63,14 @@ fn all_namespaces(alloc: Global, list: &[Value]) -> Result<Names, PodError>
 }
 
 fn next_namespace(alloc: Global, before: &Names, member: &Value) -> Result<Text, PodError>
-    ensures { Gives is_out_of_memory result (wanted.next_namespace before.now (view member.now)) }
+    ensures { Gives is_out_of_memory result (defined.next_namespace before.now (view member.now)) }
 {
     namespace(alloc, before, before.as_slice().len(), member)
 }
 
 #[tactic(auto, using(cni_json::proofs::Steps::steps))]
 fn namespace(alloc: Global, before: &Names, index: usize, member: &Value) -> Result<Text, PodError>
-    ensures { Gives is_out_of_memory result (wanted.namespace_at before.now index (view member.now)) }
+    ensures { Gives is_out_of_memory result (defined.namespace_at before.now index (view member.now)) }
 {
     match member {
         Value::String(name) => name_or_refused(alloc, before, index, name.as_str()),
@@ -85,7 +85,7 @@ fn name_or_refused(
     index: usize,
     name: &str,
 ) -> Result<Text, PodError>
-    ensures { Gives is_out_of_memory result (wanted.name_or_refused before.now index name.now) }
+    ensures { Gives is_out_of_memory result (defined.name_or_refused before.now index name.now) }
 {
     let name = Text::of(alloc, name)?;
     if is_refused_name(before, &name) {
@@ -97,7 +97,7 @@ fn name_or_refused(
 
 /// Whether the name is the host's, or one that another namespace has.
 fn is_refused_name(before: &Names, name: &Text) -> bool
-    ensures { result ≡ wanted.is_refused_name before.now name.now }
+    ensures { result ≡ defined.is_refused_name before.now name.now }
 {
     is_host_ns(name.as_str()) || before.contains(name)
 }

@@ -3,7 +3,7 @@
 ghost use Rattle.std.specs.Prelude.{◌≡◌, true, IfOk};
 ghost use Rattle.serde_json.specs.View.{view};
 ghost use Rattle.cni_json.specs.Outcome.{Gives};
-ghost use Rattle.pod_file.specs.PodFile as wanted;
+ghost use Rattle.pod_file.specs.PodFile as defined;
 ghost use Rattle.pod_file.specs.Refusals.{is_out_of_memory};
 ghost use Rattle.pod_file.specs.Rounds as limits;
 
@@ -19,7 +19,7 @@ use std::alloc::Global;
 /// The pod file that the bytes spell, or the first refusal.
 #[tactic(auto, using(cni_json::proofs::Steps::steps), unfolding(crate::specs::PodFile::pods_of))]
 pub fn read_pods(alloc: Global, bytes: &[u8]) -> Result<Pods, PodError>
-    ensures { Gives is_out_of_memory result (wanted.pods_of bytes.now) }
+    ensures { Gives is_out_of_memory result (defined.pods_of bytes.now) }
 {
     match cni_json::read(alloc, bytes) {
         Ok(top) => pods(alloc, &top),
@@ -31,7 +31,7 @@ pub fn read_pods(alloc: Global, bytes: &[u8]) -> Result<Pods, PodError>
 
 #[tactic(auto, using(cni_json::proofs::Steps::steps), unfolding(crate::specs::PodFile::pods_at))]
 fn pods(alloc: Global, top: &Value) -> Result<Pods, PodError>
-    ensures { Gives is_out_of_memory result (wanted.pods_at (view top.now)) }
+    ensures { Gives is_out_of_memory result (defined.pods_at (view top.now)) }
 {
     need_object(top, || wrong(alloc, ""))?;
     let opening = opening(alloc, top)?;

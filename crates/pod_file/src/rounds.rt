@@ -5,7 +5,7 @@ ghost use Rattle.std.specs.List.{list_any};
 ghost use Rattle.serde_json.specs.View.{view};
 ghost use Rattle.cni_json.specs.Outcome.{Gives};
 ghost use Rattle.pod_file.specs.Refusals.{is_out_of_memory};
-ghost use Rattle.pod_file.specs.Rounds as wanted;
+ghost use Rattle.pod_file.specs.Rounds as defined;
 
 use crate::command::Command;
 use crate::commands::read_command;
@@ -21,7 +21,7 @@ const LIMIT: usize = 65_536;
 /// The rounds, whose commands have no numbers yet.
 #[tactic(auto, using(cni_json::proofs::Steps::steps), unfolding(crate::specs::Rounds::rounds_at))]
 pub(crate) fn rounds(alloc: Global, top: &Value) -> Result<Items<Items<Command>>, PodError>
-    ensures { Gives is_out_of_memory result (wanted.rounds_at (view top.now)) }
+    ensures { Gives is_out_of_memory result (defined.rounds_at (view top.now)) }
 {
     match field_list(top, "rounds") {
         Field::Here(list) => {
@@ -33,7 +33,7 @@ pub(crate) fn rounds(alloc: Global, top: &Value) -> Result<Items<Items<Command>>
 
 #[tactic(auto, using(cni_json::proofs::Steps::steps))]
 fn round(alloc: Global, index: usize, member: &Value) -> Result<Items<Command>, PodError>
-    ensures { Gives is_out_of_memory result (wanted.round_at index (view member.now)) }
+    ensures { Gives is_out_of_memory result (defined.round_at index (view member.now)) }
 {
     match member {
         Value::Array(list) => {
@@ -48,7 +48,7 @@ fn round(alloc: Global, index: usize, member: &Value) -> Result<Items<Command>, 
 }
 
 fn command(alloc: Global, round: usize, index: usize, member: &Value) -> Result<Command, PodError>
-    ensures { Gives is_out_of_memory result (wanted.command_in round index (view member.now)) }
+    ensures { Gives is_out_of_memory result (defined.command_in round index (view member.now)) }
 {
     let place = CommandPlace {
         round,
@@ -60,14 +60,14 @@ fn command(alloc: Global, round: usize, index: usize, member: &Value) -> Result<
 /// Whether the rounds and their commands are within the limits.
 #[tactic(auto, unfolding(crate::specs::Rounds::are_few))]
 pub(crate) fn are_few(rounds: &[Items<Command>]) -> bool
-    ensures { result ≡ wanted.are_few rounds.now }
+    ensures { result ≡ defined.are_few rounds.now }
 {
     rounds.len() <= LIMIT && have_few_commands(rounds)
 }
 
 #[tactic(auto, using(crate::proofs::Numbering::counts))]
 fn have_few_commands(rounds: &[Items<Command>]) -> bool
-    ensures { result ≡ nat_le (length (wanted.in_file_order rounds.now)) wanted.file_limit }
+    ensures { result ≡ nat_le (length (defined.in_file_order rounds.now)) defined.file_limit }
 {
     let mut left = LIMIT;
     for commands in rounds {
@@ -83,8 +83,8 @@ fn have_few_commands(rounds: &[Items<Command>]) -> bool
 /// Refuses the first round in which a command that must stand alone doesn't.
 #[tactic(auto, unfolding(crate::specs::Rounds::are_few))]
 pub(crate) fn each_alone(rounds: &[Items<Command>]) -> Result<(), PodError>
-    requires { wanted.are_few rounds.now ≡ true }
-    ensures { result ≡ wanted.each_alone 0 rounds.now }
+    requires { defined.are_few rounds.now ≡ true }
+    ensures { result ≡ defined.each_alone 0 rounds.now }
 {
     for (index, commands) in rounds.iter().enumerate() {
         if !is_alone(commands.as_slice()) {
@@ -97,13 +97,13 @@ pub(crate) fn each_alone(rounds: &[Items<Command>]) -> Result<(), PodError>
 }
 
 fn is_alone(commands: &[Command]) -> bool
-    ensures { result ≡ wanted.is_alone commands.now }
+    ensures { result ≡ defined.is_alone commands.now }
 {
     commands.len() <= 1 || !has_exclusive(commands)
 }
 
 fn has_exclusive(commands: &[Command]) -> bool
-    ensures { result ≡ list_any wanted.is_exclusive commands.now }
+    ensures { result ≡ list_any defined.is_exclusive commands.now }
 {
     commands.iter().any(|command| command.verb.is_exclusive())
 }
@@ -111,8 +111,8 @@ fn has_exclusive(commands: &[Command]) -> bool
 /// The rounds with their commands numbered from 1 in file order.
 #[tactic(auto, using(crate::proofs::Numbering::numbers), unfolding(crate::specs::Rounds::are_few))]
 pub(crate) fn all_numbered(alloc: Global, rounds: Items<Items<Command>>) -> Items<Items<Command>>
-    requires { wanted.are_few rounds ≡ true }
-    ensures { result ≡ wanted.all_numbered 1 rounds }
+    requires { defined.are_few rounds ≡ true }
+    ensures { result ≡ defined.all_numbered 1 rounds }
 {
     let mut rounds = rounds.into_vec();
     let mut next = 1;
@@ -126,8 +126,8 @@ pub(crate) fn all_numbered(alloc: Global, rounds: Items<Items<Command>>) -> Item
 
 /// Numbers a round's commands from this number.
 fn number_round(alloc: Global, first: u32, commands: &mut Items<Command>)
-    requires { first + length commands.old ≤ wanted.file_limit + 1 }
-    ensures { commands.new ≡ wanted.round_numbered first commands.old }
+    requires { first + length commands.old ≤ defined.file_limit + 1 }
+    ensures { commands.new ≡ defined.round_numbered first commands.old }
 {
     let taken = std::mem::replace(commands, Items::new(alloc));
     *commands = round_numbered(first, taken);
@@ -135,8 +135,8 @@ fn number_round(alloc: Global, first: u32, commands: &mut Items<Command>)
 
 #[tactic(auto, using(crate::proofs::Numbering::numbers))]
 fn round_numbered(first: u32, commands: Items<Command>) -> Items<Command>
-    requires { first + length commands ≤ wanted.file_limit + 1 }
-    ensures { result ≡ wanted.round_numbered first commands }
+    requires { first + length commands ≤ defined.file_limit + 1 }
+    ensures { result ≡ defined.round_numbered first commands }
 {
     let mut commands = commands.into_vec();
     let mut next = first;

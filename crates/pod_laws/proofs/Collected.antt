@@ -1,4 +1,4 @@
--- What a garbage collection leaves and answers.
+-- What a GC leaves and answers.
 pub mod Again
 pub mod AloneRounds
 pub mod Answered

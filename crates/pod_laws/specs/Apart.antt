@@ -20,7 +20,7 @@ use Rattle.pod_workers.specs.declared.plan.Entry.{Entry}
 use Rattle.pod_workers.specs.declared.plan.Plan.{Plan}
 use Rattle.pod_laws.specs.Single.{EachEntry, ByVerb}
 
--- a garbage collection and a change from outside may take from any attachment; each other verb changes its own at most
+-- a GC and a change from outside may take from any attachment; each other verb changes its own at most
 abbrev pub leaves_others : Verb → Bool
 leaves_others verb = is_of_network verb && not (is_gc verb)
 
@@ -32,7 +32,7 @@ LeavesOthers c old new = (other : Att) → att_eq (att_of c) other ≡ false →
 abbrev pub EachEntryLeavesOthers : Type 0
 EachEntryLeavesOthers = EachEntry (ByVerb (λ v. leaves_others v ≡ true) LeavesOthers)
 
--- each entry of a garbage collection leaves all that it keeps, list by list (CNI specification, section 3,
+-- each entry of a GC leaves all that it keeps, list by list (CNI specification, section 3,
 -- "Garbage-collecting unused resources")
 abbrev pub EachCollectionTakesTheStaleAlone : Type 0
 EachCollectionTakesTheStaleAlone = EachEntry (ByVerb (λ v. v ≡ verbs.Gc) (λ c. KeepsWhere (stays c.network c.valid)))

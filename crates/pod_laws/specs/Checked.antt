@@ -15,7 +15,7 @@ use Rattle.cni_verbs.specs.declared.answer.Missed.{Missed}
 use Rattle.cni_verbs.specs.declared.answer.Skip.TheVariants as skips
 use Rattle.kernel_types.specs.Apply.Calls.{has_object}
 use Rattle.kernel_types.specs.Equal.{link_eq, addr_obj_eq, route_eq, rule_eq, setting_eq, lease_eq}
-use Rattle.kernel_types.specs.Words.{cached_in}
+use Rattle.kernel_types.specs.Terms.{cached_in}
 use Rattle.kernel_types.specs.declared.object.Host.{Host}
 use Rattle.kernel_types.specs.declared.call.Probe.TheVariants.{BridgeAt}
 use Rattle.net_conf.specs.declared.list.NetList.{NetList}

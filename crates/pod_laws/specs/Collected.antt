@@ -1,4 +1,4 @@
--- What a garbage collection leaves and answers, wherever it stands in a history (CNI specification, section 3,
+-- What a GC leaves and answers, wherever it stands in a history (CNI specification, section 3,
 -- "Garbage-collecting unused resources").
 use Rattle.std.specs.Prelude.{◌≡◌, ◌≢◌, ℕ, ◌+◌, ◌≤◌, ◌⊎◌, true, false, List, [], length, Some, slice_get}
 use Rattle.cni_result.specs.Versions.{is_before_1_1}
@@ -68,7 +68,7 @@ CollectionsAreAnswered = EachListAnswer verbs.Gc IsAnswerOfGc
 
 -- ---- whatever it is answered
 
--- this holds of each collection that made a call, wherever it was stopped, at place n
+-- this holds of each GC that made a call, wherever it was stopped, at place n
 abbrev pub EachCallingCollection : (World → ℕ → Placed → Type 0) → Type 0
 EachCallingCollection Holds = (w : World) → Legal w → EachCalling w verbs.Gc (Holds w)
 

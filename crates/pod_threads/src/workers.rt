@@ -28,7 +28,7 @@ pub(crate) struct Worker<L: Ledger> {
     ghost counted: { share.amount ≡ count },
 }
 
-/// Steps the commands that the worker of this number owns, each to its answer.
+/// Steps the commands that are given to the worker of this number, each to its answer.
 pub(crate) fn work<J: Origin, L: Ledger, R: Wait, K: Kernel + Drop, G: Gate>(
     rt: &R,
     shared: &Mutex<Shared<J, L, K>>,

@@ -28,7 +28,7 @@ questions_by list c [] = 0
 questions_by list c (x ∷ xs) = length (check_questions list c x.cached)
 
 -- The most calls of a run in this state, whose attachment has this share. An ADD has at most so many, where none is
--- refused. A collection is counted by `collection_left` alone.
+-- refused. A GC is counted by `collection_left` alone.
 abbrev pub calls_left : ℕ → NetList → Command → State → Share → ℕ
 calls_left most list c AtBegin s = 2 * most + length (kinds_of list) + 1
 calls_left most list c (BeforeLeases next left) s = making (1 + length left + length (sets_of list) + most_after most list c) list s
@@ -42,7 +42,7 @@ calls_left most list c (Changing change) s = 1
 calls_left most list c (Collecting work faults) s = 0
 calls_left most list c (Over ending given) s = 0
 
--- ---- a collection
+-- ---- a GC
 
 -- the objects of a host that are deleted one by one
 abbrev pub objects_in : Host → ℕ

@@ -1,4 +1,4 @@
--- Each call of a collection lowers the calls that are left to it.
+-- Each call of a GC lowers the calls that are left to it.
 use Rattle.std.proofs.Common.{◌≡◌, ℕ, ◌+◌, ◌*◌, ◌<◌, ◌≤◌, Bool, true, false, List, [], ◌∷◌, map, length, Option, Some, None, refl, sym, subst, arith, mul-le-mul_right}
 use Rattle.std.specs.Prelude.{filter, find, not}
 use Rattle.std.specs.List.{cons_option, filter_map, list_any}
@@ -9,7 +9,7 @@ use Rattle.kernel_types.specs.Apply.{apply}
 use Rattle.kernel_types.specs.Apply.Calls.{goes_with, owner_in, tags_of, without_link}
 use Rattle.kernel_types.specs.Equal.{att_eq}
 use Rattle.cni_addr.specs.Lists.{each_key_once}
-use Rattle.kernel_types.specs.Words.{is_own}
+use Rattle.kernel_types.specs.Terms.{is_own}
 use Rattle.kernel_types.proofs.Removal.{goes_with-itself}
 use Rattle.kernel_types.specs.declared.object.Att.{Att}
 use Rattle.kernel_types.specs.declared.object.CachedObj.{CachedObj}
@@ -124,7 +124,7 @@ step-falls gc att (Delete kind) more js ss host =
 abbrev CallFalls : Gc → List Job → List Sweep → Host → Call → Type 0
 CallFalls gc js ss host call = FallsBy gc js ss host (apply host call).1 (apply host call).0
 
--- the kernel's reply lowers what is left to a collection
+-- the kernel's reply lowers what is left to a GC
 pub work-falls : (gc : Gc) (js : List Job) (ss : List Sweep) (host : Host) (call : Call) → call_of_work gc.network js ss ≡ Some call
     → collection_left (work_after gc js ss (apply host call).1) (apply host call).0 < collection_left (record { jobs = js; sweeps = ss }) host
 work-falls gc [] [] host call is = absurd (none-some call is)

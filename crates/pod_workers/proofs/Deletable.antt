@@ -14,7 +14,7 @@ use Rattle.kernel_types.specs.Apply.{apply}
 use Rattle.kernel_types.specs.Apply.Calls.{goes_with, is_own_at, set_link, with_values, without_link}
 use Rattle.cni_addr.specs.Lists.{without_first}
 use Rattle.kernel_types.specs.Sound.{IsSound, link_fits_tag, peer_fits, peers_back, is_owned_kind}
-use Rattle.kernel_types.specs.Words.{is_own, is_host_ns, is_peer_at, is_veth, lease_of}
+use Rattle.kernel_types.specs.Terms.{is_own, is_host_ns, is_peer_at, is_veth, lease_of}
 use Rattle.cni_addr.proofs.Cases.{by_test}
 use Rattle.kernel_types.proofs.ListLemmas.{list_any-weaker, passes-find, passes-list_all}
 use Rattle.kernel_types.proofs.Isolation.{is_own-one}

@@ -9,7 +9,7 @@ use Rattle.cni_result.specs.declared.cached.Cached.{Cached}
 use Rattle.kernel_types.specs.Allowed.{IsAllowed}
 use Rattle.kernel_types.specs.Apply.{apply}
 use Rattle.kernel_types.specs.Sound.{IsSound}
-use Rattle.kernel_types.specs.Words.{is_own}
+use Rattle.kernel_types.specs.Terms.{is_own}
 use Rattle.kernel_types.specs.declared.object.CachedObj.{CachedObj}
 use Rattle.kernel_types.specs.declared.object.Host.{Host}
 use Rattle.kernel_types.specs.declared.call.Call.{Call}

@@ -13,7 +13,7 @@ use Rattle.pod_file.specs.declared.command.Verb.{Verb}
 use Rattle.pod_file.specs.declared.command.Verb.TheVariants as verbs
 use Rattle.pod_file.specs.Commands.{is_of_network}
 use Rattle.kernel_types.specs.Allowed.{IsAllowedChange}
-use Rattle.kernel_types.specs.Words.{is_host_ns}
+use Rattle.kernel_types.specs.Terms.{is_host_ns}
 use Rattle.kernel_types.specs.declared.call.Call.{Call}
 use Rattle.kernel_types.specs.declared.call.Call.TheVariants.{NsChange, Outside}
 use Rattle.kernel_types.specs.declared.call.Change.TheVariants.{DropLink}

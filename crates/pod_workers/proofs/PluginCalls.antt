@@ -8,7 +8,7 @@ use Rattle.cni_result.proofs.ReadAgain.{each_of}
 use Rattle.cni_result.specs.declared.cached.PortMapping.{PortMapping}
 use Rattle.net_conf.specs.declared.first.First.{First}
 use Rattle.net_conf.specs.declared.list.NetList.{NetList}
-use Rattle.kernel_types.specs.Words.{is_host_ns, is_own, is_owned}
+use Rattle.kernel_types.specs.Terms.{is_host_ns, is_own, is_owned}
 use Rattle.kernel_types.proofs.Isolation.{is_own-one}
 use Rattle.kernel_types.proofs.ListLemmas.{list_all-weaker}
 use Rattle.kernel_types.specs.declared.object.Att.{Att}

@@ -28,7 +28,7 @@ use Rattle.pod_workers.specs.declared.plan.StepEnd.{StepEnd}
 use Rattle.pod_workers.proofs.FileOrder.{file_order_answered, file_order_next_round, file_order_stepped}
 use Rattle.pod_workers.proofs.Histories.{slice_get-set_other}
 use Rattle.pod_workers.proofs.Order.{in_order, not_both, open_or_answered, other_round}
-use Rattle.pod_workers.proofs.Rounds.{is_in_round, placed-fits, placed_from-more, placed_from-front, round-of, rounds-before}
+use Rattle.pod_workers.proofs.Rounds.{is_in_round, placed-fits, placed_from-more, placed_from-prefix, round-of, rounds-before}
 use Rattle.pod_workers.proofs.Elements.{at_number-is, slice_get-right, slice_get-before}
 use Rattle.pod_workers.proofs.Sound.{fine}
 use Rattle.pod_workers.proofs.WellFormedPlans.{few_commands}
@@ -115,7 +115,7 @@ placed-all w = refl
 not-before : (rounds : List (List Command)) (round n : ℕ) (c : Placed) → slice_get (placed_from 0 rounds) n ≡ Some c → c.round ≡ round → length (placed_from 0 (take round rounds)) ≤ n
 not-before rounds round n c at_n is = elim (cases_lt n (length (placed_from 0 (take round rounds)))) [
   | inl less ↦
-      let f = placed_from-front 0 round rounds in
+      let f = placed_from-prefix 0 round rounds in
       let there : slice_get (placed_from 0 (take round rounds)) n ≡ Some c = sym (slice_get-before (placed_from 0 (take round rounds)) f.0 n less) ∙ ap (λ xs. slice_get xs n) (sym f.1) ∙ at_n in
       absurd (let low = rounds-before round rounds n c there in omega arith)
   | inr more ↦ more

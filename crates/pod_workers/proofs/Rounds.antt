@@ -23,17 +23,17 @@ placed_from-more r (suc i) (x ∷ xs) cs is =
     ap (λ rest. map (in_round r) x ++ rest) (placed_from-more (r + 1) i xs cs is ∙ ap (λ k. placed_from (r + 1) (take i xs) ++ map (in_round k) cs) (omega arith))
     ∙ sym (append_assoc (map (in_round r) x) (placed_from (r + 1) (take i xs)) (map (in_round (r + suc i)) cs))
 
--- so many rounds stand in front of all
-pub placed_from-front : (r i : ℕ) (rounds : List (List Command)) → (rest : List Placed) × (placed_from r rounds ≡ placed_from r (take i rounds) ++ rest)
-placed_from-front r zero rounds = (placed_from r rounds, refl)
-placed_from-front r (suc i) [] = ([], refl)
-placed_from-front r (suc i) (x ∷ xs) =
-    let f = placed_from-front (r + 1) i xs in
+-- the commands of the first rounds are a prefix of all
+pub placed_from-prefix : (r i : ℕ) (rounds : List (List Command)) → (rest : List Placed) × (placed_from r rounds ≡ placed_from r (take i rounds) ++ rest)
+placed_from-prefix r zero rounds = (placed_from r rounds, refl)
+placed_from-prefix r (suc i) [] = ([], refl)
+placed_from-prefix r (suc i) (x ∷ xs) =
+    let f = placed_from-prefix (r + 1) i xs in
     (f.0, ap (λ rest. map (in_round r) x ++ rest) f.1 ∙ sym (append_assoc (map (in_round r) x) (placed_from (r + 1) (take i xs)) f.0))
 
 pub placed-fits : (rounds : List (List Command)) (i : ℕ) (cs : List Command) → slice_get rounds i ≡ Some cs → length (placed_from 0 (take i rounds)) + length cs ≤ length (placed_from 0 rounds)
 placed-fits rounds i cs is =
-    let f = placed_from-front 0 (suc i) rounds in
+    let f = placed_from-prefix 0 (suc i) rounds in
     let all = ap length f.1 in
     let split = length-append (placed_from 0 (take (suc i) rounds)) f.0 in
     let more = ap length (placed_from-more 0 i rounds cs is) in

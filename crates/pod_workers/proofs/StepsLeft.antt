@@ -43,13 +43,13 @@ use Rattle.pod_workers.proofs.Sound.{allowed_next, goes_in, sound_host}
 use Rattle.pod_workers.proofs.Kept.{outside_from-append, state_from-append}
 use Rattle.pod_workers.proofs.Replies.{StaysTrue, true-advance}
 
--- ---- a collection
+-- ---- a GC
 
 abbrev pub IsNoCollection : State → Type 0
 IsNoCollection (Collecting work faults) = ⊥
 IsNoCollection _ = Unit {0}
 
--- the most calls that a collection still makes
+-- the most calls that a GC still makes
 abbrev pub collecting : State → Host → ℕ
 collecting (Collecting work faults) host = collection_left work host
 collecting _ host = 0
@@ -70,7 +70,7 @@ pub none-asking : (questions : List Question) → IsNoCollection (asking questio
 none-asking [] = tt
 none-asking (x ∷ xs) = tt
 
--- no other run becomes a collection
+-- no other run becomes a GC
 pub none-stays : (list : NetList) (c : Command) → StaysTrue list c IsNoCollection
 none-stays list c = record {
   over = λ ending given. tt;
@@ -134,7 +134,7 @@ entry-falls most list c number n s host call false in_most may of_plugins none i
     (falls-advance most list c number s (apply host call).1 (share_of (att_of c) host) (share_of (att_of c) (apply host call).0) in_most
     (replies-as list c s host call may.sound (may.allowed refl) (own-next list c s of_plugins none) is))
 
--- the calls that are left in a state, a collection's too
+-- the calls that are left in a state, a GC's too
 abbrev in_state : NetList → Command → State → Host → ℕ
 in_state list c s host = calls_left (most_calls list c) list c s (share_of (att_of c) host) + collecting s host
 

@@ -3,7 +3,7 @@ use Rattle.std.specs.Prelude.{◌≡◌, ℕ, true, false, List, ◌++◌, map}
 use Rattle.std.specs.List.{AllByRecursion, list_all}
 use Rattle.cni_addr.specs.declared.address.Addr.{Addr}
 use Rattle.cni_result.specs.declared.cached.PortMapping.{PortMapping}
-use Rattle.kernel_types.specs.Words.{is_host_ns, lease_of}
+use Rattle.kernel_types.specs.Terms.{is_host_ns, lease_of}
 use Rattle.kernel_types.specs.declared.object.Att.{Att}
 use Rattle.kernel_types.specs.declared.call.Call.{Call}
 use Rattle.net_conf.specs.WellFormed.{IsWellFormedList}

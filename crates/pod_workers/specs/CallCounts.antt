@@ -2,7 +2,7 @@
 use Rattle.std.specs.Prelude.{ℕ, ◌+◌, ◌≤◌, not, List, length, filter, sum_by}
 use Rattle.cni_addr.specs.declared.address.Addr.{Addr}
 use Rattle.cni_result.specs.declared.cached.PortMapping.{PortMapping}
-use Rattle.kernel_types.specs.Words.{is_host_ns}
+use Rattle.kernel_types.specs.Terms.{is_host_ns}
 use Rattle.kernel_types.specs.declared.object.Link.{Link}
 use Rattle.net_conf.specs.declared.chained.Chained.{Chained}
 use Rattle.net_conf.specs.declared.list.NetList.{NetList}
@@ -16,7 +16,7 @@ use Rattle.cni_verbs.specs.Wanted.{sets_of}
 
 -- ---- deletions
 
--- Links outside the host. A link in the host is one end of a veth pair, and goes with the other end.
+-- Links that aren't in the host's own namespace. One that is there is one end of a veth pair, and goes with the other end.
 abbrev pub inner_links : List Link → List Link
 inner_links links = filter (λ l. not (is_host_ns l.ns)) links
 

@@ -8,7 +8,7 @@ pub record IsBegun (w : World) : Type 0 where
   pub plan : IsWellFormed w.plan
   pub is : w ≡ begun w.plan
 
--- a book is begun; a ready command makes its step, or is refused memory for it; a round that is over gives way to the
+-- a world is begun; a ready command makes its step, or is refused memory for it; a round that is over gives way to the
 -- next
 pub data Legal : World → Type 0 where
   starts : (w : World) → IsBegun w → Legal w

@@ -9,12 +9,12 @@ use Rattle.pod_workers.specs.World.{is_faulty}
 use Rattle.pod_workers.specs.declared.task.Carried.{Carried}
 use Rattle.pod_workers.specs.declared.task.Carried.TheVariants.{Verb, Collection}
 
--- a collection has nothing to prepare
+-- a GC has nothing to prepare
 abbrev pub view_of : Carried → RunView
 view_of (Verb run) = run
 view_of (Collection run) = record { progress = run; prepared = true }
 
--- a collection has the list of its network
+-- a GC has the list of its network
 abbrev pub IsListed : List NetList → Command → Type 0
 IsListed lists c = is_gc c.verb ≡ true → is_some (list_in lists c) ≡ true
 

@@ -83,7 +83,7 @@ AtCommand w number Fit = (n : ℕ) (c : Placed) → number ≡ n + 1 → slice_g
 
 -- ---- a step
 
--- the call after so many is listed as a fault
+-- the call after so many is a fault
 abbrev pub is_faulty : Command → ℕ → Bool
 is_faulty c made = list_any (λ k. k == made + 1) c.faults
 
@@ -198,7 +198,7 @@ IsReadyNumber w number = (n : ℕ) × (c : Placed) × (number ≡ n + 1) × IsRe
 
 -- ---- as a book shows it
 
--- a book of this plan as it is begun
+-- a new world of this plan
 abbrev pub begun : Plan → World
 begun p = record { plan = p; history = []; answers = map (λ (c : Placed). None) (commands_of p); round = 0 }
 

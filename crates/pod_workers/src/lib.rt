@@ -1,7 +1,7 @@
 //! Plans, the book that carries them out, and what is true of every history.
 //!
 //! A world is a plan, its history, the answers given and the current round (`specs/World.antt`); the host and each
-//! run's state follow from it. `Legal` says which worlds allowed steps reach, with stops, listed faults and rounds. A
+//! run's state follow from it. `Legal` says which worlds allowed steps reach, with stops, faults and rounds. A
 //! [`Book`] is such a world, and takes the steps: what it promises above is that each step is the definition's, that a
 //! refusal of memory changes neither host nor history, and that a round comes to its end. The laws speak of all legal
 //! worlds.

@@ -139,7 +139,7 @@ fn is_stopped(stop: Option<u32>, cut: bool, made: u64) -> bool
     }
 }
 
-/// Makes a call, or meets the listed fault. The task takes the reply, and call and reply are entered.
+/// Makes a call, or meets a fault. The task takes the reply, and call and reply are entered.
 fn make_call<K: Kernel>(
     kernel: &mut K,
     history: &mut Vec<Entry>,
@@ -189,7 +189,7 @@ fn make_call<K: Kernel>(
     }
 }
 
-/// What the kernel replies to a call, or the listed fault.
+/// What the kernel replies to a call, or `Fault`.
 fn reply_to<K: Kernel>(
     alloc: Global,
     kernel: &mut K,

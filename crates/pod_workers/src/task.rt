@@ -1,4 +1,4 @@
-//! What carries a command on: the run of a verb, or of a garbage collection.
+//! What carries a command on: the run of a verb, or of a GC.
 
 ghost use Rattle.std.specs.Prelude.{◌≡◌, ◌+◌, ◌<◌, ◌^◌, [], false, true, IfOk, IsOk, OnErr, OnOk, is_some};
 ghost use Rattle.std.specs.Bool.{FalseIff};
@@ -19,7 +19,7 @@ use pod_file::{Command, Verb};
 use std::alloc::Global;
 use std::marker::Model;
 
-/// A garbage collection has a run of its own: it keeps owners, and no leases. Each other command is a `Run`.
+/// A GC has a run of its own: it keeps owners, and no leases. Each other command is a `Run`.
 #[derive(Drop)]
 enum Carried {
     Verb(Run),
@@ -54,7 +54,7 @@ impl Model for Task {
 impl Task {
     // `start` and `answer` are called once a run. Inlined, they would have each step clear their stack.
 
-    /// The run of a command before its first call. A collection has a list.
+    /// The run of a command before its first call. A GC has a list.
     #[inline(never)]
     pub fn start(
         alloc: Global,

@@ -33,11 +33,11 @@ told by file files stored is (inr none) = absurd (let named = ap (λ (s : Source
 
 -- what the reads of a pod file and its lists give
 pub of_files : (by : Words) (file : List ℕ) (files : FilesSeen) (r : Result Plan NoPlan) → by.source ≡ PodFile file
-    → GivesStored {X = Plan} (λ plan. plan) files.stored files.faults_before files.faults_now (file ∷ by.lists) (λ stored. plan_of_files stored by file) r → GivesPlan by files r
+    → GivesStored {X = Plan} (λ plan. plan) files.stored files.failures_before files.failures_now (file ∷ by.lists) (λ stored. plan_of_files stored by file) r → GivesPlan by files r
 of_files by file files (Ok plan) is gives = λ stored at. ap (plan_from_source stored by) is ∙ gives stored (told by file files stored is at)
 of_files by file files (Err Usage) is gives = gives
 of_files by file files (Err (Line text)) is gives = λ stored at. ap (plan_from_source stored by) is ∙ gives stored (told by file files stored is at)
-of_files by file files (Err (Unread text)) is gives = subst (λ (s : Source). IsUnread (files_of s by.lists) files.faults_before files.faults_now text.items) (sym is) gives
+of_files by file files (Err (Unread text)) is gives = subst (λ (s : Source). IsUnread (files_of s by.lists) files.failures_before files.failures_now text.items) (sym is) gives
 of_files by file files (Err NoMemory) is gives = tt
 
 -- what the generator gives, whatever the files

@@ -22,8 +22,8 @@ use Rattle.tool_words.specs.Words.{words_given}
 use Rattle.tool_words.specs.declared.words.Words.{Words}
 use Rattle.tool_run.specs.Lines.{usage_line}
 use Rattle.tool_run.specs.Reports.{Reported, Reports, Settles}
-use Rattle.tool_run.specs.Seen.{FilesSeen, HasReadFault, SinkSeen}
-use Rattle.tool_run.specs.Statuses.{AreFiles, EachStatusIsOfItsVerdict, Ends, IsCarriedOut, IsDetermined, IsReport, IsStatusOf, IsTextOf, IsUndisturbed, RefusedWordsAreTold, ReportsWorld, Wrote, cut_short, of_book, of_failed_read, of_refusal, of_usage, out_of_memory, reported}
+use Rattle.tool_run.specs.Seen.{FilesSeen, HasReadFailure, SinkSeen}
+use Rattle.tool_run.specs.Statuses.{AreFiles, EachStatusIsOfItsVerdict, Ends, IsCarriedOut, IsDetermined, IsReport, IsStatusOf, IsTextOf, IsUndisturbed, RefusedWordsAreReported, ReportsWorld, Wrote, cut_short, of_book, of_failed_read, of_refusal, of_usage, out_of_memory, reported}
 use Rattle.tool_run.specs.Verdict.{Verdict, asked_by, carry, verdict_if, verdict_of}
 use Rattle.tool_run.specs.declared.carry.CarriedOut.{CarriedOut}
 use Rattle.tool_run.specs.declared.plan.NoPlan.{NoPlan}
@@ -149,7 +149,7 @@ status_is answers = go (list_any is_out_of_memory answers) (list_any is_failure 
     go false true = inr (inl refl)
     go false false = inl refl
 
-report_status : (words : List (List ℕ)) (files : FilesSeen) (status : ℕ) (book : Option World) (bytes : List ℕ) (stored : StoredFiles) → AreFiles words files stored → (HasReadFault files → ⊥) → IsReport words files status book bytes → IsStatusOf (verdict_of words stored) status
+report_status : (words : List (List ℕ)) (files : FilesSeen) (status : ℕ) (book : Option World) (bytes : List ℕ) (stored : StoredFiles) → AreFiles words files stored → (HasReadFailure files → ⊥) → IsReport words files status book bytes → IsStatusOf (verdict_of words stored) status
 report_status words files status book bytes stored told reads (of_usage st none given) = subst (λ (v : Verdict). IsStatusOf v status) (sym (ap (λ (o : Option Words). verdict_if o stored) given.not_taken)) st
 report_status words files status book bytes stored told reads (of_refusal st none refusal) = subst (λ (v : Verdict). IsStatusOf v status) (sym (refusal.comes stored told)) st
 report_status words files status book bytes stored told reads (of_failed_read st none unread) = absurd (reads unread.unread.rose)
@@ -164,10 +164,10 @@ each_status_is_of_its_verdict words files sink status book (out_of_memory st non
 taken : (words : List (List ℕ)) (by : Words) → words_given words ≡ Some by → words_given words ≡ None → ⊥
 taken words by is none = none-some by (sym none ∙ is)
 
-pub refused_words_are_told : RefusedWordsAreTold
-refused_words_are_told words files sink status book (reported bytes (of_usage st none given) wrote) refused = inl st
-refused_words_are_told words files sink status book (reported bytes (of_refusal st none refusal) wrote) refused = absurd (taken words refusal.by refusal.words_are refused)
-refused_words_are_told words files sink status book (reported bytes (of_failed_read st none unread) wrote) refused = absurd (taken words unread.by unread.words_are refused)
-refused_words_are_told words files sink status book (reported bytes (of_book b st some carried text) wrote) refused = absurd (taken words carried.by carried.words_are refused)
-refused_words_are_told words files sink status book (cut_short bytes meant report st fault front) refused = inr (inl st)
-refused_words_are_told words files sink status book (out_of_memory st none nothing) refused = inr (inr (inl st))
+pub refused_words_are_reported : RefusedWordsAreReported
+refused_words_are_reported words files sink status book (reported bytes (of_usage st none given) wrote) refused = inl st
+refused_words_are_reported words files sink status book (reported bytes (of_refusal st none refusal) wrote) refused = absurd (taken words refusal.by refusal.words_are refused)
+refused_words_are_reported words files sink status book (reported bytes (of_failed_read st none unread) wrote) refused = absurd (taken words unread.by unread.words_are refused)
+refused_words_are_reported words files sink status book (reported bytes (of_book b st some carried text) wrote) refused = absurd (taken words carried.by carried.words_are refused)
+refused_words_are_reported words files sink status book (cut_short bytes meant report st fault front) refused = inr (inl st)
+refused_words_are_reported words files sink status book (out_of_memory st none nothing) refused = inr (inr (inl st))

@@ -2,14 +2,14 @@
 use Rattle.std.proofs.Common.{◌≡◌, ℕ, List, [], ◌∷◌, Option, Some, Err, refl, sym, ap, ◌∙◌, arith}
 use Rattle.std.specs.Prelude.{Vec}
 use Rattle.std.specs.declared.alloc.Global.{Global}
-use Rattle.cni_io.specs.Faults.{Rose}
+use Rattle.cni_io.specs.Failures.{Rose}
 use Rattle.cni_io.specs.Files.{StoredFiles}
 use Rattle.tool_run.specs.Causes.{GivesJudged, GivesStored}
 use Rattle.tool_run.specs.Lines.{unread_line}
 use Rattle.tool_run.specs.Verdict.{Judged}
 use Rattle.tool_run.specs.declared.plan.NoPlan.TheVariants.{Line, Unread}
 
--- the line that was wanted
+-- the line that is defined
 pub stored_line : {X Y : Type 0} (view : X → Y) (files : Option StoredFiles) (before now : ℕ) (names : List (List ℕ)) (line : Vec ℕ Global) (text : List ℕ) (wanted : StoredFiles → Judged Y)
     → line.items ≡ text → ((stored : StoredFiles) → files ≡ Some stored → wanted stored ≡ Err text) → GivesStored view files before now names wanted (Err (Line line))
 stored_line view files before now names line text wanted has is = λ stored told. is stored told ∙ ap (λ t. Err t) (sym has)

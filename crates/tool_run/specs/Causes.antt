@@ -1,6 +1,6 @@
 -- What a step of reading gives, and why it gives nothing.
 use Rattle.std.specs.Prelude.{◌≡◌, ◌⊎◌, ℕ, List, [], ◌∷◌, Option, Some, Result, Ok, Err, Contains, ⊤}
-use Rattle.cni_io.specs.Faults.{Rose}
+use Rattle.cni_io.specs.Failures.{Rose}
 use Rattle.cni_io.specs.Files.{StoredFiles}
 use Rattle.net_conf.specs.List.{list_of}
 use Rattle.net_conf.specs.declared.list.NetList.{NetList}
@@ -27,7 +27,7 @@ pub record IsUnread (names : List (List ℕ)) (before now : ℕ) (line : List �
   pub rose : Rose before now
   pub says : line ≡ unread_line file
 
--- A step that reads files gives what is wanted of the files, where they are told; or the line that is wanted of them;
+-- A step that reads files gives what is defined of the files, where they are told; or the line that is defined of them;
 -- or a read of a named file failed; or memory ran out.
 abbrev pub GivesStored : {X Y : Type 0} → (X → Y) → Option StoredFiles → ℕ → ℕ → List (List ℕ)
     → (StoredFiles → Judged Y) → Result X NoPlan → Type 0
@@ -66,7 +66,7 @@ GivesPlan words files (Ok plan) = (stored : StoredFiles) → AreFilesFor words f
 GivesPlan words files (Err Usage) = ⊥
 GivesPlan words files (Err (Line line)) = (stored : StoredFiles) → AreFilesFor words files stored
     → plan_of stored words ≡ Err line.items
-GivesPlan words files (Err (Unread line)) = IsUnread (files_named words) files.faults_before files.faults_now line.items
+GivesPlan words files (Err (Unread line)) = IsUnread (files_named words) files.failures_before files.failures_now line.items
 GivesPlan words files (Err NoMemory) = ⊤
 
 -- the list was read from some bytes

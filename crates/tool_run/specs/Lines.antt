@@ -15,9 +15,9 @@ file_data error file = object (no_members
     ▷ put (codes "error") error
     ▷ put (codes "file") (text_data file))
 
--- a word about a file, as in `{"error":"missing","file":"net.json"}`
-abbrev pub word_line : List ℕ → List ℕ → List ℕ
-word_line word file = line_of (file_data (text_data word) file)
+-- a reason about a file, as in `{"error":"missing","file":"net.json"}`
+abbrev pub reason_line : List ℕ → List ℕ → List ℕ
+reason_line word file = line_of (file_data (text_data word) file)
 
 -- an error about a file
 abbrev pub error_line : CniError → List ℕ → List ℕ
@@ -25,4 +25,4 @@ error_line error file = line_of (file_data (error_data error) file)
 
 -- a file that could not be read
 abbrev pub unread_line : List ℕ → List ℕ
-unread_line file = word_line (codes "read") file
+unread_line file = reason_line (codes "read") file

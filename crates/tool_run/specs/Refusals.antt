@@ -40,7 +40,7 @@ abbrev pub plan_error : PlanError → CniError
 plan_error (plans.SameName place) = invalid_list (codes "name")
 plan_error (plans.NoNetwork number) = invalid_pods (codes "no network for command " ++ decimal number)
 
--- the file at fault where this pod file and these lists make no plan
-abbrev pub file_at_fault : List ℕ → List (List ℕ) → PlanError → List ℕ
-file_at_fault file names (plans.SameName place) = slice_index_or names place []
-file_at_fault file names (plans.NoNetwork number) = file
+-- the file that is to blame where this pod file and these lists make no plan
+abbrev pub blamed_file : List ℕ → List (List ℕ) → PlanError → List ℕ
+blamed_file file names (plans.SameName place) = slice_index_or names place []
+blamed_file file names (plans.NoNetwork number) = file

@@ -6,7 +6,7 @@ use Rattle.pod_workers.specs.Legal.{Legal}
 use Rattle.pod_workers.specs.Plans.{IsWellFormed}
 use Rattle.tool_words.specs.Words.{IsWithinLimits, words_given}
 use Rattle.tool_run.specs.Lines.{usage_line}
-use Rattle.tool_run.specs.Seen.{FilesSeen, HasWriteFault, SinkSeen}
+use Rattle.tool_run.specs.Seen.{FilesSeen, HasWriteFailure, SinkSeen}
 use Rattle.tool_run.specs.Statuses.{ComesTo, IsCarriedOut, IsRefusal, IsTextOf, IsUnreadOf, Wrote, WrotePrefix, WroteNothing}
 use Rattle.tool_run.specs.Verdict.{asked_by, carry}
 use Rattle.tool_run.specs.declared.carry.CarriedOut.{CarriedOut}
@@ -52,7 +52,7 @@ Settles words files (Err none) = ComesToNoPlan words files none
 -- the bytes were written, and this is the status; or the status is 5, and the sink gave up after a prefix of them
 abbrev pub Reports : SinkSeen → List ℕ → ℕ → ℕ → Type 0
 Reports sink bytes status result = ((result ≡ status) × Wrote sink bytes) ⊎
-    ((result ≡ 5) × HasWriteFault sink × WrotePrefix sink bytes)
+    ((result ≡ 5) × HasWriteFailure sink × WrotePrefix sink bytes)
 
 -- why there is no plan was written, and the status says it too; where memory ran out, nothing was written
 abbrev pub ReportsNoPlan : SinkSeen → NoPlan → ℕ → Type 0

@@ -1,36 +1,36 @@
 -- What a run sees of its files and of its sink.
 use Rattle.std.specs.Prelude.{ℕ, List, Option}
-use Rattle.cni_io.specs.Faults.{Rose}
+use Rattle.cni_io.specs.Failures.{Rose}
 use Rattle.cni_io.specs.Files.{StoredFiles}
 
--- the files, where they are told, and the count of their faults before the run and now
+-- the files, where they are told, and the count of their failures before the run and now
 pub record FilesSeen : Type 0 where
   pub stored : Option StoredFiles
-  pub faults_before : ℕ
-  pub faults_now : ℕ
+  pub failures_before : ℕ
+  pub failures_now : ℕ
 
-abbrev pub files_seen : {F : Type 0} → (stored : F → Option StoredFiles) → (faults : F → ℕ) → (old new : F) → FilesSeen
-files_seen stored faults old new = record { stored = stored old; faults_before = faults old; faults_now = faults new }
+abbrev pub files_seen : {F : Type 0} → (stored : F → Option StoredFiles) → (failures : F → ℕ) → (old new : F) → FilesSeen
+files_seen stored failures old new = record { stored = stored old; failures_before = failures old; failures_now = failures new }
 
--- the bytes written, where they are told, and the count of the sink's faults, each before the run and now
+-- the bytes written, where they are told, and the count of the sink's failures, each before the run and now
 pub record SinkSeen : Type 0 where
   pub bytes_before : Option (List ℕ)
   pub bytes_now : Option (List ℕ)
-  pub faults_before : ℕ
-  pub faults_now : ℕ
+  pub failures_before : ℕ
+  pub failures_now : ℕ
 
-abbrev pub sink_seen : {S : Type 0} → (written : S → Option (List ℕ)) → (faults : S → ℕ) → (old new : S) → SinkSeen
-sink_seen written faults old new = record {
+abbrev pub sink_seen : {S : Type 0} → (written : S → Option (List ℕ)) → (failures : S → ℕ) → (old new : S) → SinkSeen
+sink_seen written failures old new = record {
   bytes_before = written old;
   bytes_now = written new;
-  faults_before = faults old;
-  faults_now = faults new;
+  failures_before = failures old;
+  failures_now = failures new;
 }
 
 -- a read failed
-abbrev pub HasReadFault : FilesSeen → Type 0
-HasReadFault files = Rose files.faults_before files.faults_now
+abbrev pub HasReadFailure : FilesSeen → Type 0
+HasReadFailure files = Rose files.failures_before files.failures_now
 
 -- a write failed
-abbrev pub HasWriteFault : SinkSeen → Type 0
-HasWriteFault sink = Rose sink.faults_before sink.faults_now
+abbrev pub HasWriteFailure : SinkSeen → Type 0
+HasWriteFailure sink = Rose sink.failures_before sink.failures_now

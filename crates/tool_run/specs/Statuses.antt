@@ -12,15 +12,15 @@ use Rattle.tool_words.specs.Words.{words_given}
 use Rattle.tool_words.specs.declared.words.Words.{Words}
 use Rattle.tool_run.specs.Causes.{IsUnread, files_named}
 use Rattle.tool_run.specs.Lines.{usage_line}
-use Rattle.tool_run.specs.Seen.{FilesSeen, HasReadFault, HasWriteFault, SinkSeen}
+use Rattle.tool_run.specs.Seen.{FilesSeen, HasReadFailure, HasWriteFailure, SinkSeen}
 use Rattle.tool_run.specs.Verdict.{Verdict, usage, line, carry, asked_by, verdict_of}
 
 -- ---- what is written
 
--- nothing was written: the sink has what it had, and its count of faults is as it was
+-- nothing was written: the sink has what it had, and its count of failures is as it was
 pub record WroteNothing (sink : SinkSeen) : Type 0 where
   pub bytes : sink.bytes_now ≡ sink.bytes_before
-  pub faults : sink.faults_now ≡ sink.faults_before
+  pub failures : sink.failures_now ≡ sink.failures_before
 
 -- exactly these bytes were appended, where the sink tells what it has
 abbrev pub Wrote : SinkSeen → List ℕ → Type 0
@@ -59,7 +59,7 @@ pub record IsRefusal (words : List (List ℕ)) (files : FilesSeen) (bytes : List
 pub record IsUnreadOf (words : List (List ℕ)) (files : FilesSeen) (bytes : List ℕ) : Type 0 where
   pub by : Words
   pub words_are : words_given words ≡ Some by
-  pub unread : IsUnread (files_named by) files.faults_before files.faults_now bytes
+  pub unread : IsUnread (files_named by) files.failures_before files.failures_now bytes
 
 -- a legal book of the plan that the words and the files come to, with every round over
 pub record IsCarriedOut (words : List (List ℕ)) (files : FilesSeen) (book : World) : Type 0 where
@@ -92,7 +92,7 @@ pub data Ends (words : List (List ℕ)) (files : FilesSeen) (sink : SinkSeen) (s
     (book : Option World) : Type 0 where
   reported : (bytes : List ℕ) → IsReport words files status book bytes → Wrote sink bytes
       → Ends words files sink status book
-  cut_short : (bytes : List ℕ) (meant : ℕ) → IsReport words files meant book bytes → status ≡ 5 → HasWriteFault sink
+  cut_short : (bytes : List ℕ) (meant : ℕ) → IsReport words files meant book bytes → status ≡ 5 → HasWriteFailure sink
       → WrotePrefix sink bytes → Ends words files sink status book
   out_of_memory : status ≡ 6 → book ≡ None → WroteNothing sink → Ends words files sink status book
 
@@ -104,8 +104,8 @@ AskForOneThread words = (by : Words) × (words_given words ≡ Some by) × (by.t
 
 -- no read and no write failed, and memory was refused neither to the run (6) nor to a command (8)
 pub record IsUndisturbed (files : FilesSeen) (sink : SinkSeen) (status : ℕ) : Type 0 where
-  pub reads : HasReadFault files → ⊥
-  pub writes : HasWriteFault sink → ⊥
+  pub reads : HasReadFailure files → ⊥
+  pub writes : HasWriteFailure sink → ⊥
   pub memory : status ≢ 6
   pub memory_of_commands : status ≢ 8
 
@@ -130,16 +130,16 @@ IsStatusOf usage status = status ≡ 2
 IsStatusOf (line bytes) status = status ≡ 3
 IsStatusOf (carry plan asked) status = IsAmong status (0 ∷ 1 ∷ 8 ∷ [])
 
--- where the files are told or none is named, and neither count of faults rose, the status is one of those for what
+-- where the files are told or none is named, and neither count of failures rose, the status is one of those for what
 -- words and files come to, or 6
 abbrev pub EachStatusIsOfItsVerdict : Type 0
 EachStatusIsOfItsVerdict = (words : List (List ℕ)) (files : FilesSeen) (sink : SinkSeen) (status : ℕ)
     (book : Option World) → Ends words files sink status book
-    → (stored : StoredFiles) → AreFiles words files stored → (HasReadFault files → ⊥) → (HasWriteFault sink → ⊥)
+    → (stored : StoredFiles) → AreFiles words files stored → (HasReadFailure files → ⊥) → (HasWriteFailure sink → ⊥)
     → IsStatusOf (verdict_of words stored) status ⊎ (status ≡ 6)
 
 -- a run whose words aren't taken says so, unless the sink gave up or memory ran out
-abbrev pub RefusedWordsAreTold : Type 0
-RefusedWordsAreTold = (words : List (List ℕ)) (files : FilesSeen) (sink : SinkSeen) (status : ℕ) (book : Option World)
+abbrev pub RefusedWordsAreReported : Type 0
+RefusedWordsAreReported = (words : List (List ℕ)) (files : FilesSeen) (sink : SinkSeen) (status : ℕ) (book : Option World)
     → Ends words files sink status book
     → words_given words ≡ None → IsAmong status (2 ∷ 5 ∷ 6 ∷ [])

@@ -19,8 +19,8 @@ use Rattle.tool_words.specs.Words.{words_given}
 use Rattle.tool_words.specs.declared.source.Source.{Source}
 use Rattle.tool_words.specs.declared.source.Source.TheVariants.{PodFile, Generator}
 use Rattle.tool_words.specs.declared.words.Words.{Words}
-use Rattle.tool_run.specs.Lines.{word_line, unread_line, error_line}
-use Rattle.tool_run.specs.Refusals.{list_error, pods_error, plan_error, file_at_fault}
+use Rattle.tool_run.specs.Lines.{reason_line, unread_line, error_line}
+use Rattle.tool_run.specs.Refusals.{list_error, pods_error, plan_error, blamed_file}
 
 -- a value, or the line that tells why there is none
 abbrev pub Judged : Type 0 → Type 0
@@ -32,10 +32,10 @@ most_bytes = 16777216
 
 -- What is printed of a file that can't be read. (`file_of` never gives `NoMemory`, so no file has that line.)
 abbrev pub fault_line : FileFault → List ℕ → List ℕ
-fault_line fault.Missing file = word_line (codes "missing") file
-fault_line (fault.TooLarge most) file = word_line (codes "too large") file
+fault_line fault.Missing file = reason_line (codes "missing") file
+fault_line (fault.TooLarge most) file = reason_line (codes "too large") file
 fault_line fault.Failed file = unread_line file
-fault_line fault.NoMemory file = word_line (codes "out of memory") file
+fault_line fault.NoMemory file = reason_line (codes "out of memory") file
 
 -- a value, or what is printed of the error
 abbrev pub judged : {A E : Type 0} → (E → List ℕ) → Result A E → Judged A
@@ -74,7 +74,7 @@ plan_from words pods lists = record { lists = lists; pods = pods; stop_at = word
 
 -- the plan of pods that were read from the file of this name
 unfoldable pub judged_plan : Words → List ℕ → Pods → List NetList → Judged Plan
-judged_plan words file pods lists = judged (λ e. error_line (plan_error e) (file_at_fault file words.lists e))
+judged_plan words file pods lists = judged (λ e. error_line (plan_error e) (blamed_file file words.lists e))
     (joined (plan_from words pods lists))
 
 -- the pod file, then each list, then the plan

@@ -56,7 +56,7 @@ fn one_add_goes_alone(rt: HostRuntime) -> Result<(), Fail> {
 
 /// Each of three reads fails in turn.
 #[test]
-fn a_failed_read_is_told_of_its_file(rt: HostRuntime) -> Result<(), Fail> {
+fn a_failed_read_names_its_file(rt: HostRuntime) -> Result<(), Fail> {
     let alloc = rt.alloc();
     let given = ["pods.json", "net.json", "small.json"];
     for (read, name) in [(1, "pods.json"), (2, "net.json"), (3, "small.json")] {

@@ -28,7 +28,7 @@ pub(crate) fn read_due<F: Files>(
     words: &[Text],
     files: &mut F,
 ) -> Result<Due, NoPlan>
-    ensures comes { ComesToDue words.now (files_seen F.files F.faults files.old files.new) result }
+    ensures comes { ComesToDue words.now (files_seen F.files F.failure_count files.old files.new) result }
     ensures keeps { F.files files.new ≡ F.files files.old }
 {
     match read_words(alloc, words) {
@@ -47,7 +47,7 @@ fn read_due_of<F: Files>(
 ) -> Result<Due, NoPlan>
     requires taken { words_given given.now ≡ Some words }
     requires limits { IsWithinLimits words }
-    ensures comes { ComesToDue given.now (files_seen F.files F.faults files.old files.new) result }
+    ensures comes { ComesToDue given.now (files_seen F.files F.failure_count files.old files.new) result }
     ensures keeps { F.files files.new ≡ F.files files.old }
 {
     let plan = plan_for(alloc, files, &words)?;
@@ -57,7 +57,7 @@ fn read_due_of<F: Files>(
 /// The plan that the words ask for, from files or of generated pods.
 fn plan_for<F: Files>(alloc: Global, files: &mut F, words: &Words) -> Result<Plan, NoPlan>
     requires { IsWithinLimits words.now }
-    ensures gives { GivesPlan words.now (files_seen F.files F.faults files.old files.new) result }
+    ensures gives { GivesPlan words.now (files_seen F.files F.failure_count files.old files.new) result }
     ensures well_formed { IfOk result IsWellFormed }
     ensures keeps { F.files files.new ≡ F.files files.old }
 {

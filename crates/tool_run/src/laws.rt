@@ -6,7 +6,7 @@ ghost use Rattle.pod_workers.specs.Join.{joined};
 ghost use Rattle.pod_workers.specs.Plans.{IsWellFormed};
 ghost use Rattle.pod_workers.specs.declared.plan.Plan.{Plan};
 ghost use Rattle.tool_run.specs.Causes.{IsReadList, IsReadPods};
-ghost use Rattle.tool_run.specs.Statuses.{EachStatusIsOfItsVerdict, RefusedWordsAreTold};
+ghost use Rattle.tool_run.specs.Statuses.{EachStatusIsOfItsVerdict, RefusedWordsAreReported};
 ghost use Rattle.tool_run.specs.Verdict.{generated_plan};
 ghost use Rattle.tool_words.specs.Command.{most_pods};
 
@@ -30,13 +30,13 @@ pub(crate) fn generated_plans_are_well_formed()
     generator_laws();
 }
 
-/// Where the files are told or none is named, and neither count of faults rose, the status of a run is one of those for
-/// what its words and files come to, or 6 (out of memory).
+/// Where the files are told or none is named, and neither count of failures rose, the status of a run is one of those
+/// for what its words and files come to, or 6 (out of memory).
 pub fn an_undisturbed_status_is_of_its_verdict()
     ensures { EachStatusIsOfItsVerdict }
 {}
 
 /// A run whose words aren't taken says so (2), unless the sink gave up (5) or memory ran out (6).
-pub fn refused_words_are_told()
-    ensures { RefusedWordsAreTold }
+pub fn refused_words_are_reported()
+    ensures { RefusedWordsAreReported }
 {}

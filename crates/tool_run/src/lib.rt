@@ -45,6 +45,6 @@ mod thread_tests;
 pub mod top;
 
 pub use kernel::{FromHost, NodeKernel};
-pub use laws::{an_undisturbed_status_is_of_its_verdict, refused_words_are_told};
+pub use laws::{an_undisturbed_status_is_of_its_verdict, refused_words_are_reported};
 pub use pod_text::{MEMORY_STATUS, NO_WORDS_STATUS};
 pub use top::{Ended, Outcome, run, run_alone, run_alone_over, run_over};

@@ -3,7 +3,7 @@
 ghost use Rattle.std.specs.Prelude.{◌≡◌, IfOk, false};
 ghost use Rattle.serde_json.specs.View.{view};
 ghost use Rattle.serde_json.specs.Written.{has_float};
-ghost use Rattle.tool_run.specs.Lines.{error_line, file_data, word_line};
+ghost use Rattle.tool_run.specs.Lines.{error_line, file_data, reason_line};
 ghost use Rattle.cni_json.specs.Json.{line_of};
 
 use cni_addr::NoMemory;
@@ -15,9 +15,9 @@ use std::alloc::Global;
 /// The words aren't taken.
 pub(crate) const USAGE: &[u8] = b"{\"error\":\"usage\"}\n";
 
-/// A word about a file.
-pub(crate) fn word_line(alloc: Global, word: &str, file: &str) -> Result<Vec<u8>, NoMemory>
-    ensures { IfOk result (λ line. line.items ≡ word_line word.now file.now) }
+/// A reason about a file.
+pub(crate) fn reason_line(alloc: Global, word: &str, file: &str) -> Result<Vec<u8>, NoMemory>
+    ensures { IfOk result (λ line. line.items ≡ reason_line word.now file.now) }
 {
     file_line(alloc, Value::try_from_str(alloc, word)?, file)
 }

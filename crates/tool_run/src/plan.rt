@@ -7,8 +7,8 @@ ghost use Rattle.tool_run.specs.Causes.{GivesJudged, GivesStored, IsReadList, Is
 ghost use Rattle.tool_run.specs.Verdict.{stored_bytes, stored_list, stored_lists, plan_of_files, stored_pods, judged_list, judged_plan, judged_pods};
 
 use crate::laws::read_plans_are_well_formed;
-use crate::lines::{error_line, word_line};
-use crate::refusals::{file_at_fault, list_error, plan_error, pods_error};
+use crate::lines::{error_line, reason_line};
+use crate::refusals::{blamed_file, list_error, plan_error, pods_error};
 use cni_addr::{Items, NoMemory, Text};
 use cni_io::{FileFault, Files};
 use kernel_types::RefCounted;
@@ -53,12 +53,13 @@ pub(crate) fn read_plan<F: Files>(
     file: &str,
 ) -> Result<Plan, NoPlan>
     requires { length words.now.lists ≤ most_lists }
-    ensures gives { GivesStored (λ plan. plan) (F.files files.old) (F.faults files.old) (F.faults files.new)
+    ensures gives { GivesStored (λ plan. plan) (F.files files.old)
+        (F.failure_count files.old) (F.failure_count files.new)
         (file.now ∷ words.now.lists) (λ stored. plan_of_files stored words.now file.now) result }
     ensures well_formed { IfOk result IsWellFormed }
     ensures keeps { F.files files.new ≡ F.files files.old }
-    ensures later { F.faults files.old ≤ F.faults files.new }
-    ensures bounded { F.faults files.new < 2 ^ 64 }
+    ensures later { F.failure_count files.old ≤ F.failure_count files.new }
+    ensures bounded { F.failure_count files.new < 2 ^ 64 }
 {
     let pods = read_pods(alloc, files, file)?;
     let lists = read_lists(alloc, files, words.lists.as_slice())?;
@@ -83,7 +84,7 @@ fn join(
     match Plan::join(lists, pods, words.stop_at) {
         Ok(plan) => Ok(plan),
         Err(end) => {
-            let blamed = file_at_fault(file, words.lists.as_slice(), end);
+            let blamed = blamed_file(file, words.lists.as_slice(), end);
             Err(NoPlan::Line(error_line(alloc, &plan_error(alloc, end)?, blamed)?))
         }
     }
@@ -91,12 +92,13 @@ fn join(
 
 #[tactic(auto, using(crate::proofs::Stopping::stopping), unfolding(crate::specs::Verdict::stored_pods))]
 fn read_pods<F: Files>(alloc: Global, files: &mut F, file: &str) -> Result<Pods, NoPlan>
-    ensures gives { GivesStored (λ pods. pods) (F.files files.old) (F.faults files.old) (F.faults files.new)
+    ensures gives { GivesStored (λ pods. pods) (F.files files.old)
+        (F.failure_count files.old) (F.failure_count files.new)
         (file.now ∷ []) (λ stored. stored_pods stored file.now) result }
     ensures read { IfOk result IsReadPods }
     ensures keeps { F.files files.new ≡ F.files files.old }
-    ensures later { F.faults files.old ≤ F.faults files.new }
-    ensures bounded { F.faults files.new < 2 ^ 64 }
+    ensures later { F.failure_count files.old ≤ F.failure_count files.new }
+    ensures bounded { F.failure_count files.new < 2 ^ 64 }
 {
     let bytes = read_bytes(alloc, files, file)?;
     pods_of_bytes(alloc, bytes.as_slice(), file)
@@ -119,13 +121,14 @@ fn read_lists<F: Files>(
     files: &mut F,
     names: &[Text],
 ) -> Result<Items<RefCounted<NetList>>, NoPlan>
-    ensures gives { GivesStored (λ lists. lists) (F.files files.old) (F.faults files.old) (F.faults files.new)
+    ensures gives { GivesStored (λ lists. lists) (F.files files.old)
+        (F.failure_count files.old) (F.failure_count files.new)
         names.now (λ stored. stored_lists stored names.now) result }
     ensures read { IfOk result (All IsReadList) }
     ensures count { IfOk result (λ lists. length lists ≡ length names.now) }
     ensures keeps { F.files files.new ≡ F.files files.old }
-    ensures later { F.faults files.old ≤ F.faults files.new }
-    ensures bounded { F.faults files.old < 2 ^ 64 → F.faults files.new < 2 ^ 64 }
+    ensures later { F.failure_count files.old ≤ F.failure_count files.new }
+    ensures bounded { F.failure_count files.old < 2 ^ 64 → F.failure_count files.new < 2 ^ 64 }
 {
     let mut lists = Items::new(alloc);
     for name in names {
@@ -137,12 +140,13 @@ fn read_lists<F: Files>(
 
 #[tactic(auto, using(crate::proofs::Stopping::stopping), unfolding(crate::specs::Verdict::stored_list))]
 fn read_list<F: Files>(alloc: Global, files: &mut F, file: &str) -> Result<NetList, NoPlan>
-    ensures gives { GivesStored (λ list. list) (F.files files.old) (F.faults files.old) (F.faults files.new)
+    ensures gives { GivesStored (λ list. list) (F.files files.old)
+        (F.failure_count files.old) (F.failure_count files.new)
         (file.now ∷ []) (λ stored. stored_list stored file.now) result }
     ensures read { IfOk result IsReadList }
     ensures keeps { F.files files.new ≡ F.files files.old }
-    ensures later { F.faults files.old ≤ F.faults files.new }
-    ensures bounded { F.faults files.new < 2 ^ 64 }
+    ensures later { F.failure_count files.old ≤ F.failure_count files.new }
+    ensures bounded { F.failure_count files.new < 2 ^ 64 }
 {
     let bytes = read_bytes(alloc, files, file)?;
     list_of_bytes(alloc, bytes.as_slice(), file)
@@ -162,17 +166,22 @@ fn list_of_bytes(alloc: Global, bytes: &[u8], file: &str) -> Result<NetList, NoP
 
 #[tactic(auto, using(crate::proofs::Stopping::stopping))]
 fn read_bytes<F: Files>(alloc: Global, files: &mut F, file: &str) -> Result<Vec<u8>, NoPlan>
-    ensures gives { GivesStored (λ bytes. bytes.items) (F.files files.old) (F.faults files.old) (F.faults files.new)
+    ensures gives { GivesStored (λ bytes. bytes.items) (F.files files.old)
+        (F.failure_count files.old) (F.failure_count files.new)
         (file.now ∷ []) (λ stored. stored_bytes stored file.now) result }
     ensures keeps { F.files files.new ≡ F.files files.old }
-    ensures later { F.faults files.old ≤ F.faults files.new }
-    ensures bounded { F.faults files.new < 2 ^ 64 }
+    ensures later { F.failure_count files.old ≤ F.failure_count files.new }
+    ensures bounded { F.failure_count files.new < 2 ^ 64 }
 {
     match files.read(alloc, file, MOST_BYTES) {
         Ok(bytes) => Ok(bytes),
-        Err(FileFault::Missing) => Err(NoPlan::Line(word_line(alloc, "missing", file)?)),
-        Err(FileFault::TooLarge { .. }) => Err(NoPlan::Line(word_line(alloc, "too large", file)?)),
-        Err(FileFault::Failed) => Err(NoPlan::Unread(word_line(alloc, "read", file)?)),
+        Err(FileFault::Missing) => Err(NoPlan::Line(reason_line(alloc, "missing", file)?)),
+        Err(FileFault::TooLarge { .. }) => Err(NoPlan::Line(reason_line(
+            alloc,
+            "too large",
+            file,
+        )?)),
+        Err(FileFault::Failed) => Err(NoPlan::Unread(reason_line(alloc, "read", file)?)),
         Err(FileFault::NoMemory) => Err(NoPlan::NoMemory),
     }
 }

@@ -2,7 +2,7 @@
 
 ghost use Rattle.std.specs.Prelude.{◌≡◌, IfOk};
 ghost use Rattle.tool_run.specs.Refusals as refusals;
-ghost use Rattle.tool_run.specs.Refusals.{error_about, file_at_fault, list_error, plan_error, pods_error};
+ghost use Rattle.tool_run.specs.Refusals.{error_about, blamed_file, list_error, plan_error, pods_error};
 
 use cni_addr::{NoMemory, Text};
 use cni_result::CniError;
@@ -57,9 +57,9 @@ pub(crate) fn plan_error(alloc: Global, error: PlanError) -> Result<CniError, No
     }
 }
 
-/// The file at fault: the network list that has the name of an earlier one, or else the pod file.
-pub(crate) fn file_at_fault<'a>(pods: &'a str, lists: &'a [Text], error: PlanError) -> &'a str
-    ensures { result.now ≡ file_at_fault pods.entry.now lists.entry.now error }
+/// The file that is to blame: the network list that has the name of an earlier one, or else the pod file.
+pub(crate) fn blamed_file<'a>(pods: &'a str, lists: &'a [Text], error: PlanError) -> &'a str
+    ensures { result.now ≡ blamed_file pods.entry.now lists.entry.now error }
 {
     match error {
         PlanError::SameName { list } => match lists.get(list as usize) {

@@ -1,7 +1,7 @@
 //! A round by `Book::round_alone` over a kernel that refuses memory.
 
 use crate::kernel::{FromHost, NodeKernel};
-use crate::round_tests::{Came, Seen, Word, carried_out};
+use crate::round_tests::{Brief, Came, Seen, carried_out};
 use crate::tests::{LIST, plan_of};
 use cni_addr::{Duplicate, Items};
 use kernel_model::RefusingKernel;
@@ -10,7 +10,7 @@ use pod_workers::Book;
 use std::alloc::Global;
 use std::test::Fail;
 
-/// An ADD and a collection of everything.
+/// An ADD and a GC of everything.
 const SWEPT: &str = "{\"opening\":{\"namespaces\":[\"/ns/a\"]},\"rounds\":[\
 [{\"verb\":\"ADD\",\"network\":\"pods\",\"container\":\"c1\",\"netns\":\"/ns/a\"}],\
 [{\"verb\":\"GC\",\"network\":\"pods\",\"valid\":[]}]]}";
@@ -34,7 +34,7 @@ fn refused<K: FromHost + Drop>(alloc: Global, number: u64) -> Result<(Seen, Vec<
     Ok((seen, text(alloc, &book, asked)?))
 }
 
-/// An ADD whose fourth call is refused memory leaves what it made to a collection.
+/// An ADD whose fourth call is refused memory leaves what it made to a GC.
 #[test]
 fn an_add_that_is_refused_memory_is_swept(rt: HostRuntime) -> Result<(), Fail> {
     let alloc = rt.alloc();
@@ -42,11 +42,11 @@ fn an_add_that_is_refused_memory_is_swept(rt: HostRuntime) -> Result<(), Fail> {
     assert_eq!(rt; lines.as_slice(), LINES.as_bytes());
     let refused = Came {
         calls: 3,
-        word: Word::OutOfMemory,
+        brief: Brief::OutOfMemory,
     };
     let swept = Came {
         calls: 8,
-        word: Word::Yes,
+        brief: Brief::Yes,
     };
     assert!(rt; seen.first == refused && seen.second == swept && seen.unowned);
     Ok(())

@@ -16,7 +16,7 @@ pub(crate) fn report<K: Kernel + Drop, S: Sink>(
     sink: &mut S,
     settled: Result<CarriedOut<K>, NoPlan>,
 ) -> Ended<K>
-    ensures { Reported (sink_seen S.written S.faults sink.old sink.new) settled result }
+    ensures { Reported (sink_seen S.written S.failure_count sink.old sink.new) settled result }
 {
     match settled {
         Ok(CarriedOut { book, text }) => Ended {
@@ -32,7 +32,7 @@ pub(crate) fn report<K: Kernel + Drop, S: Sink>(
 
 /// Writes why there is no plan, and returns the status.
 fn report_no_plan<S: Sink>(sink: &mut S, none: NoPlan) -> u8
-    ensures { ReportsNoPlan (sink_seen S.written S.faults sink.old sink.new) none result }
+    ensures { ReportsNoPlan (sink_seen S.written S.failure_count sink.old sink.new) none result }
 {
     match none {
         NoPlan::Usage => write(sink, USAGE, USAGE_STATUS),
@@ -44,7 +44,7 @@ fn report_no_plan<S: Sink>(sink: &mut S, none: NoPlan) -> u8
 
 /// Writes the bytes, and returns the status, or [`WRITE_STATUS`] where the sink gave up.
 fn write<S: Sink>(sink: &mut S, bytes: &[u8], status: u8) -> u8
-    ensures { Reports (sink_seen S.written S.faults sink.old sink.new) bytes.now status result }
+    ensures { Reports (sink_seen S.written S.failure_count sink.old sink.new) bytes.now status result }
 {
     match write_whole(sink, bytes) {
         Ok(()) => status,

@@ -20,14 +20,14 @@ const MAPPED: &str = "{\"opening\":{\"namespaces\":[\"/ns/a\"]},\"rounds\":[[\
 {\"verb\":\"ADD\",\"network\":\"gen\",\"container\":\"c1\",\"netns\":\"/ns/a\",\
 \"portMappings\":[{\"hostPort\":8080,\"containerPort\":80,\"protocol\":\"tcp\"}],";
 
-/// A pod file with three ADDs and a collection of everything, up to where it says the same of the collection.
+/// A pod file with three ADDs and a GC of everything, up to where it says the same of the GC.
 const THREE: &str = "{\"opening\":{\"namespaces\":[\"/ns/a\",\"/ns/b\",\"/ns/c\"]},\"rounds\":[\
 [{\"verb\":\"ADD\",\"network\":\"pods\",\"container\":\"c1\",\"netns\":\"/ns/a\"}],\
 [{\"verb\":\"ADD\",\"network\":\"pods\",\"container\":\"c2\",\"netns\":\"/ns/b\"}],\
 [{\"verb\":\"ADD\",\"network\":\"pods\",\"container\":\"c3\",\"netns\":\"/ns/c\"}],\
 [{\"verb\":\"GC\",\"network\":\"pods\",\"valid\":[],";
 
-/// After how many calls an ADD is stopped, and how many a collection makes after it.
+/// After how many calls an ADD is stopped, and how many a GC makes after it.
 const STOPPED: [(u32, u64); 16] = [
     (0, 6),
     (1, 6),
@@ -66,9 +66,9 @@ const FAULTY: [(u32, u64); 15] = [
     (15, 31),
 ];
 
-/// What a command was answered, in a word.
+/// What a command was answered, in short.
 #[derive(Clone, Copy, Debug, PartialEq, Eq)]
-pub(crate) enum Word {
+pub(crate) enum Brief {
     Added,
     Yes,
     OutOfMemory,
@@ -81,7 +81,7 @@ pub(crate) enum Word {
 #[derive(Clone, Copy, Debug, PartialEq, Eq)]
 pub(crate) struct Came {
     pub(crate) calls: u64,
-    pub(crate) word: Word,
+    pub(crate) brief: Brief,
 }
 
 /// What two commands came to, and whether nothing is owned at the end.
@@ -92,23 +92,23 @@ pub(crate) struct Seen {
     pub(crate) unowned: bool,
 }
 
-/// The call whose fault a refusal tells of.
-fn fault_of(error: &CniError) -> Word {
+/// The call whose fault a refusal names.
+fn fault_of(error: &CniError) -> Brief {
     match error.details.as_str().split_once(' ') {
         Some(("call", number)) if error.code == 103 => {
-            number.parse().map_or(Word::Other, Word::Fault)
+            number.parse().map_or(Brief::Other, Brief::Fault)
         }
-        _ => Word::Other,
+        _ => Brief::Other,
     }
 }
 
-fn word_of(answer: Option<&Answer>) -> Word {
+fn brief_of(answer: Option<&Answer>) -> Brief {
     match answer {
-        Some(Answer::Added(_)) => Word::Added,
-        Some(Answer::Yes) => Word::Yes,
-        Some(Answer::OutOfMemory) => Word::OutOfMemory,
+        Some(Answer::Added(_)) => Brief::Added,
+        Some(Answer::Yes) => Brief::Yes,
+        Some(Answer::OutOfMemory) => Brief::OutOfMemory,
         Some(Answer::Refused(error)) => fault_of(error),
-        _ => Word::Other,
+        _ => Brief::Other,
     }
 }
 
@@ -116,7 +116,7 @@ fn came_of<K: Kernel + Drop>(book: &Book<K>, number: u32) -> Came {
     let calls = book.history().iter();
     Came {
         calls: calls.filter(|entry| entry.command == number).count() as u64,
-        word: word_of(book.answer(number)),
+        brief: brief_of(book.answer(number)),
     }
 }
 
@@ -171,7 +171,7 @@ fn is_unowned(host: &Host) -> bool {
         || host.cached.as_slice().iter().any(|it| it.tag.is_owned()))
 }
 
-/// An ADD that is stopped after so many calls, and a collection of everything.
+/// An ADD that is stopped after so many calls, and a GC of everything.
 fn stopped_add(alloc: Global, stop: u32) -> Result<Seen, Fail> {
     let swept = "}],[{\"verb\":\"GC\",\"network\":\"gen\",\"valid\":[]}]]}";
     let pods = format!(in alloc; "{MAPPED}\"stop\":{stop}{swept}")?;
@@ -184,7 +184,7 @@ fn faulty_add(alloc: Global, fault: u32) -> Result<Seen, Fail> {
     make_rounds::<NodeKernel>(alloc, PUBLISHED, pods.as_str(), 1, 1)
 }
 
-/// A collection that is cut short as these words say, and another after it.
+/// A GC that is cut short as these keys say, and another after it.
 fn two_collections(alloc: Global, cut: &str) -> Result<Seen, Fail> {
     let again = "}],[{\"verb\":\"GC\",\"network\":\"pods\",\"valid\":[]}]]}";
     let pods = format!(in alloc; "{THREE}{cut}{again}")?;
@@ -207,7 +207,7 @@ fn an_add_that_is_stopped_is_swept(rt: HostRuntime) -> Result<(), Fail> {
         let seen = stopped_add(rt.alloc(), stop)?;
         let swept = Came {
             calls,
-            word: Word::Yes,
+            brief: Brief::Yes,
         };
         assert_eq!(rt; seen.first.calls, u64::from(stop));
         assert_eq!(rt; seen.second, swept, "stop {stop}");
@@ -222,7 +222,7 @@ fn an_add_with_a_fault_takes_back_what_it_made(rt: HostRuntime) -> Result<(), Fa
         let seen = faulty_add(rt.alloc(), fault)?;
         let refused = Came {
             calls,
-            word: Word::Fault(fault),
+            brief: Brief::Fault(fault),
         };
         assert_eq!(rt; seen.first, refused, "fault {fault}");
         assert!(rt; seen.unowned, "fault {fault}");
@@ -230,23 +230,23 @@ fn an_add_with_a_fault_takes_back_what_it_made(rt: HostRuntime) -> Result<(), Fa
     Ok(())
 }
 
-/// A collection that meets a fault, or is stopped, is finished by the one after it.
+/// A GC that meets a fault, or is stopped, is finished by the one after it.
 #[test]
 fn a_collection_that_is_cut_short_is_finished(rt: HostRuntime) -> Result<(), Fail> {
     for call in 1..28u32 {
         let failed = faulty_collection(rt.alloc(), call)?;
-        assert_eq!(rt; failed.first.word, Word::Fault(call));
-        assert_eq!(rt; failed.second.word, Word::Yes);
+        assert_eq!(rt; failed.first.brief, Brief::Fault(call));
+        assert_eq!(rt; failed.second.brief, Brief::Yes);
         assert!(rt; failed.unowned, "fault {call}");
         let cut = stopped_collection(rt.alloc(), call)?;
         assert_eq!(rt; cut.first.calls, u64::from(call));
-        assert_eq!(rt; cut.second.word, Word::Yes);
+        assert_eq!(rt; cut.second.brief, Brief::Yes);
         assert!(rt; cut.unowned, "stop {call}");
     }
     Ok(())
 }
 
-/// Where its first question is a fault, a collection still asks for the other kinds, and takes back all.
+/// Where its first question is a fault, a GC still asks for the other kinds, and takes back all.
 #[test]
 fn a_collection_whose_first_call_is_a_fault_goes_on(rt: HostRuntime) -> Result<(), Fail> {
     let seen = faulty_collection(rt.alloc(), 1)?;

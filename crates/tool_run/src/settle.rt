@@ -25,7 +25,7 @@ pub(crate) fn settle<K: FromHost + Send + Drop, R: Threads + Wait + Sync, F: Fil
     files: &mut F,
     gate: &G,
 ) -> Result<CarriedOut<K>, NoPlan>
-    ensures settles { Settles words.now (files_seen F.files F.faults files.old files.new) result }
+    ensures settles { Settles words.now (files_seen F.files F.failure_count files.old files.new) result }
     ensures order { AskForOneThread words.now → IfOk result (λ made. IsInFileOrder made.book) }
     ensures keeps { F.files files.new ≡ F.files files.old }
 {
@@ -40,7 +40,7 @@ pub(crate) fn settle_alone<K: FromHost + Drop, F: Files>(
     words: &[Text],
     files: &mut F,
 ) -> Result<CarriedOut<K>, NoPlan>
-    ensures settles { Settles words.now (files_seen F.files F.faults files.old files.new) result }
+    ensures settles { Settles words.now (files_seen F.files F.failure_count files.old files.new) result }
     ensures order { IfOk result (λ made. IsInFileOrder made.book) }
     ensures keeps { F.files files.new ≡ F.files files.old }
 {

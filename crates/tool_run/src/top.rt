@@ -47,14 +47,14 @@ where
     S: Sink,
     G: Gate,
     ensures ends { Ends words.now
-        (files_seen F.files F.faults files.old files.new)
-        (sink_seen S.written S.faults sink.old sink.new)
+        (files_seen F.files F.failure_count files.old files.new)
+        (sink_seen S.written S.failure_count sink.old sink.new)
         result.status result.book }
     ensures guaranteed { IfSome result.book IsGuaranteed }
     ensures order { AskForOneThread words.now → IfSome result.book IsInFileOrder }
     ensures determined { AskForOneThread words.now → IsDetermined words.now
-        (files_seen F.files F.faults files.old files.new)
-        (sink_seen S.written S.faults sink.old sink.new)
+        (files_seen F.files F.failure_count files.old files.new)
+        (sink_seen S.written S.failure_count sink.old sink.new)
         result.status }
     ensures keeps { F.files files.new ≡ F.files files.old }
 {
@@ -72,14 +72,14 @@ pub fn run_alone_over<K: FromHost + Drop, F: Files, S: Sink>(
     sink: &mut S,
 ) -> Ended<K>
     ensures ends { Ends words.now
-        (files_seen F.files F.faults files.old files.new)
-        (sink_seen S.written S.faults sink.old sink.new)
+        (files_seen F.files F.failure_count files.old files.new)
+        (sink_seen S.written S.failure_count sink.old sink.new)
         result.status result.book }
     ensures guaranteed { IfSome result.book IsGuaranteed }
     ensures order { IfSome result.book IsInFileOrder }
     ensures determined { IsDetermined words.now
-        (files_seen F.files F.faults files.old files.new)
-        (sink_seen S.written S.faults sink.old sink.new)
+        (files_seen F.files F.failure_count files.old files.new)
+        (sink_seen S.written S.failure_count sink.old sink.new)
         result.status }
     ensures keeps { F.files files.new ≡ F.files files.old }
 {
@@ -106,14 +106,14 @@ pub fn run<R: Threads + Wait + Sync, F: Files, S: Sink, G: Gate>(
     gate: &G,
 ) -> Outcome
     ensures ends { Ends words.now
-        (files_seen F.files F.faults files.old files.new)
-        (sink_seen S.written S.faults sink.old sink.new)
+        (files_seen F.files F.failure_count files.old files.new)
+        (sink_seen S.written S.failure_count sink.old sink.new)
         result.status result.book }
     ensures guaranteed { IfSome result.book IsGuaranteed }
     ensures order { AskForOneThread words.now → IfSome result.book IsInFileOrder }
     ensures determined { AskForOneThread words.now → IsDetermined words.now
-        (files_seen F.files F.faults files.old files.new)
-        (sink_seen S.written S.faults sink.old sink.new)
+        (files_seen F.files F.failure_count files.old files.new)
+        (sink_seen S.written S.failure_count sink.old sink.new)
         result.status }
     ensures keeps { F.files files.new ≡ F.files files.old }
 {
@@ -129,14 +129,14 @@ pub fn run_alone<F: Files, S: Sink>(
     sink: &mut S,
 ) -> Outcome
     ensures ends { Ends words.now
-        (files_seen F.files F.faults files.old files.new)
-        (sink_seen S.written S.faults sink.old sink.new)
+        (files_seen F.files F.failure_count files.old files.new)
+        (sink_seen S.written S.failure_count sink.old sink.new)
         result.status result.book }
     ensures guaranteed { IfSome result.book IsGuaranteed }
     ensures order { IfSome result.book IsInFileOrder }
     ensures determined { IsDetermined words.now
-        (files_seen F.files F.faults files.old files.new)
-        (sink_seen S.written S.faults sink.old sink.new)
+        (files_seen F.files F.failure_count files.old files.new)
+        (sink_seen S.written S.failure_count sink.old sink.new)
         result.status }
     ensures keeps { F.files files.new ≡ F.files files.old }
 {

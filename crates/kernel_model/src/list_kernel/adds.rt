@@ -9,9 +9,9 @@ ghost use Rattle.kernel_types.specs.declared.object.Host.{Host};
 use super::HostLists;
 use crate::compared::contains;
 use crate::lists::push_both;
-use crate::words::{copy_tag, has_bridge_in, has_free_master, has_link_in, has_ns_in, link_in};
+use crate::lookups::{copy_tag, has_bridge_in, has_free_master, has_link_in, has_ns_in, link_in};
 use cni_addr::{Duplicate, NoMemory, Text};
-use kernel_types::words::{is_same_addr, is_same_route, is_same_setting};
+use kernel_types::terms::{is_same_addr, is_same_route, is_same_setting};
 use kernel_types::{AddrObj, Link, RefCounted, Reply, RouteObj, Rule, Setting, Tag};
 
 /// The same address on the same link.

@@ -1,12 +1,12 @@
 //! The first call of an attachment.
 
 ghost use Rattle.std.specs.Prelude.{◌≡◌, IfOk};
-ghost use Rattle.kernel_types.specs.Words.{has_objects};
+ghost use Rattle.kernel_types.specs.Terms.{has_objects};
 ghost use Rattle.kernel_types.specs.Apply.Calls.{begin_of};
 
 use super::HostLists;
 use crate::lists::any_own;
-use crate::words::is_host_or_ns;
+use crate::lookups::is_host_or_ns;
 use cni_addr::{Duplicate, NoMemory, Text};
 use kernel_types::{Att, Reply, Tag};
 

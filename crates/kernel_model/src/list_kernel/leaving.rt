@@ -2,14 +2,14 @@
 
 ghost use Rattle.std.specs.Prelude.{◌≡◌, ◌&&◌, not, filter, find, Some};
 ghost use Rattle.std.specs.List.{list_any};
-ghost use Rattle.kernel_types.specs.Words.{is_own};
+ghost use Rattle.kernel_types.specs.Terms.{is_own};
 ghost use Rattle.kernel_types.specs.Apply.Calls.{goes_with, without_links, link_del_of};
 ghost use Rattle.kernel_types.specs.declared.object.Link.{Link};
 
 use super::HostLists;
 use crate::lists::{find_own, take_own};
 use cni_addr::Text;
-use kernel_types::words::is_at;
+use kernel_types::terms::is_at;
 use kernel_types::{AddrObj, Att, Link, Reply, RouteObj};
 
 /// A test of which links leave.
@@ -68,7 +68,7 @@ trait OnLink {
 }
 
 impl OnLink for AddrObj {
-    ghost use Rattle.kernel_types.specs.Words.{is_at};
+    ghost use Rattle.kernel_types.specs.Terms.{is_at};
 
     ghost on_link = { λ a. is_at a.ns a.link };
 
@@ -78,7 +78,7 @@ impl OnLink for AddrObj {
 }
 
 impl OnLink for RouteObj {
-    ghost use Rattle.kernel_types.specs.Words.{is_at};
+    ghost use Rattle.kernel_types.specs.Terms.{is_at};
 
     ghost on_link = { λ r. is_at r.ns r.link };
 

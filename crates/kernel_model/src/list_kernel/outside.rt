@@ -10,7 +10,7 @@ ghost use Rattle.kernel_types.specs.declared.call.Call.TheVariants.{NsChange, Ou
 
 use super::HostLists;
 use super::leaving::{AtPlace, InNamespace};
-use crate::words::{has_ns_in, link_in};
+use crate::lookups::{has_ns_in, link_in};
 use cni_addr::{NoMemory, Text};
 use kernel_types::{Change, LinkKey, NsObj, RefCounted, Reply, Rule, Setting, Table, Tag};
 

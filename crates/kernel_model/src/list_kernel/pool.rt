@@ -4,14 +4,14 @@ ghost use Rattle.std.specs.Prelude.{◌≡◌, true, [], ◌∷◌, ◌++◌, ma
 ghost use Rattle.std.specs.List.{list_any};
 ghost use Rattle.ip_pool.specs.NextAddress.{is_candidate_or_none};
 ghost use Rattle.kernel_types.specs.Allowed.{HasRangesApart};
-ghost use Rattle.kernel_types.specs.Words.{is_lease_at, is_of_pool, last_leased, lease_of, leased_addresses};
+ghost use Rattle.kernel_types.specs.Terms.{is_lease_at, is_of_pool, last_leased, lease_of, leased_addresses};
 ghost use Rattle.kernel_types.specs.Apply.Calls.{moved_last, with_last, lease_next_of, pool_free_of};
 ghost use Rattle.ip_pool.specs.Pool.{pick_of};
 
 use super::HostLists;
 use cni_addr::{Addr, Duplicate, NoMemory, RangeSet, Text};
 use ip_pool::{Taken, has_free, pick};
-use kernel_types::words::last_in;
+use kernel_types::terms::last_in;
 use kernel_types::{Att, Last, Lease, Reply};
 
 /// The addresses that are leased in a network.
@@ -22,7 +22,7 @@ struct NetworkLeases<'a> {
 }
 
 impl Taken for NetworkLeases<'_> {
-    ghost use Rattle.kernel_types.specs.Words.{addresses_in};
+    ghost use Rattle.kernel_types.specs.Terms.{addresses_in};
 
     ghost taken = { λ t. addresses_in t.leases.now t.network.now };
 

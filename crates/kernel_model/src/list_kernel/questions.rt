@@ -2,14 +2,14 @@
 
 ghost use Rattle.std.specs.Prelude.{◌≡◌, IfOk};
 ghost use Rattle.std.specs.List.{list_any};
-ghost use Rattle.kernel_types.specs.Words.{is_bridge_with};
+ghost use Rattle.kernel_types.specs.Terms.{is_bridge_with};
 ghost use Rattle.kernel_types.specs.Apply.Calls.{has_object, has_obj_of, owners_of};
 ghost use Rattle.kernel_types.specs.declared.call.Probe.TheVariants.{Whole};
 
 use super::HostLists;
 use crate::compared::contains;
+use crate::lookups::{has_free_master, is_host_bridge};
 use crate::owners::owners_among;
-use crate::words::{has_free_master, is_host_bridge};
 use cni_addr::{Mac, NoMemory, Text};
 use kernel_types::{Kind, Link, Object, Probe, Reply};
 use std::alloc::Global;

@@ -6,9 +6,9 @@ ghost use Rattle.kernel_types.specs.Apply.Calls.{bridge_ensure_of, gateway_ensur
 ghost use Rattle.kernel_types.specs.Keys.{is_same_addr, is_same_setting};
 
 use super::HostLists;
-use crate::words::{has_bridge_in, host_link};
+use crate::lookups::{has_bridge_in, host_link};
 use cni_addr::{Cidr, Duplicate, Family, NoMemory, Text};
-use kernel_types::words::{is_same_addr, is_same_setting};
+use kernel_types::terms::{is_same_addr, is_same_setting};
 use kernel_types::{AddrObj, Link, Reply, Setting};
 use std::alloc::Global;
 

@@ -1,16 +1,16 @@
 //! The first call of an attachment.
 
 ghost use Rattle.std.specs.Prelude.{◌≡◌, IfOk, OnErr};
-ghost use Rattle.kernel_types.specs.Words.{has_objects, is_host_or_ns};
+ghost use Rattle.kernel_types.specs.Terms.{has_objects, is_host_or_ns};
 ghost use Rattle.kernel_types.specs.Apply.Calls.{begin_of};
 
 use super::Tables;
 use cni_addr::{Duplicate, NoMemory, Text};
-use kernel_types::words::is_host_ns;
+use kernel_types::terms::is_host_ns;
 use kernel_types::{Att, Reply, Tag};
 
 impl Tables {
-    /// Whether this is the host, which is always there, or a namespace has this name.
+    /// Whether this is the host's own namespace, which is always there, or a namespace has this name.
     pub(super) fn is_host_or_ns(&self, ns: &Text) -> bool
         ensures { result ≡ is_host_or_ns self.now.namespaces ns.now }
     {

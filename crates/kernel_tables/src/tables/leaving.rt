@@ -2,13 +2,13 @@
 
 ghost use Rattle.std.specs.Prelude.{◌≡◌, ◌&&◌, not, filter};
 ghost use Rattle.kernel_types.specs.Sound.{IsSound};
-ghost use Rattle.kernel_types.specs.Words.{has_ns_in, is_own};
+ghost use Rattle.kernel_types.specs.Terms.{has_ns_in, is_own};
 ghost use Rattle.kernel_types.specs.Apply.Calls.{drop_link_of, link_del_of};
 ghost use Rattle.kernel_tables.specs.Leaving.{has_end_at, is_peer};
 
 use super::Tables;
 use crate::row::Test;
-use kernel_types::words::{is_at, is_peer_at};
+use kernel_types::terms::{is_at, is_peer_at};
 use kernel_types::{AddrObj, Att, Link, LinkKey, Reply, RouteObj, Tag};
 
 /// What lies on a link or on its peer.

@@ -5,7 +5,7 @@ ghost use Rattle.kernel_types.specs.Apply.{apply};
 ghost use Rattle.kernel_types.specs.Apply.Calls.{has_peer_in, ns_add_of, ns_del_of};
 ghost use Rattle.kernel_types.specs.Replies.{needs_no_memory};
 ghost use Rattle.kernel_types.specs.Sound.{IsSound};
-ghost use Rattle.kernel_types.specs.Words.{has_named_ns, is_host_link};
+ghost use Rattle.kernel_types.specs.Terms.{has_named_ns, is_host_link};
 ghost use Rattle.kernel_types.specs.declared.call.Call.TheVariants.{NsChange};
 ghost use Rattle.kernel_tables.specs.Leaving.{leads_into, place_goes_with_ns};
 
@@ -13,7 +13,7 @@ use super::Tables;
 use crate::row::Test;
 use crate::table::Table;
 use cni_addr::{NoMemory, Text};
-use kernel_types::words::is_host_ns;
+use kernel_types::terms::is_host_ns;
 use kernel_types::{AddrObj, Att, Link, LinkKey, NsObj, Reply, RouteObj, Setting, Tag};
 use std::alloc::Global;
 

@@ -3,7 +3,7 @@
 ghost use Rattle.std.specs.Prelude.{◌≡◌, IfOk, OnErr};
 ghost use Rattle.kernel_types.specs.Apply.Calls.{addr_add_of, has_link_of, route_add_of, rule_append_of, setting_set_of};
 ghost use Rattle.kernel_types.specs.Sound.{IsSound};
-ghost use Rattle.kernel_types.specs.Words.{has_named_ns};
+ghost use Rattle.kernel_types.specs.Terms.{has_named_ns};
 
 use super::Tables;
 use crate::keys::{AddrKey, RouteKey, SettingKey};

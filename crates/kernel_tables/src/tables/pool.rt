@@ -6,7 +6,7 @@ ghost use Rattle.cni_addr.specs.declared.address.Addr.{Addr};
 ghost use Rattle.ip_pool.specs.NextAddress.{is_candidate_or_none, is_taken};
 ghost use Rattle.ip_pool.specs.Pool.{has_free_of, pick_of};
 ghost use Rattle.kernel_types.specs.Allowed.{HasRangesApart};
-ghost use Rattle.kernel_types.specs.Words.{is_lease_at, is_of_pool, last_leased, lease_of, leased_addresses};
+ghost use Rattle.kernel_types.specs.Terms.{is_lease_at, is_of_pool, last_leased, lease_of, leased_addresses};
 ghost use Rattle.kernel_types.specs.Apply.Calls.{moved_last, with_last, lease_next_of, pool_free_of};
 
 use super::Tables;

@@ -4,14 +4,14 @@ ghost use Rattle.std.specs.Prelude.{◌≡◌, IfOk};
 ghost use Rattle.std.specs.List.{list_any};
 ghost use Rattle.kernel_types.specs.Equal.{link_eq};
 ghost use Rattle.kernel_types.specs.Sound.{IsSound};
-ghost use Rattle.kernel_types.specs.Words.{is_bridge_with};
+ghost use Rattle.kernel_types.specs.Terms.{is_bridge_with};
 ghost use Rattle.kernel_types.specs.Apply.Calls.{has_free_master, has_object, has_obj_of, owners_of};
 ghost use Rattle.kernel_types.specs.declared.call.Probe.TheVariants.{Whole};
 
 use super::Tables;
 use crate::row::Test;
 use cni_addr::{Mac, NoMemory, Text};
-use kernel_types::words::is_host_ns;
+use kernel_types::terms::is_host_ns;
 use kernel_types::{Att, Kind, Link, Object, Probe, Reply, Tag};
 use std::alloc::Global;
 
@@ -48,8 +48,8 @@ impl Test<Link> for EqualLink<'_> {
 }
 
 impl Tables {
-    /// Whether an equal link is there: among those of its owner, or the one of its name in the host. A link elsewhere
-    /// that nobody owns is searched for.
+    /// Whether an equal link is there: among those of its owner, or the one of its name in the host's own namespace. A
+    /// link elsewhere that nobody owns is searched for.
     fn has_link(&self, link: &Link) -> bool
         requires sound { IsSound self.now }
         ensures { result ≡ list_any (λ l. link_eq l link.now) self.now.links }

@@ -6,7 +6,7 @@ ghost use Rattle.std.specs.Option.{option_copied};
 ghost use Rattle.kernel_types.specs.Apply.Calls.{bridge_ensure_of, gateway_ensure_of, forward_ensure_of};
 ghost use Rattle.kernel_types.specs.Keys.{is_same_addr, is_same_setting};
 ghost use Rattle.kernel_types.specs.Sound.{IsSound};
-ghost use Rattle.kernel_types.specs.Words.{has_host_bridge, is_host_link};
+ghost use Rattle.kernel_types.specs.Terms.{has_host_bridge, is_host_link};
 
 use super::Tables;
 use crate::keys::{AddrKey, SettingKey};

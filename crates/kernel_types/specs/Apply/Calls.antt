@@ -15,8 +15,8 @@ use Rattle.cni_addr.specs.Lists.{each_key_once, without_first}
 use Rattle.ip_pool.specs.Pool.{pick_of, has_free_of}
 pub use Rattle.kernel_types.specs.Keys.{is_same_addr, is_same_route, is_same_rule, is_same_setting}
 use Rattle.kernel_types.specs.Names.{link_mac_of}
-pub use Rattle.kernel_types.specs.Words.{has_link_in, addresses_in, is_of_pool, last_in, last_leased, leased_addresses, owner_in}
-use Rattle.kernel_types.specs.Words.{is_host_or_ns, is_own, is_owned, is_bridge, is_at, is_peer_at, has_named_ns, link_at, is_host_link, is_bridge_with, has_host_bridge, has_objects, new_link, lease_of, cached_in, outside_namespace}
+pub use Rattle.kernel_types.specs.Terms.{has_link_in, addresses_in, is_of_pool, last_in, last_leased, leased_addresses, owner_in}
+use Rattle.kernel_types.specs.Terms.{is_host_or_ns, is_own, is_owned, is_bridge, is_at, is_peer_at, has_named_ns, link_at, is_host_link, is_bridge_with, has_host_bridge, has_objects, new_link, lease_of, cached_in, outside_namespace}
 use Rattle.kernel_types.specs.declared.object.Att.{Att}
 use Rattle.kernel_types.specs.declared.object.LinkKey.{LinkKey}
 use Rattle.kernel_types.specs.declared.object.Tag.{Tag}
@@ -209,7 +209,7 @@ lease_next_of host att number set =
 abbrev pub pool_free_of : Host → List ℕ → RangeSet → Host × Reply
 pool_free_of host network set = (host, Has (has_free_of set (leased_addresses host network)))
 
--- ---- kept results
+-- ---- cached results
 
 abbrev pub cache_put_of : Host → Att → Cached → Host × Reply
 cache_put_of host att cached =

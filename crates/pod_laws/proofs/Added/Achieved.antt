@@ -20,7 +20,7 @@ use Rattle.kernel_types.specs.declared.call.Call.TheVariants.{Begin, LeaseNext}
 use Rattle.kernel_types.specs.declared.call.Reply.{Reply}
 use Rattle.kernel_types.specs.declared.call.Reply.TheVariants.{Done, Leased, Fault}
 use Rattle.plugin_base.specs.Calls.{is_plugin_call_of}
-use Rattle.kernel_types.specs.Words.{lease_of}
+use Rattle.kernel_types.specs.Terms.{lease_of}
 use Rattle.plugin_base.specs.Share.{Share, share_of, no_objects, share_after_call, share_after_calls}
 use Rattle.plugin_base.proofs.CallLists.{share_after_calls-append}
 use Rattle.plugin_base.proofs.OwnCalls.{share-own, share-begin, share-lease}

@@ -13,7 +13,7 @@ use Rattle.net_conf.specs.declared.list.NetList.{NetList}
 use Rattle.kernel_types.specs.Apply.{apply}
 use Rattle.kernel_types.specs.Apply.Calls.{append_unless_taken, bridge_or_new, new_bridge, master_is_bridge_or_none, has_link_of, is_own_at, is_same_addr, is_same_route, is_same_setting, set_link, with_values, new_gateway, new_forward}
 use Rattle.kernel_types.specs.Equal.{rule_eq}
-use Rattle.kernel_types.specs.Words.{is_own, is_host_link, is_bridge, is_link_of, has_named_ns, has_host_bridge, link_at}
+use Rattle.kernel_types.specs.Terms.{is_own, is_host_link, is_bridge, is_link_of, has_named_ns, has_host_bridge, link_at}
 use Rattle.cni_addr.proofs.Cases.{by_test}
 use Rattle.kernel_types.proofs.ListLemmas.{list_all-weaker, list_any-append_left, list_any-map, list_any-same_test}
 use Rattle.kernel_types.specs.declared.object.Att.{Att}

@@ -13,7 +13,7 @@ use Rattle.pod_file.specs.declared.command.Command.{Command}
 use Rattle.kernel_types.specs.Apply.Calls.{set_link}
 use Rattle.cni_addr.specs.Lists.{IsAmong}
 use Rattle.kernel_types.specs.Touch.{DropsOnly}
-use Rattle.kernel_types.specs.Words.{is_own}
+use Rattle.kernel_types.specs.Terms.{is_own}
 use Rattle.kernel_types.specs.declared.object.Att.{Att}
 use Rattle.kernel_types.specs.declared.object.Host.{Host}
 use Rattle.kernel_types.specs.declared.object.Tag.TheVariants.{Own}
@@ -55,8 +55,8 @@ among-append : {X : Type 0} (xs rest : List X) → AreAmong xs (xs ++ rest)
 among-append [] rest = tt
 among-append (x ∷ xs) rest = (inl refl, are-right xs (x ∷ []) (xs ++ rest) (among-append xs rest))
 
-pub among-front : {X : Type 0} (long short : List X) → GrowsAtEnd short long → AreAmong short long
-among-front long short h = subst (AreAmong short) (sym h.1) (among-append short h.0)
+pub among-prefix : {X : Type 0} (long short : List X) → GrowsAtEnd short long → AreAmong short long
+among-prefix long short h = subst (AreAmong short) (sym h.1) (among-append short h.0)
 
 -- ---- what is left of a list is among what it was among
 
@@ -81,7 +81,7 @@ among-drops p gone all (x ∷ old) (y ∷ new) d h =
 -- ---- prefixes of shares
 
 -- list by list, but for the links, which a later call may set
-pub record IsFront (s t : Share) : Type 0 where
+pub record IsPrefix (s t : Share) : Type 0 where
   pub addresses : GrowsAtEnd s.addresses t.addresses
   pub routes : GrowsAtEnd s.routes t.routes
   pub rules : GrowsAtEnd s.rules t.rules
@@ -89,11 +89,11 @@ pub record IsFront (s t : Share) : Type 0 where
   pub leases : GrowsAtEnd s.leases t.leases
   pub cached : GrowsAtEnd s.cached t.cached
 
-front-same : (s : Share) → IsFront s s
-front-same s = record { addresses = grows-same s.addresses; routes = grows-same s.routes; rules = grows-same s.rules; settings = grows-same s.settings; leases = grows-same s.leases; cached = grows-same s.cached }
+prefix-same : (s : Share) → IsPrefix s s
+prefix-same s = record { addresses = grows-same s.addresses; routes = grows-same s.routes; rules = grows-same s.rules; settings = grows-same s.settings; leases = grows-same s.leases; cached = grows-same s.cached }
 
-front-on : (s t u : Share) → IsFront s t → IsFront t u → IsFront s u
-front-on s t u h g = record {
+prefix-on : (s t u : Share) → IsPrefix s t → IsPrefix t u → IsPrefix s u
+prefix-on s t u h g = record {
   addresses = grows-on s.addresses t.addresses u.addresses h.addresses g.addresses;
   routes = grows-on s.routes t.routes u.routes h.routes g.routes;
   rules = grows-on s.rules t.rules u.rules h.rules g.rules;
@@ -102,23 +102,23 @@ front-on s t u h g = record {
   cached = grows-on s.cached t.cached u.cached h.cached g.cached;
 }
 
-front-call : (s : Share) (call : Call) → IsFront s (share_after_call s call)
-front-call s (AddrAdd obj) = record { addresses = grows-more s.addresses (obj ∷ []); routes = grows-same s.routes; rules = grows-same s.rules; settings = grows-same s.settings; leases = grows-same s.leases; cached = grows-same s.cached }
-front-call s (RouteAdd obj) = record { addresses = grows-same s.addresses; routes = grows-more s.routes (obj ∷ []); rules = grows-same s.rules; settings = grows-same s.settings; leases = grows-same s.leases; cached = grows-same s.cached }
-front-call s (RuleAppend obj) = record { addresses = grows-same s.addresses; routes = grows-same s.routes; rules = grows-more s.rules (obj ∷ []); settings = grows-same s.settings; leases = grows-same s.leases; cached = grows-same s.cached }
-front-call s (SettingSet obj) = record { addresses = grows-same s.addresses; routes = grows-same s.routes; rules = grows-same s.rules; settings = grows-more s.settings (obj ∷ []); leases = grows-same s.leases; cached = grows-same s.cached }
-front-call s (CachePut att cached) =
+prefix-call : (s : Share) (call : Call) → IsPrefix s (share_after_call s call)
+prefix-call s (AddrAdd obj) = record { addresses = grows-more s.addresses (obj ∷ []); routes = grows-same s.routes; rules = grows-same s.rules; settings = grows-same s.settings; leases = grows-same s.leases; cached = grows-same s.cached }
+prefix-call s (RouteAdd obj) = record { addresses = grows-same s.addresses; routes = grows-more s.routes (obj ∷ []); rules = grows-same s.rules; settings = grows-same s.settings; leases = grows-same s.leases; cached = grows-same s.cached }
+prefix-call s (RuleAppend obj) = record { addresses = grows-same s.addresses; routes = grows-same s.routes; rules = grows-more s.rules (obj ∷ []); settings = grows-same s.settings; leases = grows-same s.leases; cached = grows-same s.cached }
+prefix-call s (SettingSet obj) = record { addresses = grows-same s.addresses; routes = grows-same s.routes; rules = grows-same s.rules; settings = grows-more s.settings (obj ∷ []); leases = grows-same s.leases; cached = grows-same s.cached }
+prefix-call s (CachePut att cached) =
     record { addresses = grows-same s.addresses; routes = grows-same s.routes; rules = grows-same s.rules; settings = grows-same s.settings; leases = grows-same s.leases; cached = grows-more s.cached (record { cached = cached; tag = Own att } ∷ []) }
-front-call s _ = record { addresses = grows-same s.addresses; routes = grows-same s.routes; rules = grows-same s.rules; settings = grows-same s.settings; leases = grows-same s.leases; cached = grows-same s.cached }
+prefix-call s _ = record { addresses = grows-same s.addresses; routes = grows-same s.routes; rules = grows-same s.rules; settings = grows-same s.settings; leases = grows-same s.leases; cached = grows-same s.cached }
 
-front-calls : (s : Share) (calls : List Call) → IsFront s (share_after_calls s calls)
-front-calls s [] = front-same s
-front-calls s (c ∷ cs) = front-on s (share_after_call s c) (share_after_calls (share_after_call s c) cs) (front-call s c) (front-calls (share_after_call s c) cs)
+prefix-calls : (s : Share) (calls : List Call) → IsPrefix s (share_after_calls s calls)
+prefix-calls s [] = prefix-same s
+prefix-calls s (c ∷ cs) = prefix-on s (share_after_call s c) (share_after_calls (share_after_call s c) cs) (prefix-call s c) (prefix-calls (share_after_call s c) cs)
 
-front-part : (s t : Share) (all made left : List Call) → all ≡ made ++ left → share_after_calls s all ≡ t → IsFront (share_after_calls s made) t
-front-part s t all made left is makes =
+prefix-part : (s t : Share) (all made left : List Call) → all ≡ made ++ left → share_after_calls s all ≡ t → IsPrefix (share_after_calls s made) t
+prefix-part s t all made left is makes =
     let whole : share_after_calls (share_after_calls s made) left ≡ t = sym (share_after_calls-append s made left) ∙ ap (share_after_calls s) (sym is) ∙ makes in
-    subst (IsFront (share_after_calls s made)) whole (front-calls (share_after_calls s made) left)
+    subst (IsPrefix (share_after_calls s made)) whole (prefix-calls (share_after_calls s made) left)
 
 -- ---- links
 
@@ -145,15 +145,15 @@ links-appended s _ e = grows-same s.links
 
 -- ---- what a run has is asked for
 
-asked-front : (list : NetList) (c : Command) (given : List Addr) (s : Share) → AreLinksOf list c given s.links → IsFront s (wanted_by list c given) → AreAskedFor list c given s
-asked-front list c given s links front = record {
+asked-prefix : (list : NetList) (c : Command) (given : List Addr) (s : Share) → AreLinksOf list c given s.links → IsPrefix s (wanted_by list c given) → AreAskedFor list c given s
+asked-prefix list c given s links front = record {
   links = links;
-  addresses = among-front _ s.addresses front.addresses;
-  routes = among-front _ s.routes front.routes;
-  rules = among-front _ s.rules front.rules;
-  settings = among-front _ s.settings front.settings;
-  leases = among-front _ s.leases front.leases;
-  cached = among-front _ s.cached front.cached;
+  addresses = among-prefix _ s.addresses front.addresses;
+  routes = among-prefix _ s.routes front.routes;
+  rules = among-prefix _ s.rules front.rules;
+  settings = among-prefix _ s.settings front.settings;
+  leases = among-prefix _ s.leases front.leases;
+  cached = among-prefix _ s.cached front.cached;
 }
 
 pub links_made-leased : (list : NetList) (c : Command) (given : List Addr) → (with_leases list c given).links ≡ links_made list (att_of c) c.netns
@@ -164,9 +164,9 @@ pub asked-after_leases : (list : NetList) (c : Command) (given : List Addr) (mad
 asked-after_leases list c given made left part =
     let s = share_after_calls (with_leases list c given) made in
     let links : s.links ≡ links_after_part list c made = links-calls (with_leases list c given) (record no_objects { links = links_made list (att_of c) c.netns }) made (links_made-leased list c given) in
-    asked-front list c given s
-    (record { made = made; left = left; part = part; among = among-front (links_after_part list c made) s.links ([], sym links ∙ sym (append-nil s.links), tt) })
-    (front-part (with_leases list c given) (wanted_by list c given) (back_of list c given) made left part (makes-wanted list (att_of c) c.netns (mappings_of list c) given))
+    asked-prefix list c given s
+    (record { made = made; left = left; part = part; among = among-prefix (links_after_part list c made) s.links ([], sym links ∙ sym (append-nil s.links), tt) })
+    (prefix-part (with_leases list c given) (wanted_by list c given) (back_of list c given) made left part (makes-wanted list (att_of c) c.netns (mappings_of list c) given))
 
 -- while they are leased
 pub asked-leasing : (list : NetList) (c : Command) (given : List Addr) → AreAskedFor list c given (with_leases list c given)
@@ -194,11 +194,11 @@ asked-before_leases list c made left part =
     let appends : list_all appends_links left ≡ true = (and_parts (list_all appends_links made) (list_all appends_links left) (sym (list_all-append appends_links made left) ∙ all)).1 in
     let whole : share_after_calls s left ≡ record no_objects { links = links_made list (att_of c) c.netns } = sym (share_after_calls-append no_objects made left) ∙ ap (share_after_calls no_objects) (sym part) ∙ adds-links list.first (att_of c) c.netns no_objects in
     let links : GrowsAtEnd s.links (links_made list (att_of c) c.netns) = subst (λ (t : Share). GrowsAtEnd s.links t.links) whole (links-appended_all s left appends) in
-    asked-front list c [] s
-    (record { made = []; left = back_of list c []; part = refl; among = among-front (links_made list (att_of c) c.netns) s.links links })
-    (front-on s (with_leases list c []) (wanted_by list c [])
-    (front-part no_objects (with_leases list c []) (before_of list c) made left part (no_leases list.first (att_of c) c.netns))
-    (front-part (with_leases list c []) (wanted_by list c []) (back_of list c []) [] (back_of list c []) refl (makes-wanted list (att_of c) c.netns (mappings_of list c) [])))
+    asked-prefix list c [] s
+    (record { made = []; left = back_of list c []; part = refl; among = among-prefix (links_made list (att_of c) c.netns) s.links links })
+    (prefix-on s (with_leases list c []) (wanted_by list c [])
+    (prefix-part no_objects (with_leases list c []) (before_of list c) made left part (no_leases list.first (att_of c) c.netns))
+    (prefix-part (with_leases list c []) (wanted_by list c []) (back_of list c []) [] (back_of list c []) refl (makes-wanted list (att_of c) c.netns (mappings_of list c) [])))
 
 -- ---- what a removal leaves
 

@@ -1,4 +1,4 @@
--- A garbage collection takes from stale attachments alone.
+-- A GC takes from stale attachments alone.
 use Rattle.std.proofs.Common.{◌≡◌, ℕ, ◌+◌, Bool, true, false, List, [], ◌∷◌, length, refl, ◌∙◌, ap, subst, arith}
 use Rattle.std.specs.List.{list_all}
 use Rattle.net_conf.specs.declared.list.NetList.{NetList}
@@ -10,7 +10,7 @@ use Rattle.kernel_types.specs.Apply.{apply}
 use Rattle.kernel_types.specs.Apply.Calls.{tags_of}
 use Rattle.kernel_types.specs.Isolation.{KeepsWhere}
 use Rattle.kernel_types.specs.Sound.{IsSound}
-use Rattle.kernel_types.specs.Words.{is_own}
+use Rattle.kernel_types.specs.Terms.{is_own}
 use Rattle.kernel_types.proofs.Isolation.{KeepsWhere-TouchesOwn, KeepsWhere-nothing}
 use Rattle.kernel_types.proofs.ListLemmas.{list_all-map}
 use Rattle.kernel_types.specs.declared.object.Att.{Att}
@@ -40,7 +40,7 @@ use Rattle.pod_laws.proofs.Histories.Runs.{StartsWith, IsRunFact, every-run-now,
 use Rattle.pod_laws.proofs.Histories.EachEntry.{DoesByVerb, each-entry_of}
 use Rattle.pod_laws.proofs.Histories.Steps.{on-entry}
 
--- ---- the owners that are left to a collection are stale
+-- ---- the owners that are left to a GC are stale
 
 abbrev AllStale : Command → List Job → Type 0
 AllStale c jobs = list_all (λ j. is_stale c.network c.valid j.att) jobs ≡ true
@@ -74,7 +74,7 @@ work-stale list c [] (s ∷ sweeps) faults k call faulty is h =
     subst P (let e : OwnersOf c.network s.kind ≡ call = cc in e) (swept-stale list c s sweeps k faulty)
 work-stale list c (j ∷ jobs) sweeps faults k call faulty is h = stale-job c j jobs sweeps (reply_to k call faulty) (head-stale c j jobs h) (tail-stale c j jobs h) h
 
--- ---- every run of a collection
+-- ---- every run of a GC
 
 abbrev StaleLeft : Command → State → Type 0
 StaleLeft c (Collecting work faults) = AllStale c work.jobs

@@ -6,7 +6,7 @@ use Rattle.kernel_types.specs.Apply.{apply}
 use Rattle.kernel_types.specs.Isolation.{KeepsWhere, KeepsUnowned, ensures_shared, is_from_outside}
 use Rattle.kernel_types.specs.Sound.{IsSound}
 use Rattle.kernel_types.specs.Touch.{AddsBridge, AddsAddress, AddsSetting, AddsNamespace, RemovesUnshared, is_base}
-use Rattle.kernel_types.specs.Words.{is_owned}
+use Rattle.kernel_types.specs.Terms.{is_owned}
 use Rattle.kernel_types.proofs.EveryCall.{Touches-apply}
 use Rattle.kernel_types.proofs.Isolation.{KeepsUnowned-Touches, KeepsWhere-nothing, KeepsWhere-AddsBridge, KeepsWhere-AddsAddress, KeepsWhere-AddsSetting, KeepsWhere-RemovesUnshared}
 use Rattle.kernel_types.specs.declared.object.Host.{Host}

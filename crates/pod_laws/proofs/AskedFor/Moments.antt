@@ -8,7 +8,7 @@ use Rattle.cni_addr.specs.declared.range.RangeSet.{RangeSet}
 use Rattle.net_conf.specs.declared.list.NetList.{NetList}
 use Rattle.kernel_types.specs.Equal.{att_eq}
 use Rattle.kernel_types.specs.Sound.{IsSound}
-use Rattle.kernel_types.specs.Words.{lease_of}
+use Rattle.kernel_types.specs.Terms.{lease_of}
 use Rattle.kernel_types.proofs.Cases.{att_eq-refl}
 use Rattle.kernel_types.proofs.Isolation.{att_eq-same}
 use Rattle.kernel_types.specs.declared.object.Att.{Att}

@@ -5,7 +5,7 @@ use Rattle.cni_addr.specs.declared.address.Addr.{Addr}
 use Rattle.kernel_types.specs.Apply.{apply}
 use Rattle.kernel_types.specs.Apply.Calls.{without_link}
 use Rattle.kernel_types.specs.Isolation.{is_from_outside}
-use Rattle.kernel_types.specs.Words.{is_own, has_named_ns, link_at}
+use Rattle.kernel_types.specs.Terms.{is_own, has_named_ns, link_at}
 use Rattle.cni_addr.proofs.Cases.{by_test}
 use Rattle.kernel_types.specs.declared.object.Att.{Att}
 use Rattle.kernel_types.specs.declared.object.Host.{Host}

@@ -22,7 +22,7 @@ use Rattle.kernel_types.specs.Apply.Calls.{goes_with, goes_with_ns, has_peer_in,
 use Rattle.kernel_types.specs.Equal.{att_eq}
 use Rattle.kernel_types.specs.Isolation.{is_from_outside}
 use Rattle.kernel_types.specs.Sound.{IsSound, peer_fits}
-use Rattle.kernel_types.specs.Words.{cached_in, has_host_bridge, has_named_ns, is_at, is_bridge, is_host_bridge, is_host_link, is_host_ns, is_own, is_peer_at, is_veth, link_at}
+use Rattle.kernel_types.specs.Terms.{cached_in, has_host_bridge, has_named_ns, is_at, is_bridge, is_host_bridge, is_host_link, is_host_ns, is_own, is_peer_at, is_veth, link_at}
 use Rattle.kernel_types.proofs.Isolation.{att_eq-same}
 use Rattle.kernel_types.proofs.ListLemmas.{list_all-weaker, list_any-kept, passes-find}
 use Rattle.kernel_types.specs.declared.object.Att.{Att}
@@ -86,7 +86,7 @@ bridge-alone : (links : List Link) (l : Link) (o : Option LinkKey) → peer_fits
 bridge-alone links l None fits bridge = refl
 bridge-alone links l (Some key) fits bridge = let apart = bridge-no_veth l.kind bridge in grind (arith, fits, apart)
 
--- links go, and none of them stands in the host without a peer
+-- links go, and none of them stands in the host's own namespace without a peer
 stays-beside : (name : List ℕ) (gone : Link → Bool) (host : Host) → IsSound host → ((l : Link) → is_host_ns l.ns ≡ true → l.peer ≡ None → gone l ≡ false) → has_host_bridge host name ≡ true
     → list_any (is_host_bridge name) (filter (λ l. not (gone l)) host.links) ≡ true
 stays-beside name gone host sound stays there =
@@ -102,7 +102,7 @@ stays-beside name gone host sound stays there =
     host.links sound.links.peers in
     list_any-kept (is_host_bridge name) (λ l. not (gone l)) host.links there none
 
--- a place outside the host isn't that of a link in it
+-- a place in another namespace than the host's own isn't that of a link in it
 apart-places : (a b : List ℕ) → is_host_ns a ≡ true → is_host_ns b ≡ false → bytes_eq a b ≡ false
 apart-places a b outer inner = false_from_ne_true (bytes_eq a b) (λ same. both_ways (is_host_ns b) inner (ap is_host_ns (sym ((bytes_eq-Decides a b).0 same)) ∙ outer))
 

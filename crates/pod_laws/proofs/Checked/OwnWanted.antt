@@ -6,7 +6,7 @@ use Rattle.cni_addr.specs.declared.address.Addr.{Addr}
 use Rattle.cni_result.specs.declared.cached.PortMapping.{PortMapping}
 use Rattle.net_conf.specs.declared.list.NetList.{NetList}
 use Rattle.kernel_types.specs.Apply.Calls.{set_link}
-use Rattle.kernel_types.specs.Words.{is_own, lease_of}
+use Rattle.kernel_types.specs.Terms.{is_own, lease_of}
 use Rattle.kernel_types.proofs.Cases.{att_eq-refl}
 use Rattle.kernel_types.specs.declared.object.Att.{Att}
 use Rattle.kernel_types.specs.declared.call.Call.{Call}

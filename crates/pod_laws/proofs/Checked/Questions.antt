@@ -14,7 +14,7 @@ use Rattle.std.proofs.lemmas.Bool.{and_parts}
 use Rattle.std.proofs.lemmas.List.Folds.{list_all-append}
 use Rattle.std.proofs.lemmas.Map.Views.{any-filter_same}
 use Rattle.kernel_types.specs.Equal.{addr_obj_eq, chain_eq, cidr_eq, key_eq, lease_eq, link_eq, link_kind_eq, mac_eq, proto_eq, route_eq, rule_eq, setting_eq, table_eq, tag_eq, target_eq}
-use Rattle.kernel_types.specs.Words.{cached_in, is_own}
+use Rattle.kernel_types.specs.Terms.{cached_in, is_own}
 use Rattle.kernel_types.proofs.TouchRemoval.{is_own-tag_eq}
 use Rattle.kernel_types.proofs.ListLemmas as lists
 use Rattle.kernel_types.specs.declared.object.Host.{Host}

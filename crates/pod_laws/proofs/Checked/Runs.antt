@@ -10,7 +10,7 @@ use Rattle.pod_file.specs.declared.command.Verb.{Verb}
 use Rattle.pod_file.specs.declared.command.Verb.TheVariants as verbs
 use Rattle.kernel_types.specs.Apply.{apply}
 use Rattle.kernel_types.specs.Replies.{is_fault}
-use Rattle.kernel_types.specs.Words.{cached_in}
+use Rattle.kernel_types.specs.Terms.{cached_in}
 use Rattle.kernel_types.proofs.Replies.{IsReplyOf-apply}
 use Rattle.kernel_types.specs.declared.object.Host.{Host}
 use Rattle.kernel_types.specs.declared.call.Call.TheVariants.{CacheGet}
@@ -30,7 +30,7 @@ use Rattle.pod_laws.specs.Checked.{EndsByEntry, EndsByList, EndsCheck, IsMissing
 use Rattle.pod_laws.specs.Granted.{only_asks}
 use Rattle.pod_laws.specs.Moments.{has_fault, host_at_end, own_entries}
 use Rattle.pod_laws.specs.Answers.{EndsByFault}
-use Rattle.pod_workers.proofs.Each.{each-at, each-front}
+use Rattle.pod_workers.proofs.Each.{each-at, each-prefix}
 use Rattle.pod_laws.proofs.Questions.Asking.{EndsAsked, HasAsked, IsAsking, asked-all, asked-none, asked-reply, by-asked, no_fault-more, fault-last}
 use Rattle.pod_laws.proofs.Checked.Questions.{IsSteadyQuestion, cached-stays, granted-check, granted-stay, steady-questions}
 use Rattle.pod_laws.proofs.Given.CutOff.{over-by, answered-by}
@@ -142,7 +142,7 @@ check-reply list c es e q qs host false is a =
 check-stays : (list : NetList) (c : Command) (es : List Entry) (old new : Host) (left : List Question) → KeepsAsked c old new → HasFound list c es old left → HasFound list c es new left
 check-stays list c es old new left keeps a =
     let d = a.asked in
-    let steady = each-front (IsSteadyQuestion c) d.past left (subst (AllByRecursion (IsSteadyQuestion c)) d.are (steady-questions list c a.cached)) in
+    let steady = each-prefix (IsSteadyQuestion c) d.past left (subst (AllByRecursion (IsSteadyQuestion c)) d.are (steady-questions list c a.cached)) in
     record {
       may = a.may;
       no_fault = a.no_fault;

@@ -20,7 +20,7 @@ use Rattle.cni_verbs.specs.Wanted.{bridge_of}
 use Rattle.kernel_types.specs.Apply.Calls.{has_object}
 use Rattle.kernel_types.specs.Equal.{addr_obj_eq, lease_eq, link_eq, route_eq, rule_eq, setting_eq, tag_eq}
 use Rattle.kernel_types.specs.Sound.{IsSound}
-use Rattle.kernel_types.specs.Words.{cached_in, is_at, is_bridge, is_bridge_with, is_host_bridge, is_host_link, is_host_ns, is_own}
+use Rattle.kernel_types.specs.Terms.{cached_in, is_at, is_bridge, is_bridge_with, is_host_bridge, is_host_link, is_host_ns, is_own}
 use Rattle.kernel_types.proofs.ListLemmas.{list_any-weaker}
 use Rattle.kernel_types.proofs.TouchRemoval.{is_own-tag_eq}
 use Rattle.kernel_types.specs.declared.object.Att.{Att}
@@ -222,12 +222,12 @@ alike-bridge (Some bridge) (i ∷ is) old new sound keeps there = alike-mac i.na
 -- ---- all that it asks for
 
 -- what comes before the first entry is a prefix of the history
-front-first : (n : ℕ) (h : List Entry) → (rest : List Entry) × (h ≡ until_first n h ++ rest)
-front-first n [] = ([], refl)
-front-first n (x ∷ xs) = elim (cases_Bool (is_of n x)) [
+prefix-first : (n : ℕ) (h : List Entry) → (rest : List Entry) × (h ≡ until_first n h ++ rest)
+prefix-first n [] = ([], refl)
+prefix-first n (x ∷ xs) = elim (cases_Bool (is_of n x)) [
   | inl own ↦ (x ∷ xs, sym (ap (λ b. (if b then [] else x ∷ until_first n xs) ++ x ∷ xs) own))
   | inr other ↦
-      let later = front-first n xs in
+      let later = prefix-first n xs in
       (later.0, ap (λ l. x ∷ l) later.1 ∙ sym (ap (λ b. (if b then [] else x ∷ until_first n xs) ++ later.0) other))
 ]
 
@@ -235,7 +235,7 @@ front-first n (x ∷ xs) = elim (cases_Bool (is_of n x)) [
 named-at_start : (w : World) → Legal w → (n : ℕ) (c : Placed) (list : NetList) (cached : Cached) → list_for w.plan c.command ≡ Some list → cached_in (host_at_start w n) (att_of c.command) ≡ Some cached
     → has_bridge_named (host_at_start w n) (bridge_of list.first) cached.result.interfaces ≡ true
 named-at_start w legal n c list cached listed is =
-    let front = front-first n w.history in
+    let front = prefix-first n w.history in
     always-named w legal (until_first n w.history) front.0 front.1 (att_of c.command) list cached (list_named-listed w.plan c.command list listed) is
 
 hold-alike : (list : NetList) (c : Command) (start last : Host) → IsSound last → KeepsAsked c start last → ((cached : Cached) → cached_in start (att_of c) ≡ Some cached → has_bridge_named start (bridge_of list.first) cached.result.interfaces ≡ true)

@@ -1,4 +1,4 @@
--- A collection after another one leaves what the first was to keep.
+-- A GC after another one leaves what the first was to keep.
 use Rattle.std.proofs.Common.{◌≡◌, ℕ, ◌≤◌, Bool, true, false, List, [], ◌∷◌, length, refl, sym, ◌∙◌, ap, subst, inl, inr, arith}
 use Rattle.std.specs.Prelude.{filter, if◌then◌else◌}
 use Rattle.plugin_base.proofs.KeyLists.{filter-within}
@@ -61,7 +61,7 @@ between p xs ys lower upper =
     let same : length (filter p (filter p xs)) ≡ length (filter p xs) = ap length (filter-within p p (λ x h. h) xs) in
     drops-none (filter p xs) (filter p ys) (filter-drops p xs ys upper) (omega arith)
 
--- ---- what is to be kept is the same after a collection
+-- ---- what is to be kept is the same after a GC
 
 kept-same : (c : Command) (old new : Host) → Bounds c old new → keep c.network c.valid new ≡ keep c.network c.valid old
 kept-same c old new b =

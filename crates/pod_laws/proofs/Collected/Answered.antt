@@ -1,4 +1,4 @@
--- What a garbage collection leaves and answers, from the laws of a collection that is alone with a host.
+-- What a GC leaves and answers, from the laws of a GC that is alone with a host.
 use Rattle.std.proofs.Common.{◌≡◌, ◌≢◌, ℕ, ◌+◌, ◌≤◌, true, List, length, [], ◌∷◌, Option, Some, None, refl, sym, ◌∙◌, ap, subst, inl, inr, ◌⊎◌}
 use Rattle.std.specs.Prelude.{is_some}
 use Rattle.std.proofs.lemmas.Bool.{cases_Bool}
@@ -40,7 +40,7 @@ use Rattle.pod_laws.proofs.Histories.Entries.{replies_in}
 use Rattle.pod_laws.proofs.Given.OfRuns.{Says, says}
 use Rattle.pod_laws.proofs.Histories.RunFacts.{state_by}
 
--- ---- how a collection starts
+-- ---- how a GC starts
 
 abbrev collecting : NetList → Command → State
 collecting list c = Collecting (start_work (gc_of list c)) []
@@ -83,7 +83,7 @@ swept-of : (st : State) (ending : Ending) (given : List Addr) → IsCollecting s
 swept-of st ending given is (inl over) = absurd (let same : Collecting is.0 is.1 ≡ Over ending given = sym is.2 ∙ over in cc)
 swept-of st ending given is (inr swept) = swept
 
--- ---- all that is known of a collection that came to its end
+-- ---- all that is known of a GC that came to its end
 
 record IsAtEnd (list : NetList) (c : Command) (start : Host) (es : List Entry) (ending : Ending) : Type 0 where
   gc : is_gc c.verb ≡ true
@@ -124,7 +124,7 @@ ended-answer list c start es ending given a old new at said some old_is new_is =
       })
 ]
 
--- ---- every collection
+-- ---- every GC
 
 gc-run : (w : World) (n : ℕ) (c : Placed) (list : NetList) → list_for w.plan c.command ≡ Some list → (t : StandsTogether w.plan w.history n c) → trace.IsRun list c.command (after w.plan.pods.opening t.before) (made_in (own_entries n w.history))
 gc-run w n c list listed t = t.run list listed
@@ -139,7 +139,7 @@ at-end w n c list ending listed gc collected t s = record {
   ends = ap (λ rs. finish_of (state_after list c.command rs)) (to-replies (own_entries n w.history)) ∙ swept-finish (state_by list c.command (own_entries n w.history)) ending s;
 }
 
--- a collection that came to its end made a call
+-- a GC that came to its end made a call
 made-calls : (list : NetList) (c : Command) (es : List Entry) (ending : Ending) → start_state list c ≡ collecting list c → IsSwept (state_by list c es) ending → es ≢ []
 made-calls list c es ending starts_so s none =
     none-some (record { ending = ending; given = [] })

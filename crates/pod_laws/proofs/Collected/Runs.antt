@@ -1,4 +1,4 @@
--- The entries of a command that stands alone are a run in the terms of a collection.
+-- The entries of a command that stands alone are a run as `gc_sweep` defines it (`IsRun`).
 use Rattle.std.proofs.Common.{◌≡◌, ℕ, ◌+◌, Bool, true, false, List, [], ◌∷◌, refl, ap}
 use Rattle.std.specs.Prelude.{◌||◌, if◌then◌else◌}
 use Rattle.kernel_types.specs.Replies.{is_fault}

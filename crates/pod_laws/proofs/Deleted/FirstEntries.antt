@@ -30,16 +30,16 @@ use Rattle.pod_laws.proofs.Refused.Undoing.{Leads, Undoing, undone-start, undone
 
 -- ---- the first entry of an ADD that goes on was granted
 
-front-granted : (granted later : List Entry) (by y : Entry) (ys : List Entry) → granted ≢ [] → y ∷ ys ≡ granted ++ by ∷ later → list_all lets_go_on granted ≡ true → lets_go_on y ≡ true
-front-granted [] later by y ys some are go_on = absurd (some refl)
-front-granted (z ∷ zs) later by y ys some are go_on = ap lets_go_on (cons_parts y z ys (zs ++ by ∷ later) are).0 ∙ (and_parts (lets_go_on z) (list_all lets_go_on zs) go_on).0
+prefix-granted : (granted later : List Entry) (by y : Entry) (ys : List Entry) → granted ≢ [] → y ∷ ys ≡ granted ++ by ∷ later → list_all lets_go_on granted ≡ true → lets_go_on y ≡ true
+prefix-granted [] later by y ys some are go_on = absurd (some refl)
+prefix-granted (z ∷ zs) later by y ys some are go_on = ap lets_go_on (cons_parts y z ys (zs ++ by ∷ later) are).0 ∙ (and_parts (lets_go_on z) (list_all lets_go_on zs) go_on).0
 
 lead-granted : (c : Command) (y : Entry) (ys : List Entry) (ending : Ending) → c.verb ≡ verbs.Add → Leads c (y ∷ ys) ending → lets_go_on y ≡ true
 lead-granted c y ys Added verb h = absurd h
 lead-granted c y ys Yes verb h = absurd (not-both c verb h.verb)
 lead-granted c y ys (Skipped skip) verb h = absurd h
 lead-granted c y ys Versions verb h = absurd h
-lead-granted c y ys (Refused cause) verb h = let f = h.first.refuses in front-granted f.past f.later h.first.by y ys h.begun f.are f.pass
+lead-granted c y ys (Refused cause) verb h = let f = h.first.refuses in prefix-granted f.past f.later h.first.by y ys h.begun f.are f.pass
 
 first-granted : (list : NetList) (c : Command) (y : Entry) (ys : List Entry) (st : State) (s : Share) (call : Call) → c.verb ≡ verbs.Add → turn c st ≡ Calls call → Undoing list c (y ∷ ys) st s → lets_go_on y ≡ true
 unfolding turn

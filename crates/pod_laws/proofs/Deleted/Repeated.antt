@@ -188,9 +188,9 @@ gone_stays_gone w legal att before between later is without gone = stays-through
 
 -- ---- after a DEL no ADD makes anything until one has begun
 
-front-none : (xs ys : List Entry) → xs ++ ys ≡ [] → xs ≡ []
-front-none [] ys e = refl
-front-none (x ∷ xs) ys e = cc
+prefix-none : (xs ys : List Entry) → xs ++ ys ≡ [] → xs ≡ []
+prefix-none [] ys e = refl
+prefix-none (x ∷ xs) ys e = cc
 
 unbegun-quiet : (c : Command) (att : Att) (es rest : List Entry) → att_of c ≡ att → BeginsFirst c (es ++ rest) → list_any (begins att) es ≡ false → list_all (makes_nothing att) es ≡ true
 unbegun-quiet c att [] rest same first none = refl
@@ -198,7 +198,7 @@ unbegun-quiet c att (e ∷ es) rest same first none =
     let begin : is_begin_of att e.call ≡ true = ap (is_begin_of att) first.0 ∙ ap (λ a. att_eq a att) same ∙ att_eq-refl att in
     elim first.2 [
       | inl done ↦ absurd (let e : true ≡ false = sym (and_from (is_begin_of att e.call) (is_done e.reply) begin done) ∙ (or_parts (begins att e) (list_any (begins att) es) none).0 in cc)
-      | inr alone ↦ and_from (makes_nothing att e) (list_all (makes_nothing att) es) (ap (λ b. b || not (lets_go_on e)) begin) (ap (list_all (makes_nothing att)) (front-none es rest alone))
+      | inr alone ↦ and_from (makes_nothing att e) (list_all (makes_nothing att) es) (ap (λ b. b || not (lets_go_on e)) begin) (ap (list_all (makes_nothing att)) (prefix-none es rest alone))
     ]
 
 unbegun : (w : World) → Legal w → (n : ℕ) (c : Placed) (between later : List Entry) → slice_get (commands_of w.plan) n ≡ Some c → c.command.verb ≡ verbs.Del → w.history ≡ until_last n w.history ++ between ++ later
@@ -219,7 +219,7 @@ unbegun w legal n c between later at del is none = λ m d there add same.
           let after : own_entries m between ++ own_entries m later ≡ [] =
           append_cancel_left (own_entries m past) (own_entries m between ++ own_entries m later) []
           (sym (append_assoc (own_entries m past) (own_entries m between) (own_entries m later)) ∙ sym split ∙ all ∙ sym (append-nil (own_entries m past))) in
-          ap (list_all (makes_nothing att)) (front-none (own_entries m between) (own_entries m later) after)
+          ap (list_all (makes_nothing att)) (prefix-none (own_entries m between) (own_entries m later) after)
     ]
 
 -- ---- a DEL that is repeated

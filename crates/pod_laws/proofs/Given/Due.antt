@@ -19,7 +19,7 @@ use Rattle.pod_laws.specs.Moments.{own_entries}
 use Rattle.pod_laws.specs.Answers.{is_cut_off}
 use Rattle.pod_laws.proofs.Histories.RunFacts.{state_by}
 
--- the run of a garbage collection has nothing left to do
+-- the run of a GC has nothing left to do
 pub record IsSwept (st : State) (ending : Ending) : Type 0 where
   pub work : Work
   pub faults : List ℕ

@@ -69,7 +69,7 @@ says list c given (Skipped skip) a is = is
 says list c given Versions a is = is
 says list c given (Refused cause) a is = is
 
--- a garbage collection ends without a result
+-- a GC ends without a result
 swept-ending : (st : State) (ending : Ending) → IsSwept st ending → IsNoResult ending
 swept-ending st ending is = subst IsNoResult (sym is.ends) (swept-no_result is.faults)
 
@@ -81,7 +81,7 @@ pub record IsEnded (w : World) (n : ℕ) (c : Command) (list : NetList) (a : Ans
   pub achieved : IsAddedWith list c (own_entries n w.history) ending given (share_of (att_of c) (host_at_end w n))
   pub ends : Ends c (own_entries n w.history) ending (share_of (att_of c) (host_at_end w n))
 
--- what a run's last state says of its ending, where a garbage collection says as much of each ending without a result
+-- what a run's last state says of its ending, where a GC says as much of each ending without a result
 at-over : (F : RunFact) (list : NetList) (c : Command) (es : List Entry) (st : State) (ending : Ending) (given : List Addr) (s : Share)
     → ((work : Work) (faults : List ℕ) → F list c es (Collecting work faults) s → IsNoResult ending → F list c es (Over ending given) s) → (st ≡ Over ending given) ⊎ IsSwept st ending → F list c es st s → F list c es (Over ending given) s
 at-over F list c es st ending given s collected (inl is) h = subst (λ u. F list c es u s) is h

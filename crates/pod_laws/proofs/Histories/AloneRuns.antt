@@ -172,13 +172,13 @@ stands_together w legal =
 pub alone-end : (w : World) (n : ℕ) (c : Placed) (t : StandsTogether w.plan w.history n c) → host_at_end w n ≡ after (after w.plan.pods.opening t.before) (own_entries n w.history)
 alone-end w n c t = ap (after w.plan.pods.opening) t.until ∙ after-both w.plan.pods.opening t.before (own_entries n w.history)
 
-front-if : (b : Bool) (x : Entry) (t xs : List Entry) → (later : List Entry) × (xs ≡ t ++ later) → (later : List Entry) × (x ∷ xs ≡ (if b then x ∷ t else []) ++ later)
-front-if true x t xs h = (h.0, ap (λ l. x ∷ l) h.1)
-front-if false x t xs h = (x ∷ xs, refl)
+prefix-if : (b : Bool) (x : Entry) (t xs : List Entry) → (later : List Entry) × (xs ≡ t ++ later) → (later : List Entry) × (x ∷ xs ≡ (if b then x ∷ t else []) ++ later)
+prefix-if true x t xs h = (h.0, ap (λ l. x ∷ l) h.1)
+prefix-if false x t xs h = (x ∷ xs, refl)
 
-until_last-front : (n : ℕ) (h : List Entry) → (later : List Entry) × (h ≡ until_last n h ++ later)
-until_last-front n [] = ([], refl)
-until_last-front n (x ∷ xs) = front-if (list_any (is_of n) (x ∷ xs)) x (until_last n xs) xs (until_last-front n xs)
+until_last-prefix : (n : ℕ) (h : List Entry) → (later : List Entry) × (h ≡ until_last n h ++ later)
+until_last-prefix n [] = ([], refl)
+until_last-prefix n (x ∷ xs) = prefix-if (list_any (is_of n) (x ∷ xs)) x (until_last n xs) xs (until_last-prefix n xs)
 
 first-if : (n : ℕ) (b : Bool) (x : Entry) (t : List Entry) (y : Entry) (ys : List Entry) → is_of n x ≡ b → (t ≡ y ∷ ys → is_of n y ≡ true) → (if b then x ∷ t else t) ≡ y ∷ ys → is_of n y ≡ true
 first-if n true x t y ys own rest is = let e : x ≡ y = cc in ap (is_of n) (sym e) ∙ own
@@ -201,7 +201,7 @@ until_first-own n (x ∷ xs) e rest none own =
 start-of : (h : List Entry) (n : ℕ) (own : List Entry) → own_entries n h ≡ own → own ≢ [] → (before : List Entry) → until_last n h ≡ before ++ own_entries n h → own_entries n before ≡ [] → until_first n h ≡ before
 start-of h n [] is some before until none = absurd (some refl)
 start-of h n (e ∷ es) is some before until none =
-    let front = until_last-front n h in
+    let front = until_last-prefix n h in
     let whole : h ≡ before ++ e ∷ (es ++ front.0) = front.1 ∙ ap (λ l. l ++ front.0) (until ∙ ap (λ l. before ++ l) is) ∙ append_assoc before (e ∷ es) front.0 in
     ap (until_first n) whole ∙ until_first-own n before e (es ++ front.0) none (first-own n h e es is)
 

@@ -1,4 +1,4 @@
--- What a run calls: its attachment, a question, or for a garbage collection; and what is called from outside.
+-- What a run calls: its attachment, a question, or for a GC; and what is called from outside.
 use Rattle.std.proofs.Common.{◌≡◌, ◌≢◌, ℕ, Bool, true, false, List, [], ◌∷◌, length, Some, None, slice_get, refl, ap, subst, inl, inr, ◌⊎◌, arith}
 use Rattle.std.proofs.lemmas.Bool.{cases_Bool}
 use Rattle.std.proofs.lemmas.Slice.Eq.{bytes_eq-Decides}
@@ -41,14 +41,14 @@ own-deletion att kinds.Settings = att_eq-refl att
 own-deletion att kinds.Leases = att_eq-refl att
 own-deletion att kinds.Cached = att_eq-refl att
 
--- a garbage collection deletes of any attachment
+-- a GC deletes of any attachment
 pub record IsDeletionOfCollection (c : Command) (call : Call) : Type 0 where
   pub verb : c.verb ≡ verbs.Gc
   pub att : Att
   pub kind : Kind
   pub deletes : deletion att kind ≡ call
 
--- a question, or a deletion of a collection
+-- a question, or a deletion of a GC
 abbrev pub AsksOrCollects : Command → Call → Type 0
 AsksOrCollects c call = (is_question call ≡ true) ⊎ IsDeletionOfCollection c call
 
@@ -124,7 +124,7 @@ pub alone-outside : (w : World) (n m : ℕ) (c d : Placed) (call : Call) (faulty
 alone-outside w n m c d call faulty on far at is_open =
     alone_apart w on.legal m n d c on.ready far at is_open (inl (exclusive-outside c.command.verb (change-of w n c call faulty on).verb_is))
 
--- nor beside a garbage collection
+-- nor beside a GC
 pub alone-collecting : (w : World) (n m : ℕ) (c d : Placed) (list : NetList) (call : Call) (faulty : Bool) → GoesOn w n c list call faulty → c.command.verb ≡ verbs.Gc → m ≢ n → slice_get (commands_of w.plan) m ≡ Some d → slice_get w.answers m ≡ Some None
     → own_replies w m ≡ []
 alone-collecting w n m c d list call faulty on gc far at is_open = alone_apart w on.legal m n d c on.ready far at is_open (inl (ap is_exclusive_verb gc))
@@ -137,7 +137,7 @@ other_att a b far = elim (cases_Bool (att_eq a b)) [
   | inr other ↦ other
 ]
 
--- an entry of one attachment leaves the share of every other, but for a garbage collection's
+-- an entry of one attachment leaves the share of every other, but for a GC's
 pub other-entered : (w : World) (n : ℕ) (c : Placed) (list : NetList) (call : Call) (faulty : Bool) (other : Att) → GoesOn w n c list call faulty → att_eq (att_of c.command) other ≡ false
     → (c.command.verb ≡ verbs.Gc) ⊎ (share_of other (after_entry (host_of w) (entry_of (host_of w) n call faulty)) ≡ share_of other (host_of w))
 other-entered w n c list call faulty other on differ =

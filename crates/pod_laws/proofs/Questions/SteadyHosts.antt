@@ -12,7 +12,7 @@ use Rattle.kernel_types.specs.Apply.{apply}
 use Rattle.kernel_types.specs.Apply.Calls.{has_object}
 use Rattle.kernel_types.specs.Isolation.{is_from_outside}
 use Rattle.kernel_types.specs.Sound.{IsSound}
-use Rattle.kernel_types.specs.Words.{is_bridge_with, is_host_bridge}
+use Rattle.kernel_types.specs.Terms.{is_bridge_with, is_host_bridge}
 use Rattle.kernel_types.specs.declared.object.Host.{Host}
 use Rattle.kernel_types.specs.declared.call.Call.{Call}
 use Rattle.kernel_types.specs.declared.call.Probe.TheVariants.{BridgeAt}

@@ -9,7 +9,7 @@ use Rattle.cni_addr.specs.Lists.{distinct}
 use Rattle.cni_addr.specs.declared.address.Addr.{Addr}
 use Rattle.kernel_types.specs.Equal.{addr_eq}
 use Rattle.kernel_types.specs.Sound.{IsSound}
-use Rattle.kernel_types.specs.Words.{is_own, lease_of}
+use Rattle.kernel_types.specs.Terms.{is_own, lease_of}
 use Rattle.kernel_types.proofs.ListLemmas.{distinct-filter, list_any-map, list_any-same_test}
 use Rattle.kernel_types.specs.declared.object.Att.{Att}
 use Rattle.kernel_types.specs.declared.object.Host.{Host}

@@ -5,7 +5,7 @@ use Rattle.std.proofs.lemmas.Bool.{both_ways, not-true}
 use Rattle.cni_addr.proofs.Lists.{list_all-none}
 use Rattle.kernel_types.proofs.ListLemmas.{filter_never}
 use Rattle.kernel_types.specs.Touch.{DropsOnly}
-use Rattle.kernel_types.specs.Words.{is_own}
+use Rattle.kernel_types.specs.Terms.{is_own}
 use Rattle.kernel_types.specs.declared.object.Att.{Att}
 use Rattle.kernel_types.specs.declared.object.Host.{Host}
 use Rattle.kernel_types.specs.declared.call.Kind.{Kind}

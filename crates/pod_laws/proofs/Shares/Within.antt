@@ -10,7 +10,7 @@ use Rattle.pod_file.specs.declared.command.Command.{Command}
 use Rattle.kernel_types.specs.Apply.{apply}
 use Rattle.kernel_types.specs.Equal.{att_eq, tag_eq}
 use Rattle.kernel_types.specs.Sound.{IsSound}
-use Rattle.kernel_types.specs.Words.{is_own}
+use Rattle.kernel_types.specs.Terms.{is_own}
 use Rattle.kernel_types.proofs.Isolation.{att_eq-same}
 use Rattle.kernel_types.proofs.ListLemmas.{filter_never}
 use Rattle.kernel_types.specs.declared.object.Att.{Att}
@@ -69,7 +69,7 @@ within-lease att k ks number set there w =
       | inr not ↦ subst (λ h. HasKindsAlone ks (share_of att h)) (sym (refused-lease k att number set not)) w
     ]
 
--- what only asks, or deletes for a collection
+-- what only asks, or deletes for a GC
 within-aside : (att : Att) (c : Command) (k : Host) (ks : List Kind) (call : Call) → IsSound k → AsksOrCollects c call → HasKindsAlone ks (share_of att k) → AfterCall att k ks call
 within-aside att c k ks call sound (inl asked) w = subst (λ h. HasKindsAlone ks (share_of att h)) (sym (question-leaves k call asked)) w
 within-aside att c k ks call sound (inr collected) w =
@@ -135,7 +135,7 @@ within-mine w n c list call faulty on was =
     on-entry (λ k. HasKindsAlone (kinds_of list) (share_of (att_of c.command) k)) (host_of w) n call faulty was
     (λ f. within-turn list c.command (state_after list c.command rs) (host_of w) call (left-are-of_plugins list c.command rs) (left-fit list c.command rs) (sound_host w on.legal) on.turn_is was)
 
--- another attachment's share is the same, or a collection takes from it
+-- another attachment's share is the same, or a GC takes from it
 within-other : (w : World) (n : ℕ) (c : Placed) (list : NetList) (call : Call) (faulty : Bool) (att : Att) (ks : List Kind) → GoesOn w n c list call faulty → att_eq (att_of c.command) att ≡ false → HasKindsAlone ks (share_of att (host_of w))
     → HasKindsAlone ks (share_of att (after_entry (host_of w) (entry_of (host_of w) n call faulty)))
 within-other w n c list call faulty att ks on apart was =

@@ -8,8 +8,8 @@ invariant-loop-done g l = record {
   within : l.done ≤ length l.bytes;
   appended : g.S.Sink.written l.sink ≡ append_known (g.S.Sink.written l.initial.sink) (take l.done l.bytes);
   taken : TakesInTurn g.S.Sink.write_gives l.bytes l.initial.sink l.done l.sink;
-  later : g.S.Sink.faults l.initial.sink ≤ g.S.Sink.faults l.sink;
-  bounded : g.S.Sink.faults l.initial.sink < 2 ^ 64 → g.S.Sink.faults l.sink < 2 ^ 64;
+  later : g.S.Sink.failure_count l.initial.sink ≤ g.S.Sink.failure_count l.sink;
+  bounded : g.S.Sink.failure_count l.initial.sink < 2 ^ 64 → g.S.Sink.failure_count l.sink < 2 ^ 64;
 }
 
 abbrev pub decreases-loop-done : goal.decreases-loop-done

@@ -1,6 +1,6 @@
 use Rattle.std.proofs.Common.{◌≡◌, IfOk, ℕ, List, subst}
 use Rattle.kernel_text.proofs.TextLemmas.{with_slashes}
-use Rattle.kernel_text.specs.Words.{attachment_text}
+use Rattle.kernel_text.specs.Texts.{attachment_text}
 use Rattle.kernel_text.proofs.tags.attachment_text.Goals as goal
 
 pub returns : goal.returns

@@ -1,5 +1,5 @@
 use Rattle.std.proofs.Common.{◌≡◌, map, take}
-use Rattle.kernel_types.specs.Words.{outside_namespace}
+use Rattle.kernel_types.specs.Terms.{outside_namespace}
 use Rattle.kernel_types.proofs.opening.outside_namespaces.Given as goal
 
 -- the namespaces so far

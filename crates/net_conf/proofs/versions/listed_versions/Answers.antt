@@ -5,4 +5,4 @@ use Rattle.net_conf.proofs.versions.listed_versions.Goals as goal
 
 pub returns : goal.returns
 unfolding listed_versions_at
-returns c = c.read_words.ensures (refusal.Invalid (codes "cniVersions")) (record { tells = λ e is. search rules })
+returns c = c.read_texts.ensures (refusal.Invalid (codes "cniVersions")) (record { tells = λ e is. search rules })

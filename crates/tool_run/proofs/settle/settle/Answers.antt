@@ -15,10 +15,10 @@ returns-in_err-made-clause-settles g c =
 
 pub returns-clause-settles : goal.returns-clause-settles
 returns-clause-settles g c =
-    let files = files_seen g.F.Files.files g.F.Files.faults c.args.files.now c.read_due.new.files in
+    let files = files_seen g.F.Files.files g.F.Files.failure_count c.args.files.now c.read_due.new.files in
     settles_made c.args.words.now files c.in_ok-due.due c.in_ok-made.made c.in_ok-due.ensures.comes c.in_ok-made.ensures.made
 
 pub returns-clause-order : goal.returns-clause-order
 returns-clause-order g c =
-    let files = files_seen g.F.Files.files g.F.Files.faults c.args.files.now c.read_due.new.files in
+    let files = files_seen g.F.Files.files g.F.Files.failure_count c.args.files.now c.read_due.new.files in
     λ asked. c.in_ok-made.ensures.order (one_thread c.args.words.now files c.in_ok-due.due c.in_ok-due.ensures.comes asked)

@@ -8,8 +8,8 @@ use Rattle.tool_run.proofs.top.run_over.Goals as goal
 pub returns : goal.returns
 returns g c =
     let words = c.args.words.now in
-    let files = files_seen g.F.Files.files g.F.Files.faults c.args.files.now c.settle-settled.new.files in
-    let sink = sink_seen g.S.Sink.written g.S.Sink.faults c.args.sink.now c.report.new.sink in
+    let files = files_seen g.F.Files.files g.F.Files.failure_count c.args.files.now c.settle-settled.new.files in
+    let sink = sink_seen g.S.Sink.written g.S.Sink.failure_count c.args.sink.now c.report.new.sink in
     let settled = c.settle-settled in
     let outcome = c.report.result in
     let how = ends words files sink settled.result outcome settled.ensures.settles c.report.ensures in

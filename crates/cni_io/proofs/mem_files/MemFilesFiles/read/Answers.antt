@@ -1,6 +1,6 @@
 use Rattle.std.proofs.Common.{◌≡◌, arith, true, false, sym, ◌∙◌}
 use Rattle.cni_io.specs.FailingCalls.{fails_next}
-use Rattle.cni_io.proofs.Counts.{failures-fails, failures-passes, CountsFault-fails, CountsFault-passes}
+use Rattle.cni_io.proofs.Counts.{failures-fails, failures-passes, CountsFailure-fails, CountsFailure-passes}
 use Rattle.cni_io.proofs.mem_files.MemFilesFiles.read.Goals as goal
 
 pub overflow_add-self : goal.overflow_add-self
@@ -16,7 +16,7 @@ invariant_of-self c =
 pub returns-then-next_fails-clause-cause : goal.returns-then-next_fails-clause-cause
 returns-then-next_fails-clause-cause c =
     let fails : fails_next c.self.inside.reads ≡ true = sym c.if-next_fails.ensures.fails in
-    rw (← c.self.view_is, c.next_fails.ensures.counts) (CountsFault-fails c.self.inside.reads fails)
+    rw (← c.self.view_is, c.next_fails.ensures.counts) (CountsFailure-fails c.self.inside.reads fails)
 
 pub invariant_of-self-2 : goal.invariant_of-self-2
 invariant_of-self-2 c =
@@ -26,4 +26,4 @@ invariant_of-self-2 c =
 pub returns-clause-cause : goal.returns-clause-cause
 returns-clause-cause c =
     let passes : fails_next c.self.inside.reads ≡ false = sym c.if-next_fails.ensures.fails in
-    rw (← c.self.view_is, c.next_fails.ensures.counts) (CountsFault-passes c.self.inside.reads passes (omega (arith, c.self.invariant.0, c.ranges)) c.copy_within.ensures.not_failed)
+    rw (← c.self.view_is, c.next_fails.ensures.counts) (CountsFailure-passes c.self.inside.reads passes (omega (arith, c.self.invariant.0, c.ranges)) c.copy_within.ensures.not_failed)

@@ -1,5 +1,5 @@
 use Rattle.std.proofs.Common.{◌≡◌, map, take}
-use Rattle.kernel_types.specs.Words.{lease_of}
+use Rattle.kernel_types.specs.Terms.{lease_of}
 use Rattle.cni_verbs.proofs.share.Objects.take_leases.Given as goal
 
 -- the leases of the addresses so far

@@ -1,5 +1,5 @@
 use Rattle.std.proofs.Common.{◌≡◌, Some, true, rules}
-use Rattle.kernel_types.specs.Words.{has_named_ns, link_at}
+use Rattle.kernel_types.specs.Terms.{has_named_ns, link_at}
 use Rattle.kernel_model.proofs.LeavingLinks.{drop_link-found}
 use Rattle.kernel_model.proofs.list_kernel.HostLists.drop_link.Goals as goal
 

@@ -1,6 +1,6 @@
 use Rattle.std.proofs.Common.{not, sym, ap, ◌∙◌}
 use Rattle.std.specs.Prelude.{filter}
-use Rattle.kernel_types.specs.Words.{is_own}
+use Rattle.kernel_types.specs.Terms.{is_own}
 use Rattle.kernel_types.specs.Apply.Calls.{goes_with}
 use Rattle.kernel_types.proofs.ListLemmas.{filter-without_first_of}
 use Rattle.kernel_types.proofs.Removal.{goes_with-itself}

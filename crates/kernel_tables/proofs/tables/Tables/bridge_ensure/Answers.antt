@@ -1,7 +1,7 @@
 use Rattle.std.proofs.Common.{◌≡◌, ◌∙◌, ap, sym, None, false, rules}
 use Rattle.std.specs.Prelude.{find}
 use Rattle.std.specs.List.{list_any}
-use Rattle.kernel_types.specs.Words.{is_at, is_host_link}
+use Rattle.kernel_types.specs.Terms.{is_at, is_host_link}
 use Rattle.kernel_types.specs.declared.object.Link.{Link}
 use Rattle.kernel_types.proofs.ListLemmas.{list_any-find_none}
 use Rattle.kernel_tables.proofs.Free.{any-host, link-alias_free, link-key_free}

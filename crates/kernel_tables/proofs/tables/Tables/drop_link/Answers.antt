@@ -1,6 +1,6 @@
 use Rattle.std.proofs.Common.{◌≡◌, ◌&&◌, ◌∙◌, ap, sym, not, true, false, None, Some, refl, rules}
 use Rattle.std.specs.Prelude.{filter, find}
-use Rattle.kernel_types.specs.Words.{has_ns_in, is_at, is_own}
+use Rattle.kernel_types.specs.Terms.{has_ns_in, is_at, is_own}
 use Rattle.kernel_types.specs.declared.call.Reply.TheVariants.{Gone}
 use Rattle.kernel_types.specs.declared.object.AddrObj.{AddrObj}
 use Rattle.kernel_types.specs.declared.object.Host.{Host}

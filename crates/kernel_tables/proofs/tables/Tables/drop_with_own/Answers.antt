@@ -1,6 +1,6 @@
 use Rattle.std.proofs.Common.{◌≡◌, ◌&&◌, ◌∙◌, not, None, rules}
 use Rattle.std.specs.Prelude.{filter}
-use Rattle.kernel_types.specs.Words.{is_own}
+use Rattle.kernel_types.specs.Terms.{is_own}
 use Rattle.kernel_types.specs.declared.object.AddrObj.{AddrObj}
 use Rattle.kernel_types.specs.declared.object.Link.{Link}
 use Rattle.kernel_types.specs.declared.object.RouteObj.{RouteObj}

@@ -3,7 +3,7 @@ use Rattle.std.specs.Prelude.{find}
 use Rattle.std.specs.Option.{option_map_or}
 use Rattle.std.specs.Str.{bytes_eq}
 use Rattle.kernel_types.specs.Equal.{mac_eq}
-use Rattle.kernel_types.specs.Words.{is_bridge, is_bridge_with}
+use Rattle.kernel_types.specs.Terms.{is_bridge, is_bridge_with}
 use Rattle.kernel_tables.specs.Rows.{host_name}
 use Rattle.kernel_tables.specs.Table.{is_key}
 use Rattle.kernel_tables.proofs.Questions.{one-named, bridge-named}

@@ -1,6 +1,6 @@
 use Rattle.std.proofs.Common.{◌≡◌, ◌∙◌, sym, Some, None}
 use Rattle.std.specs.Prelude.{find}
-use Rattle.kernel_types.specs.Words.{is_at}
+use Rattle.kernel_types.specs.Terms.{is_at}
 use Rattle.kernel_tables.proofs.Added.{tag-same, link-found, link-missed}
 use Rattle.kernel_tables.proofs.tables.Tables.has_link_of.Goals as goal
 

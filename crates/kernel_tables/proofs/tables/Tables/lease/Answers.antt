@@ -2,7 +2,7 @@ use Rattle.std.proofs.Common.{◌≡◌, ◌∙◌, ap, sym, subst, [], ◌∷�
 use Rattle.std.specs.Str.{bytes_eq}
 use Rattle.cni_addr.specs.Equal.{addr_eq}
 use Rattle.ip_pool.specs.NextAddress.{is_taken}
-use Rattle.kernel_types.specs.Words.{lease_of, leased_addresses}
+use Rattle.kernel_types.specs.Terms.{lease_of, leased_addresses}
 use Rattle.kernel_tables.specs.Leased.{AreLeased}
 use Rattle.kernel_tables.proofs.Kept.{taken-leased}
 use Rattle.kernel_tables.proofs.NewLease.{AreLeased-new}

@@ -5,7 +5,7 @@ use Rattle.cni_addr.specs.Lists.{without_first}
 use Rattle.kernel_types.specs.contracts.object.AttPartialEq.TheImpl.{eq-value as att_eq-value}
 use Rattle.kernel_types.specs.Keys.{is_same_lease}
 use Rattle.kernel_types.specs.Sound.{HasDistinctKeys}
-use Rattle.kernel_types.specs.Words.{is_own}
+use Rattle.kernel_types.specs.Terms.{is_own}
 use Rattle.kernel_types.specs.declared.object.Lease.{Lease}
 use Rattle.kernel_types.proofs.ListLemmas.{list_any-find_none, without_first-none}
 use Rattle.kernel_tables.specs.Leased.{AreLeased}

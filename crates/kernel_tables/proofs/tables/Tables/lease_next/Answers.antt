@@ -2,7 +2,7 @@ use Rattle.std.proofs.Common.{◌≡◌, ◌∙◌, Some, sym, subst, false, rul
 use Rattle.ip_pool.specs.NextAddress.{is_taken}
 use Rattle.ip_pool.specs.Pool.{pick_of}
 use Rattle.ip_pool.proofs.Choice.{picked-free}
-use Rattle.kernel_types.specs.Words.{last_leased, leased_addresses}
+use Rattle.kernel_types.specs.Terms.{last_leased, leased_addresses}
 use Rattle.kernel_tables.proofs.tables.Tables.lease_next.Goals as goal
 
 pub lease-requires-clause-free : goal.lease-requires-clause-free

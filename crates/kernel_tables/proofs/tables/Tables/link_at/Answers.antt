@@ -1,5 +1,5 @@
 use Rattle.std.proofs.Common.{◌∙◌, ap}
-use Rattle.kernel_types.specs.Words.{link_at}
+use Rattle.kernel_types.specs.Terms.{link_at}
 use Rattle.kernel_tables.proofs.Free.{find-at}
 use Rattle.kernel_tables.proofs.tables.Tables.link_at.Goals as goal
 

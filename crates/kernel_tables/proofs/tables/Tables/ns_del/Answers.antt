@@ -2,7 +2,7 @@ use Rattle.std.proofs.Common.{◌≡◌, ◌∙◌, ap, not, true, rules}
 use Rattle.std.specs.Prelude.{filter}
 use Rattle.std.specs.Str.{bytes_eq}
 use Rattle.kernel_types.specs.Apply.Calls.{goes_with_ns}
-use Rattle.kernel_types.specs.Words.{has_named_ns}
+use Rattle.kernel_types.specs.Terms.{has_named_ns}
 use Rattle.kernel_types.specs.declared.call.Reply.TheVariants.{Done}
 use Rattle.kernel_types.specs.declared.object.AddrObj.{AddrObj}
 use Rattle.kernel_types.specs.declared.object.Host.{Host}

@@ -1,7 +1,7 @@
 use Rattle.std.proofs.Common.{◌∙◌, ap, sym}
 use Rattle.std.specs.Str.{bytes_eq}
 use Rattle.ip_pool.specs.NextAddress.{is_taken}
-use Rattle.kernel_types.specs.Words.{addresses_in}
+use Rattle.kernel_types.specs.Terms.{addresses_in}
 use Rattle.kernel_tables.proofs.Opening.{addr-aliases, addr-keys, cached-keys, last-keys, lease-keys, link-aliases, link-keys, namespace-keys, once-none, route-aliases, route-keys, rule-keys, setting-aliases, setting-keys}
 use Rattle.kernel_tables.proofs.tables.Tables.of_host.Goals as goal
 

@@ -6,7 +6,7 @@ use Rattle.cni_addr.specs.Lists.{each_key_once}
 use Rattle.kernel_types.specs.contracts.object.AttPartialEq.TheImpl.{eq-value as att_eq-value}
 use Rattle.kernel_types.specs.Apply.Calls.{owners_of, tags_of}
 use Rattle.kernel_types.specs.Equal.{att_eq}
-use Rattle.kernel_types.specs.Words.{owner_in}
+use Rattle.kernel_types.specs.Terms.{owner_in}
 use Rattle.kernel_types.specs.declared.call.Kind.TheVariants as kinds
 use Rattle.kernel_types.specs.declared.call.Reply.TheVariants.{Owners}
 use Rattle.kernel_types.specs.declared.object.CachedObj.{CachedObj}

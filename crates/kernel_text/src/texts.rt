@@ -1,7 +1,7 @@
 //! The mode of a link, and chains and targets as texts.
 
 ghost use Rattle.std.specs.Prelude.{◌≡◌, IfOk};
-ghost use Rattle.kernel_text.specs.Words.{link_mode, chain_text, host_text, target_text};
+ghost use Rattle.kernel_text.specs.Texts.{link_mode, chain_text, host_text, target_text};
 
 use cni_addr::{Addr, Family, MacvlanMode, NoMemory, Text, write_addr};
 use kernel_types::{Chain, LinkKind, Target};

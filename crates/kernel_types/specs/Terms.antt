@@ -90,7 +90,7 @@ link_in links ns name = find (is_at ns name) links
 abbrev pub link_at : Host → List ℕ → List ℕ → Option Link
 link_at host ns name = link_in host.links ns name
 
--- the link stands in the host under this name
+-- the link stands in the host's own namespace under this name
 abbrev pub is_host_link : List ℕ → Link → Bool
 is_host_link name link = is_host_ns link.ns && bytes_eq link.name name
 

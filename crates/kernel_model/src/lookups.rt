@@ -3,11 +3,11 @@
 ghost use Rattle.std.specs.Prelude.{◌≡◌, IfOk, find};
 ghost use Rattle.std.specs.Option.{option_copied, option_map};
 ghost use Rattle.kernel_types.specs.Apply.Calls.{is_free_master, has_free_master};
-ghost use Rattle.kernel_types.specs.Words.{has_link_in, has_ns_in, is_host_or_ns, link_in, is_host_link, is_host_bridge, has_bridge_in, is_link_of};
+ghost use Rattle.kernel_types.specs.Terms.{has_link_in, has_ns_in, is_host_or_ns, link_in, is_host_link, is_host_bridge, has_bridge_in, is_link_of};
 
 use crate::lists::Tagged;
 use cni_addr::{Duplicate, NoMemory, Text};
-use kernel_types::words::{is_at, is_host_ns};
+use kernel_types::terms::{is_at, is_host_ns};
 use kernel_types::{Link, NsObj, Tag};
 
 /// Whether a namespace has this name.
@@ -17,7 +17,7 @@ pub(crate) fn has_ns_in(namespaces: &[NsObj], name: &Text) -> bool
     namespaces.iter().any(|n| n.name == *name)
 }
 
-/// Whether this is the host, which is always there, or a namespace has this name.
+/// Whether this is the host's own namespace, which is always there, or a namespace has this name.
 pub(crate) fn is_host_or_ns(namespaces: &[NsObj], ns: &Text) -> bool
     ensures { result ≡ is_host_or_ns namespaces.now ns.now }
 {
@@ -31,7 +31,7 @@ pub(crate) fn link_in<'a>(links: &'a [Link], ns: &Text, name: &Text) -> Option<&
     links.iter().find(|l| is_at(ns.as_str(), name.as_str(), l))
 }
 
-/// Whether the link stands in the host under this name.
+/// Whether the link stands in the host's own namespace under this name.
 pub(crate) fn is_host_link(name: &Text, link: &Link) -> bool
     ensures { result ≡ is_host_link name.now link.now }
 {
