@@ -9,7 +9,7 @@ use std::marker::Model;
 /// A writer of the system, as standard output. Nothing is told of its bytes.
 ///
 /// A contract sees the count of failures, which each error raises, and so does a write that takes
-/// nothing of a piece that is not empty. The writer is to keep no bytes back, since a fault that it
+/// nothing of a piece that is not empty. The writer is to keep no bytes back, since a failure that it
 /// meets later is counted nowhere.
 #[derive(Drop)]
 pub struct RealSink<W> {

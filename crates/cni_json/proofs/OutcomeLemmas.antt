@@ -11,7 +11,7 @@ passed_on : {A B E : Type 0} (memory : Bool) (e : E) (r : Result A E) (next : A 
 passed_on true e r next refuses = tt
 passed_on false e r next refuses = ap (λ s. s >>= next) refuses
 
--- an error that was made as wanted is the outcome's
+-- an error that was made as defined is the outcome's
 pub RefusesAs-told : {Y E : Type 0} (is_out_of_memory : E → Bool) (e wanted : E) (r : Result Y E) → TellsAs is_out_of_memory e wanted → r ≡ Err wanted → RefusesAs is_out_of_memory e r
 RefusesAs-told is_out_of_memory e wanted r tells is = told (is_out_of_memory e) e wanted r tells is
 

@@ -7,7 +7,7 @@ use Rattle.serde_json.specs.declared.value.Value.{Value}
 use Rattle.cni_json.specs.Outcome.{Gives, TellsAs}
 use denote.Ref.{Bor}
 
--- each call gives what is wanted of its member
+-- each call gives what is defined of its member
 pub record IsReader {R T E : Type 0} (is_out_of_memory : E → Bool)
     (calls : Shared R (Bor Value × Unit {0}) (Result T E)) (read : R) (wanted : Data → Result T E) : Type 0 where
   pub gives : (member : Bor Value) (r : Result T E) → calls.post read (member, tt) r
@@ -35,7 +35,7 @@ MayReadEach {T = T} calls read list =
     All (λ v. (before : Bor (List T)) (member : Bor Value) → member.now ≡ v
     → calls.pre read (before, (member, tt))) list
 
--- the call makes the wanted error
+-- the call makes the defined error
 pub record IsRefusal {R E : Type 0} (is_out_of_memory : E → Bool) (calls : Once R (Unit {0}) E) (refusal : R)
     (wanted : E) : Type 0 where
   pub tells : (e : E) → calls.post refusal tt e → TellsAs is_out_of_memory e wanted

@@ -30,7 +30,7 @@ pub fn member<'a>(object: &'a Value, key: &str) -> Option<&'a Value>
     }
 }
 
-/// A value that is there, of the wanted kind or of another.
+/// A value that is there, of the kind that is asked for or of another.
 fn of_kind<T>(found: Option<T>) -> Field<T>
     ensures { result ≡ of_kind found }
 {

@@ -253,7 +253,7 @@ pub record Finish : Type 0 where
   pub ending : Ending
   pub given : List Addr
 
--- what a run does in a state: it makes a call of its command, goes on with its collection, or ends
+-- what a run does in a state: it makes a call of its command, goes on with its GC, or ends
 pub data Act : Type 0 where
   Makes : (call_of : Command → Call) → Act
   Collects : (work : Work) (faults : List ℕ) → Act

@@ -23,7 +23,8 @@ pub fn an_add_may_be_granted()
     ensures { AddMayBeGranted }
 {}
 
-/// Each plugin keeps what it owes (`plugin_base/specs/PluginLaws.antt`), the first and the chained ones, however they are configured.
+/// Each plugin keeps what it owes (`plugin_base/specs/PluginLaws.antt`), the first and the chained ones, however they
+/// are configured.
 #[tactic(auto, using(crate::proofs::PluginLaws::chained_laws))]
 pub fn each_plugin_keeps_its_laws()
     ensures firsts { FirstsKeepTheirLaws }

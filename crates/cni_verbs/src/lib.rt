@@ -7,7 +7,8 @@
 //! from here (`specs/ErrorKinds.antt`). A [`Run`] follows the script one reply at a time and keeps no replies: it is
 //! seen as the list, the command and the script's state (`specs/Progress.antt`), its next call and its answer are the
 //! script's, and to take a reply takes no memory but for a copy of a text or a list that the reply holds: what takes
-//! more is made by `prepare`, once after each reply. A command of no network runs too: it is one change from outside. A GC's run is `gc_sweep::GcRun`.
+//! more is made by `prepare`, once after each reply. A command of no network runs too: it is one change from outside. A
+//! GC's run is `gc_sweep::GcRun`.
 //!
 //! ```text
 //! let mut run = Run::start(alloc, Some(&list), &add)?;

@@ -59,7 +59,8 @@ impl Model for Run {
 }
 
 impl Run {
-    /// The run of a command of this list, or of a command of no network, before its first call. A GC's run is another type (`gc_sweep::GcRun`), which keeps owners and sweeps.
+    /// The run of a command of this list, or of a command of no network, before its first call. A GC's run is another
+    /// type (`gc_sweep::GcRun`), which keeps owners and sweeps.
     ///
     /// It shares the list, copies the command, and keeps both until it is dropped. Texts are shared too, so that takes
     /// time and memory in proportion to the mappings and valid attachments of the command. Whatever the verb, it makes

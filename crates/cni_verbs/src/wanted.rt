@@ -182,7 +182,7 @@ pub(crate) fn plugin_calls(
 pub(crate) struct Back {
     /// The calls of the plugins, and the one that puts the cached result.
     pub(crate) calls: Items<Call>,
-    /// The cached result, which holds that of the last plugin.
+    /// The cached result, which holds the result of the last plugin.
     pub(crate) cached: RefCounted<Cached>,
 }
 

@@ -1,4 +1,4 @@
-//! Laws of collections that are alone with a host. Each function does nothing: its contract is the law, and a proof
+//! Laws of GCs that are alone with a host. Each function does nothing: its contract is the law, and a proof
 //! above gets it by calling the function.
 
 ghost use Rattle.gc_sweep.specs.Bound.{GcBound};

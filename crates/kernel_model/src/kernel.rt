@@ -17,7 +17,8 @@ pub trait Kernel {
     ghost host: { Self → Host };
 
     /// Makes one call: host and reply are those of `apply`. One that runs out of memory leaves the host as it was; none
-    /// does that only removes, changes numbers in place or asks for a truth value. The reply `Fault` is never a kernel's: who makes a command's calls gives it in the kernel's place.
+    /// does that only removes, changes numbers in place or asks for a truth value. The reply `Fault` is never a
+    /// kernel's: whoever makes a command's calls gives it in the kernel's place.
     fn call(&mut self, alloc: Global, call: &Call) -> Result<Reply, NoMemory>
         requires { IsAllowed (host self.old) call.now }
         ensures ok { IfOk result (λ reply. (host self.new, reply) ≡ apply (host self.old) call.now) }

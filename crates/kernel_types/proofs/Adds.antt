@@ -1,4 +1,5 @@
--- Addresses, routes, rules, settings and cached results that are appended leave a host sound, and are their attachment's.
+-- Addresses, routes, rules, settings and cached results that are appended leave a host sound, and are their
+-- attachment's.
 use Rattle.std.proofs.Common.{◌≡◌, ℕ, true, List, [], ◌∷◌, inl, inr, refl, sym, ◌∙◌, arith}
 use Rattle.std.specs.Prelude.{find, ◌&&◌}
 use Rattle.std.specs.List.{list_any}

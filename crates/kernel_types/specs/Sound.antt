@@ -66,7 +66,8 @@ abbrev pub peers_back : Link → LinkKey → Link → Bool
 peers_back link key peer =
     is_at key.ns key.name peer && is_peer_at link.ns link.name peer.peer && tag_eq peer.tag link.tag
 
--- exactly a veth end has a peer, and it is there, names this one as its peer and has its tag; one end is in the host's own namespace
+-- exactly a veth end has a peer, and it is there, names this one as its peer and has its tag; one end is in the host's
+-- own namespace
 abbrev pub peer_fits : List Link → Link → Option LinkKey → Bool
 peer_fits links link None = not (is_veth link.kind)
 peer_fits links link (Some key) =

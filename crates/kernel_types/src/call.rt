@@ -74,8 +74,8 @@ pub enum Change {
 }
 
 /// A call of the kernel. Each is named with what it does where nothing refuses it; `specs/Apply/Calls.antt` has its
-/// equation, with each refusal. Its objects are shared: by the call's copies, the probes of a check and, for a rule, the
-/// host.
+/// equation, with each refusal. Its objects are shared by its copies; those that aren't links also by the probes of a
+/// check, and a rule by the host.
 #[derive(PartialEq, Eq, Drop)]
 pub enum Call {
     /// Asks whether an attachment may begin: its namespace is there, and nothing is its own yet. Changes nothing.

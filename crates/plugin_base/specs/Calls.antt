@@ -20,7 +20,8 @@ use Rattle.plugin_base.specs.Share.{Share, share_of, share_plus}
 abbrev pub is_call_of : Att → Call → Bool
 is_call_of att call = ensures_shared call || names_att att call
 
--- of an attachment's calls, one that no plugin makes: it begins, an address is leased, objects are deleted, or the cached result is asked for
+-- of an attachment's calls, one that no plugin makes: it begins, an address is leased, objects are deleted, or the
+-- cached result is asked for
 abbrev pub is_beside_plugins : Call → Bool
 is_beside_plugins (Begin att netns) = true
 is_beside_plugins (LeaseNext att number set) = true

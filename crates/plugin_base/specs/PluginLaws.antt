@@ -29,8 +29,9 @@ pub record AreCallsBefore (p : FirstPlugin) (att : Att) (netns : List ℕ) : Typ
   pub ensured : is_ensured p.bridge (p.calls_before att netns) ≡ true
   pub in_order : is_ensured_first p.bridge (p.calls_before att netns) ≡ true
 
--- its calls after them: each is the attachment's own, or ensures what all attachments share; they make no link, cache no result, and add settings of the namespace alone; what they make is of its kinds; each lies on its links, and stands
--- under no bridge but its own; none sets values of a link
+-- its calls after them: each is the attachment's own, or ensures what all attachments share; they make no link, cache
+-- no result, and add settings of the namespace alone; what they make is of its kinds; each lies on its links, and
+-- stands under no bridge but its own; none sets values of a link
 pub record AreCallsAfter (p : FirstPlugin) (att : Att) (netns : List ℕ) (given : List Given) : Type 0 where
   pub own : list_all (is_plugin_call_of att) (p.calls_after att netns given) ≡ true
   pub later : list_all (is_later_call netns) (p.calls_after att netns given) ≡ true

@@ -134,7 +134,7 @@ command_of verb c = record {
 abbrev pub attachment_of : Container → ValidAtt
 attachment_of c = record { container = c.name; ifname = interface }
 
--- a collection that keeps these containers
+-- a GC that keeps these containers
 abbrev pub collection_of : List Container → Command
 collection_of kept = record {
   number = 0;

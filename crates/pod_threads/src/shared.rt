@@ -63,7 +63,7 @@ impl<J: Origin, L: Ledger, K: Kernel + Drop> Shared<J, L, K> {
         }
     }
 
-    /// Steps a command if it is ready, and says whether a call was made, which counts for the part of the ledger.
+    /// Steps a command if it is ready, and says whether a call was made, which counts for this part of the ledger.
     pub(crate) fn step(&mut self, command: u32, mine: &mut Share<L>) -> StepEnd
         requires { 0 < mine.old.parts }
         ensures ready { IsReadyNumber self.old.world command → MakesStep self.old.world self.new.world command result }

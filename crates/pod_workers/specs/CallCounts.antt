@@ -16,7 +16,8 @@ use Rattle.cni_verbs.specs.Wanted.{sets_of}
 
 -- ---- deletions
 
--- Links that aren't in the host's own namespace. One that is there is one end of a veth pair, and goes with the other end.
+-- Links that aren't in the host's own namespace. One that is there is one end of a veth pair, and goes with the other
+-- end.
 abbrev pub inner_links : List Link → List Link
 inner_links links = filter (λ l. not (is_host_ns l.ns)) links
 

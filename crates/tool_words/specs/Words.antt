@@ -51,7 +51,7 @@ words_if found (Some pods) =
 unfoldable pub words_given : List Text → Option Words
 words_given words = if clap_takes words then words_if (rows words) (first_of pods_word (rows words)) else None
 
--- what is defined is read; or there is none, and the words are refused; or memory ran out
+-- what is defined is given; or nothing is defined, and the words are refused; or memory ran out
 abbrev pub Reads : {X : Type 0} → Option X → Result X WordsEnd → Type 0
 Reads wanted (Ok x) = wanted ≡ Some x
 Reads wanted (Err Usage) = wanted ≡ None

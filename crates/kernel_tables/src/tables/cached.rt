@@ -1,4 +1,4 @@
-//! Kept results.
+//! Cached results.
 
 ghost use Rattle.std.specs.Prelude.{◌≡◌, IfOk, OnErr};
 ghost use Rattle.kernel_types.specs.Apply.Calls.{cache_put_of, cache_get_of};
