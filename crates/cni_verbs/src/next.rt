@@ -165,7 +165,6 @@ pub(crate) fn next_of(
 /// The call that the run of no network makes next.
 #[tactic(auto, unfolding(crate::specs::Script::next_call))]
 pub(crate) fn next_outside(
-    alloc: Global,
     command: &Command,
     phase: &Phase,
 ) -> Result<Option<RefCounted<Call>>, NoMemory>

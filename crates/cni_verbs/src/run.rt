@@ -187,17 +187,16 @@ impl Run {
         requires prepared { self.now.prepared ≡ true }
         ensures { IfOk result (λ call. call ≡ next_call self.now.progress.command self.now.progress.state) }
     {
-        let alloc = *self.given.allocator();
         match &self.list {
             Some(list) => next_of(
-                alloc,
+                *self.given.allocator(),
                 list.get(),
                 &self.command,
                 self.kinds.as_slice(),
                 self.given.as_slice(),
                 &self.phase,
             ),
-            None => next_outside(alloc, &self.command, &self.phase),
+            None => next_outside(&self.command, &self.phase),
         }
     }
 
