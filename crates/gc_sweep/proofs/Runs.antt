@@ -60,7 +60,7 @@ done list c es ending gc collected ends =
     let o = over_work p.work.jobs p.work.sweeps p.faults ending (sym (ap finish_of state ∙ finish_working p.work p.faults) ∙ ends) in
     record { jobs = o.0; sweeps = o.1; tells = o.2 }
 
--- ---- a list that is not collected
+-- ---- a list that ends a GC before its first call
 
 pub record IsEarly (list : NetList) (c : Command) : Type 0 where
   pub ending : Ending

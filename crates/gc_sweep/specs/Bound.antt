@@ -16,7 +16,7 @@ use Rattle.gc_sweep.specs.Keep.{goes}
 use Rattle.gc_sweep.specs.Trace.{Made, IsRun}
 use Rattle.cni_verbs.specs.Progress.{is_gc}
 
--- the attachments of the network outside the valid list that these tags name, each once
+-- the stale attachments that these tags name, each once
 abbrev pub stale_owners : List ℕ → List ValidAtt → List Tag → List Att
 stale_owners network valid tags =
     filter (λ a. not (is_valid valid a)) (each_key_once att_eq (filter_map (owner_in network) tags))

@@ -18,8 +18,8 @@ stays network valid (Own att) = not (bytes_eq att.network network) || is_valid v
 abbrev pub goes : List ℕ → List ValidAtt → Tag → Bool
 goes network valid tag = not (stays network valid tag)
 
--- the host without the objects of the network's attachments outside the valid list; the lasts stay. The code never
--- makes it: it lists owners and deletes single objects.
+-- the host without the objects of stale attachments; the lasts stay. The code never makes it: it lists owners and
+-- deletes single objects.
 abbrev pub keep : List ℕ → List ValidAtt → Host → Host
 keep network valid host = record host {
   namespaces = filter (λ n. stays network valid n.tag) host.namespaces;
@@ -32,7 +32,7 @@ keep network valid host = record host {
   cached = filter (λ c. stays network valid c.tag) host.cached;
 }
 
--- objects are removed, whoever owns them, and none is made or changed
+-- namespaces and lasts aside: objects are removed, whoever owns them, and none is made or changed
 pub record OnlyRemoves (old new : Host) : Type 0 where
   pub links : DropsOnly (λ l. true) old.links new.links
   pub addresses : DropsOnly (λ a. true) old.addresses new.addresses

@@ -16,7 +16,7 @@ pub fn every_collection_is_bounded()
     ensures { AlwaysBounded }
 {}
 
-/// What a GC that came to its end leaves over had a faulty call.
+/// A call about what a GC that came to its end leaves over was faulty.
 pub fn what_is_left_over_is_excused()
     ensures { OverExcused }
 {}
@@ -27,7 +27,8 @@ pub fn every_fault_is_named()
     ensures { FaultsNamed }
 {}
 
-/// A GC makes at most so many calls.
+/// A GC makes six calls at most, for each stale attachment those of a DEL and six more, and one for each object that
+/// isn't kept.
 #[tactic(auto, using(crate::proofs::Calls::gc_bound))]
 pub fn a_collection_makes_few_calls()
     ensures { GcBound }

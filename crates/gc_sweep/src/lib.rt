@@ -8,8 +8,8 @@
 //! To the book above it promises that a run is seen as the list, the command and the script's state
 //! (`specs/Progress.antt` of `cni_verbs`), that its next call and its answer are the script's, and that
 //! [`GcRun::take`] takes memory for a fault's number and a copy of the owners alone. The [`laws`] say what any such run
-//! does to a sound host (`specs/Sweep.antt`): what is kept stays as it is, what is left over had a faulty call, and
-//! without a fault exactly what is kept is left (`keep` in `specs/Keep.antt`), within a bound on the calls
+//! does to a sound host (`specs/Sweep.antt`): what is kept stays as it is, a call about what is left over was
+//! faulty, and without a fault exactly what is kept is left (`keep` in `specs/Keep.antt`), within a bound on the calls
 //! (`specs/Bound.antt`).
 //!
 //! ```text

@@ -47,8 +47,8 @@ impl GcRun {
     /// The run of a GC of this list's network, before its first call.
     ///
     /// It shares the list, copies the command, and keeps both until it is dropped. Texts are shared too, so that takes
-    /// time and memory in proportion to the valid attachments of the command. Besides it indexes those, and makes the
-    /// kinds of a DEL, of which each plugin of the list has three at most.
+    /// time and memory in proportion to the valid attachments, port mappings and faults of the command. Besides it
+    /// indexes the valid ones, and makes the kinds of a DEL, of which each plugin of the list has three at most.
     pub fn start(
         alloc: Global,
         list: &RefCounted<NetList>,

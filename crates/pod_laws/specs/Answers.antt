@@ -1,4 +1,4 @@
--- The kinds of an answer, what is said of each answer of a verb, the first that fails a test, and how a run that asks
+-- Which answers there are, what is said of each answer of a verb, the first that fails a test, and how a run that asks
 -- ends.
 use Rattle.std.specs.Prelude.{◌≡◌, ℕ, ◌⊎◌, Bool, true, false, List, [], ◌∷◌, ◌++◌, length, Option, Some, slice_get}
 use Rattle.std.specs.List.{list_all}

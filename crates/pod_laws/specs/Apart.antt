@@ -27,8 +27,7 @@ leaves_others verb = is_of_network verb && not (is_gc verb)
 abbrev pub LeavesOthers : Command → Host → Host → Type 0
 LeavesOthers c old new = (other : Att) → att_eq (att_of c) other ≡ false → share_of other new ≡ share_of other old
 
--- each entry of an ADD, a DEL, a CHECK, a STATUS or a VERSION leaves the objects of every other attachment, from the
--- start of its run
+-- each entry of an ADD, a DEL, a CHECK, a STATUS or a VERSION leaves the objects of every other attachment
 abbrev pub EachEntryLeavesOthers : Type 0
 EachEntryLeavesOthers = EachEntry (ByVerb (λ v. leaves_others v ≡ true) LeavesOthers)
 

@@ -34,7 +34,7 @@ is_available list c host = list_all (λ set. has_free_of set (leased_addresses h
 abbrev pub IsUnavailable : Cause → Type 0
 IsUnavailable cause = code_of cause ≡ 50
 
--- something is not available (code 50), and named is the first: the range sets in order, and then the master
+-- something is not available (code 50), and the first is named: the range sets in order, and then the master
 abbrev pub LacksService : NetList → Command → Host → Ending → Type 0
 LacksService list c host ending = EndsByDenied host (status_questions list c) IsUnavailable ending
 

@@ -24,7 +24,7 @@ pub record IsFirst (w : World) (n : ℕ) (before : List Entry) (first : Entry) :
   pub own : first.command ≡ n + 1
   pub none_before : own_entries n before ≡ []
 
--- what a check asks for of the objects of a share
+-- what a CHECK asks for of the objects of a share
 abbrev pub asked_of : Share → ℕ
 asked_of s = length s.links + length s.addresses + length s.routes + length s.rules + length s.settings
     + length s.leases
@@ -53,7 +53,7 @@ EachRunIsBounded = (w : World) → Legal w → (n : ℕ) (c : Placed) (list : Ne
 abbrev pub EachAddHasMost : Type 0
 EachAddHasMost = (list : NetList) (c : Command) → AddsInAtMost list c (most_calls list c)
 
--- a change from outside is one call
+-- a change from outside is one call at most
 abbrev pub EachChangeIsOneCall : Type 0
 EachChangeIsOneCall = (w : World) → Legal w → (n : ℕ) (c : Placed) → slice_get (commands_of w.plan) n ≡ Some c
     → is_of_network c.command.verb ≡ false → length (own_replies w n) ≤ 1

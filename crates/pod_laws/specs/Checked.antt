@@ -68,7 +68,7 @@ holds_cached list c cached host = has_bridge_for host (bridge_of list.first) cac
 abbrev pub IsMissing : Cause → Type 0
 IsMissing cause = (what : Missed) × (cause ≡ causes.Missing what)
 
--- an object is missing (code 110), and named is the first: of bridge, links, addresses, routes, rules, settings and
+-- an object is missing (code 110), and the first is named: of bridge, links, addresses, routes, rules, settings and
 -- leases
 abbrev pub LacksObject : NetList → Command → Cached → Host → Ending → Type 0
 LacksObject list c cached host ending = EndsByDenied host (check_questions list c cached) IsMissing ending

@@ -45,7 +45,7 @@ pub record IsCleanCollection (list : NetList) (c : Command) (entries : List Entr
   pub leaves : new ≡ keep c.network c.valid old
   pub answer : a ≡ answers.Yes
 
--- it met faults, which its error names, and what it leaves over had a faulty call
+-- it met faults, which its error names, and a call about what it leaves over was faulty
 pub record IsFaultyCollection (list : NetList) (c : Command) (entries : List Entry) (new : Host)
     (a : Answer) : Type 0 where
   pub collected : IsCollected list
@@ -57,7 +57,7 @@ abbrev pub IsCollectionAnswer : NetList → Command → List Entry → Host → 
 IsCollectionAnswer list c entries old new a = IsTooOld list c entries a ⊎
     (IsDisabled list entries a ⊎ (IsCleanCollection list c entries old new a ⊎ IsFaultyCollection list c entries new a))
 
--- it is of one of these kinds, from the host right before its first entry to the one right after its last, unless it
+-- it is one of these answers, from the host right before its first entry to the one right after its last, unless it
 -- was cut off
 abbrev pub IsAnswerOfGc : World → ℕ → Command → NetList → Answer → Type 0
 IsAnswerOfGc w n c list =

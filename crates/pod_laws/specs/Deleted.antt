@@ -67,6 +67,6 @@ pub record DeletesOwnAlone (att : Att) (old new : Host) : Type 0 where
   pub removes : RemovesOwn att old new
   pub repeated : share_of att old ≡ no_objects → new ≡ old
 
--- each entry of a DEL, from the start of its run
+-- each entry of a DEL deletes of its own alone
 abbrev pub EachDeletionIsOwn : Type 0
 EachDeletionIsOwn = EachEntry (ByVerb (λ v. v ≡ verbs.Del) (λ c. DeletesOwnAlone (att_of c)))

@@ -1,5 +1,5 @@
 -- What is guaranteed of a plan that is carried out, however its commands are interleaved, stopped, meet faults or are
--- refused memory: at every moment, and of every answer.
+-- refused memory: at every moment, and of every answer of an ADD, a DEL, a CHECK and a GC.
 use Rattle.std.specs.Prelude.{◌≡◌, ℕ, true, List, [], ◌++◌}
 use Rattle.cni_verbs.specs.Answers.{answer_of_ending}
 use Rattle.cni_verbs.specs.CommandFields.{del_refusal}
@@ -41,8 +41,8 @@ pub record IsWellKept (p : Plan) (h : List Entry) : Type 0 where
 
 -- ---- one answer, of the command c at place n, with the list of its network
 
--- an ADD has made what its list asks for, or is refused for a named cause and has taken back what it made; or it was
--- cut off
+-- an ADD has made what its list asks for; or it is refused for a named cause, and has taken back what it made unless a
+-- later entry is a fault; or it was cut off
 abbrev pub IsAnswerOfAdd : World → ℕ → Command → NetList → Answer → Type 0
 IsAnswerOfAdd w n c list (answers.Added result) = HasMade w n c list result
 IsAnswerOfAdd w n c list (answers.Refused error) =

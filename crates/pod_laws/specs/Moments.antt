@@ -16,7 +16,7 @@ pub use Rattle.pod_workers.specs.World.{is_of, own_entries}
 use Rattle.pod_workers.specs.declared.plan.Entry.{Entry}
 use Rattle.pod_workers.specs.declared.plan.Plan.{Plan}
 
--- the history up to and with the last entry of the command at place n
+-- the history up to and including the last entry of the command at place n
 abbrev pub until_last : ℕ → List Entry → List Entry
 until_last n [] = []
 until_last n (e ∷ es) = if list_any (is_of n) (e ∷ es) then e ∷ until_last n es else []

@@ -76,7 +76,7 @@ IsRefusedFor c entries objects cause = IsRefusedByFields (add_refusal c) entries
 abbrev pub WasRefused : Type 0
 WasRefused = EachRefusal verbs.Add IsRefusedFor
 
--- Begin leaves the host as it is before it
+-- Begin leaves the host as it was before it
 abbrev pub BeginLeavesTheHost : Type 0
 BeginLeavesTheHost = (host : Host) (att : Att) (netns : List ℕ) (n : ℕ) (reply : Reply)
     → after_entry host (record { command = n; call = Begin att netns; reply = reply }) ≡ host

@@ -88,8 +88,8 @@ pub fn a_repeated_deletion_leaves_the_host()
 /// A GC is refused with no call made where its list is older than the verb (code 1), and skipped so where a newer
 /// list disables it. Else it makes calls, and is answered `ok` where it met no fault: then the host right
 /// after its last entry is the one right before its first without the objects of stale attachments. Where it met
-/// faults, its error (code 103) names them all, and each such object that is left had a faulty call. So it is unless
-/// memory was refused or it was stopped.
+/// faults, its error (code 103) names them all, and a call about each such object that is left was faulty. So it
+/// is unless memory was refused or it was stopped.
 pub fn every_collection_is_answered()
     ensures { CollectionsAreAnswered }
 {}
@@ -131,7 +131,7 @@ pub fn a_gone_attachment_stays_gone()
     ensures { GoneStaysGone }
 {}
 
-/// Where one plugin of a list at most sets values of links, the links that an ADD asks for at a moment are all as they
+/// Where at most one plugin of a list sets values of links, the links that an ADD asks for at a moment are all as they
 /// were made, or all as they are wanted, with those values.
 pub fn each_link_is_wanted()
     ensures { EachLinkIsWanted }

@@ -10,9 +10,9 @@
 //! (`specs/Repeated.antt`), which entries leave the other attachments and what none owns (`specs/Apart.antt`), that
 //! asking changes nothing (`specs/Granted.antt`), that each last address is a candidate of its set
 //! (`specs/Lasts.antt`), and of every run how many calls it makes at most (`specs/Bounded.antt`). What the laws share
-//! of answers is in `specs/Answers.antt`. Each law stands on a function that does nothing. Their sum, of one world, is
-//! `IsGuaranteed` (`specs/Guaranteed.antt`): every legal history has it, and the program's top call promises it of its
-//! book.
+//! of answers is in `specs/Answers.antt`. Each law stands on a function that does nothing. What they say of the host
+//! at every moment and of ADD, DEL, CHECK and GC is, of one world, `IsGuaranteed` (`specs/Guaranteed.antt`): every
+//! legal history has it, and the program's top call promises it of its book.
 //!
 //! ```text
 //! an_added_attachment_is_made() // a proof above gets the law by calling it

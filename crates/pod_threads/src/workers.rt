@@ -78,9 +78,9 @@ fn step<J: Origin, L: Ledger, R: Wait, K: Kernel + Drop>(
     end
 }
 
-/// Takes the lock. One who sleeps until it is woken costs whoever leaves the lock a call, and soon has the lock handed
-/// over, which takes longer than a step. So a worker that finds the lock taken naps, for longer each time, and the
-/// one that has it makes many steps in a row meanwhile.
+/// Takes the lock. A worker that sleeps until it is woken costs whoever leaves the lock a system call, and soon has the
+/// lock handed over to it, which takes longer than a step. So a worker that finds the lock taken naps, for longer each
+/// time, and the one that has it makes many steps in a row meanwhile.
 fn lock<'a, T, R: Wait>(rt: &R, shared: &'a Mutex<T>) -> MutexGuard<'a, T> {
     for naps in 0..NAPS {
         if let Some(guard) = shared.try_lock() {

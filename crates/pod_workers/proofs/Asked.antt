@@ -29,7 +29,7 @@ IsAskedOf list question = IsQuestionOf list question.call
 abbrev pub AreQuestionsOf : NetList → List Question → Type 0
 AreQuestionsOf list questions = AllByRecursion (IsAskedOf list) questions
 
--- ---- a check
+-- ---- a CHECK
 
 asked-rules : (list : NetList) (number : ℕ) (rules : List Rule) → AreQuestionsOf list (rule_questions number rules)
 asked-rules list number [] = tt

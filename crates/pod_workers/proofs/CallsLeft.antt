@@ -22,7 +22,7 @@ most_after most list c = most - (1 + length (before_of list c) + length (sets_of
 abbrev pub making : ℕ → NetList → Share → ℕ
 making calls list s = 2 * calls + deletions_of s + length (kinds_of list) + 1
 
--- the questions of a check, by the attachment's cached result
+-- the questions of a CHECK, by the attachment's cached result
 abbrev pub questions_by : NetList → Command → List CachedObj → ℕ
 questions_by list c [] = 0
 questions_by list c (x ∷ xs) = length (check_questions list c x.cached)

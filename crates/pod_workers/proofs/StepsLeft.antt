@@ -124,7 +124,7 @@ pub record MayGo (host : Host) (call : Call) (faulty : Bool) : Type 0 where
 pub host-made : (host : Host) (n : ℕ) (call : Call) → after_entry host (entry_of host n call false) ≡ (apply host call).0
 host-made host n call = ap (λ b. if b then host else (apply host call).0) (IsReplyOf-apply host call).no_fault
 
--- each entry of a run that is no collection lowers the calls that are left
+-- each entry of a run that is no GC's lowers the calls that are left
 pub entry-falls : (most : ℕ) (list : NetList) (c : Command) (number n : ℕ) (s : State) (host : Host) (call : Call) (faulty : Bool) → AddsInAtMost list c most → MayGo host call faulty → LeftAreOfPlugins list c s → IsNoCollection s → turn c s ≡ Calls call
     → calls_left most list c (advance list c number s (reply_to host call faulty)) (share_of (att_of c) (after_entry host (entry_of host n call faulty))) < calls_left most list c s (share_of (att_of c) host)
 entry-falls most list c number n s host call true in_most may of_plugins none is =

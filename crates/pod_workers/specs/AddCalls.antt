@@ -14,7 +14,8 @@ use Rattle.cni_verbs.specs.Wanted.{add_calls, back_calls, calls_before, kinds_of
 
 -- those of the plugins: all but the Begin and the leases
 abbrev pub calls_of_plugins : NetList → Att → List ℕ → List PortMapping → List Addr → List Call
-calls_of_plugins list att netns mappings given = calls_before list.first att netns ++ back_calls list att netns mappings given
+calls_of_plugins list att netns mappings given =
+    calls_before list.first att netns ++ back_calls list att netns mappings given
 
 -- the leases of these addresses, and nothing else
 abbrev pub only_leases : Att → List Addr → Share
@@ -24,7 +25,8 @@ only_leases att given = record no_objects { leases = map (lease_of att) given }
 -- and those of its plugins neither begin nor lease, delete or ask; each is well formed, where the list is and the
 -- attachment has a namespace of its own; each makes objects of the kinds alone that a DEL of the list takes back; and
 -- with the leases they make just the wanted objects.
-pub record MakeTheWanted (list : NetList) (att : Att) (netns : List ℕ) (mappings : List PortMapping) (given : List Addr) : Type 0 where
+pub record MakeTheWanted (list : NetList) (att : Att) (netns : List ℕ) (mappings : List PortMapping)
+    (given : List Addr) : Type 0 where
   pub own : list_all (is_call_of att) (add_calls list att netns mappings given) ≡ true
   pub of_plugins : list_all (is_plugin_call_of att) (calls_of_plugins list att netns mappings given) ≡ true
   pub well_formed : IsWellFormedList list → is_host_ns netns ≡ false

@@ -21,8 +21,8 @@ pub record IsEntryOf (p : Plan) (e : Entry) (n : ℕ) (c : Placed) : Type 0 wher
   pub number : e.command ≡ n + 1
   pub there : slice_get (commands_of p) n ≡ Some c
 
--- This entry may come after these: its call is the next of its command's script, it is the kernel's call in the host
--- there, or the fault that the command lists, and the command was not to stop before it.
+-- This entry may come after these: its call is the next of its command's script, and may be made in the host there with
+-- the kernel's reply, or is a fault that the command lists; and the command was not to stop before it.
 pub record Follows (p : Plan) (before : List Entry) (e : Entry) : Type 0 where
   pub place : ℕ
   pub by : Placed

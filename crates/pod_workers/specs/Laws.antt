@@ -23,7 +23,7 @@ EveryHostIsSound = (w : World) → Legal w → IsSound (host_of w)
 abbrev pub NoAddressIsLeasedTwice : Type 0
 NoAddressIsLeasedTwice = (w : World) → Legal w → (network : List ℕ) → NoAddressTwice network (host_of w)
 
--- each call that a ready command makes may be made in the host there
+-- each call that a ready command makes, unless it is a fault, may be made in the host there
 abbrev pub EveryCallMayBeMade : Type 0
 EveryCallMayBeMade =
     (w : World) (n : ℕ) (c : Placed) (call : Call) → Legal w → IsReady w n c

@@ -47,7 +47,7 @@ pub record IsDoneInFileOrder (w : World) : Type 0 where
   pub ended : length w.plan.pods.rounds ≤ w.round
   pub had_memory : (n : ℕ) → slice_get w.answers n ≢ Some (Some OutOfMemory)
 
--- what a run in file order leaves is a function of the plan
+-- what a plan that is carried out in file order leaves is a function of the plan
 abbrev pub OneOutcome : Type 0
 OneOutcome = (v w : World) → v.plan ≡ w.plan → IsDoneInFileOrder v → IsDoneInFileOrder w
     → (v.history ≡ w.history) × (v.answers ≡ w.answers)

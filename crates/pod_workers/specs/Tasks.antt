@@ -18,7 +18,7 @@ view_of (Collection run) = record { progress = run; prepared = true }
 abbrev pub IsListed : List NetList → Command → Type 0
 IsListed lists c = is_gc c.verb ≡ true → is_some (list_in lists c) ≡ true
 
--- one of these numbers of calls is the one that was made
+-- one of these numbers is that of the calls made
 abbrev pub are_after : ℕ → List ℕ → Bool
 are_after made before = list_any (λ n. made == n) before
 

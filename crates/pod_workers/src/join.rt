@@ -15,8 +15,8 @@ use net_conf::NetList;
 use pod_file::{Command, Pods};
 
 impl Plan {
-    /// The plan of these lists and this pod file. Refused are, in this order, the first list that has the name of an
-    /// earlier one, and the first command of a network that no list has.
+    /// The plan of these lists and this pod file. It refuses the first list that has the name of an earlier one, or
+    /// else the first command of a network that no list has.
     #[tactic(auto, unfolding(crate::specs::Join::joined))]
     pub fn join(
         lists: Items<RefCounted<NetList>>,

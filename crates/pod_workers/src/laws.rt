@@ -18,7 +18,7 @@ pub fn no_address_is_leased_twice()
     ensures { NoAddressIsLeasedTwice }
 {}
 
-/// Each call that a ready command makes may be made in the host that it finds.
+/// Each call that a ready command makes, unless it is a fault, may be made in the host that it finds.
 #[tactic(auto, using(crate::proofs::Sound::allowed_next))]
 pub fn every_call_may_be_made()
     ensures { EveryCallMayBeMade }

@@ -1,4 +1,4 @@
-//! What is to be done, and one line of what was done.
+//! What is to be done, and one entry of what was done.
 
 use cni_addr::Items;
 use cni_verbs::Answer;
@@ -29,7 +29,7 @@ pub enum PlanError {
 pub struct Entry {
     /// The command's number in the file, from 1.
     pub command: u32,
-    /// Shared with the plan that it comes from.
+    /// Shared with the run that made it, where the run keeps it.
     pub call: RefCounted<Call>,
     pub reply: Reply,
 }

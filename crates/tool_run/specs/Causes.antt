@@ -66,7 +66,8 @@ GivesPlan words files (Ok plan) = (stored : StoredFiles) → AreFilesFor words f
 GivesPlan words files (Err Usage) = ⊥
 GivesPlan words files (Err (Line line)) = (stored : StoredFiles) → AreFilesFor words files stored
     → plan_of stored words ≡ Err line.items
-GivesPlan words files (Err (Unread line)) = IsUnread (files_named words) files.failures_before files.failures_now line.items
+GivesPlan words files (Err (Unread line)) =
+    IsUnread (files_named words) files.failures_before files.failures_now line.items
 GivesPlan words files (Err NoMemory) = ⊤
 
 -- the list was read from some bytes

@@ -9,8 +9,10 @@ pub record FilesSeen : Type 0 where
   pub failures_before : ℕ
   pub failures_now : ℕ
 
-abbrev pub files_seen : {F : Type 0} → (stored : F → Option StoredFiles) → (failures : F → ℕ) → (old new : F) → FilesSeen
-files_seen stored failures old new = record { stored = stored old; failures_before = failures old; failures_now = failures new }
+abbrev pub files_seen : {F : Type 0} → (stored : F → Option StoredFiles) → (failures : F → ℕ) → (old new : F)
+    → FilesSeen
+files_seen stored failures old new =
+    record { stored = stored old; failures_before = failures old; failures_now = failures new }
 
 -- the bytes written, where they are told, and the count of the sink's failures, each before the run and now
 pub record SinkSeen : Type 0 where

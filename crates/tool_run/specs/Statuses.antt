@@ -140,6 +140,7 @@ EachStatusIsOfItsVerdict = (words : List (List ℕ)) (files : FilesSeen) (sink :
 
 -- a run whose words aren't taken says so, unless the sink gave up or memory ran out
 abbrev pub RefusedWordsAreReported : Type 0
-RefusedWordsAreReported = (words : List (List ℕ)) (files : FilesSeen) (sink : SinkSeen) (status : ℕ) (book : Option World)
+RefusedWordsAreReported =
+    (words : List (List ℕ)) (files : FilesSeen) (sink : SinkSeen) (status : ℕ) (book : Option World)
     → Ends words files sink status book
     → words_given words ≡ None → IsAmong status (2 ∷ 5 ∷ 6 ∷ [])

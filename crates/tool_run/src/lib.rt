@@ -8,8 +8,8 @@
 //! told, the book is of the plan that the definition `verdict_of` (`specs/Verdict.antt`) makes of words and files;
 //! where pods are generated, no file is read, and it is of the generator's plan whatever the files. The book has the
 //! guarantee `IsGuaranteed` of `pod_laws`, whatever the threads. Where one thread makes the rounds, the commands go in
-//! the order of the file, and words and files determine what is written and the status, faults and running out of
-//! memory aside (`IsDetermined`).
+//! the order of the file, and words and files determine what is written and the status, failed reads and
+//! writes and running out of memory aside (`IsDetermined`).
 //!
 //! ```text
 //! // words: --threads 4 pods.json net.json

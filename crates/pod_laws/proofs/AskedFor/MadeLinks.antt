@@ -1,4 +1,4 @@
--- Where one plugin at most sets values of links, as in each list of a plan, the links of an attachment are all as they
+-- Where at most one plugin sets values of links, as in each list of a plan, the links of an attachment are all as they
 -- were made, or all as they are wanted.
 use Rattle.std.proofs.Common.{◌≡◌, ℕ, Bool, true, false, not, List, [], ◌∷◌, ◌++◌, map, Some, refl, sym, ◌∙◌, ap, subst, inl, inr, ◌⊎◌, arith}
 use Rattle.std.specs.Prelude.{◌||◌, if◌then◌else◌}
@@ -147,7 +147,7 @@ each_link_is_wanted list c given links once a =
           inr (subst (AreAmong links) whole a.among)
     ]
 
--- ---- in a well formed list one plugin at most sets links
+-- ---- in a well-formed list at most one plugin sets links
 
 none-more : (c : Chained) (cs : List Chained) → sets_links c ≡ true → AllByRecursion (λ type. type_eq (type_of_chained c) type ≡ false) (map type_of_chained cs) → list_any sets_links cs ≡ false
 none-more c [] sets far = refl

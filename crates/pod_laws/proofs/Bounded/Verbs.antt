@@ -74,7 +74,7 @@ length-status list c =
 
 -- ---- what a start leaves
 
--- a start that is no collection, with no more calls than so many
+-- a start that is no GC's, with no more calls than so many
 pub record StartsIn (most : ℕ) (list : NetList) (c : Command) (s : State) (bound : Share → ℕ) : Type 0 where
   pub none : IsNoCollection s
   pub few : (had : Share) → calls_left most list c s had ≤ bound had
@@ -124,9 +124,9 @@ by-start w legal n c list bound before first at listed starts is =
     let few = starts.few (objects_after w.plan (att_of c.command) before) in
     omega arith
 
--- ---- a check
+-- ---- a CHECK
 
--- what a start of a check leaves after its first reply
+-- what a start of a CHECK leaves after its first reply
 pub record AsksIn (list : NetList) (c : Command) (s : State) (r : Reply) (bound : ℕ) : Type 0 where
   pub none : IsNoCollection s
   pub few : (had : Share) → calls_left (most_calls list c) list c (advance list c 1 s r) had ≤ bound

@@ -19,7 +19,7 @@ use Rattle.cni_verbs.specs.Wanted.{add_calls, wanted}
 use Rattle.pod_workers.specs.AddCalls.{only_leases}
 use Rattle.pod_workers.proofs.AddCalls.{make_the_wanted}
 
--- each object that a check asks for
+-- each object that a CHECK asks for
 pub record AreOwn (att : Att) (s : Share) : Type 0 where
   pub links : list_all (λ x. is_own att x.tag) s.links ≡ true
   pub addresses : list_all (λ x. is_own att x.tag) s.addresses ≡ true

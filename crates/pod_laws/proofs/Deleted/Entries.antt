@@ -60,7 +60,7 @@ deletes-kind att k kind sound = record { removes = RemovesOwn-apply k (deletion 
 abbrev DeletesBy : Command → Host → Call → Type 0
 DeletesBy c k call = DeletesOwnAlone (att_of c) k (apply k call).0
 
--- a DEL reads its entry or deletes
+-- a DEL reads its cached result or deletes
 turn-deletes : (list : NetList) (c : Command) (es : List Entry) (st : State) (s : Share) (k : Host) (call : Call) → c.verb ≡ verbs.Del → IsSound k → turn c st ≡ Calls call → Undoing list c es st s → DeletesBy c k call
 unfolding turn
 turn-deletes list c es AtBegin s k call verb sound is was = absurd (not-both c was.verb verb)

@@ -1,4 +1,4 @@
--- An answer that the book didn't give without the script is what the run came to.
+-- An answer of a command that wasn't cut off is what its run came to.
 use Rattle.std.proofs.Common.{◌≡◌, ℕ, false, Some, slice_get, ap, inl, inr, List, [], ◌∙◌, subst}
 use Rattle.std.proofs.lemmas.Bool.{both_ways}
 use Rattle.cni_addr.specs.declared.address.Addr.{Addr}
@@ -24,7 +24,7 @@ over-by w legal n c list a at listed is whole = elim (answer-due w legal n c lis
   | inr cut ↦ absurd (both_ways (is_cut_off a) whole cut)
 ]
 
--- where it leased nothing, and is no collection, its ending is what holds of its last state
+-- where it leased nothing, and is no GC, its ending is what holds of its last state
 pub answered-by : (list : NetList) (c : Command) (st : State) (a : Answer) (At : State → Type 0) (Ends : Ending → Type 0) → ((ending : Ending) (given : List Addr) → At (Over ending given) → (given ≡ []) × Ends ending)
     → ((work : Work) (faults : List ℕ) → At (Collecting work faults) → ⊥) → IsOver list c st a → At st → (ending : Ending) × (a ≡ answer_of_ending list c ending []) × Ends ending
 unfolding answer_of

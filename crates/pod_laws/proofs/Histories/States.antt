@@ -46,7 +46,7 @@ question-leaves host (OwnersOf network kind) is = refl
 question-leaves host (PoolFree network set) is = refl
 question-leaves host _ is = cc
 
--- each question of a check or a status does
+-- each question of a CHECK or a STATUS does
 pub asked-is_question : (list : NetList) (call : Call) → IsQuestionOf list call → is_question call ≡ true
 asked-is_question list (HasObj probe) h = refl
 asked-is_question list (PoolFree network set) h = refl

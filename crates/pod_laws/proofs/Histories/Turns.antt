@@ -102,7 +102,7 @@ outside-turn c _ call h is = absurd h
 pub change-of : (w : World) (n : ℕ) (c : Placed) (call : Call) (faulty : Bool) → Changes w n c call faulty → IsFromOutside c.command call
 change-of w n c call faulty on = outside-turn c.command _ call (left-is-outside c.command (own_replies w n)) on.turn_is
 
--- it only removes
+-- namespaces and lasts aside, it only removes
 pub removes-changed : (w : World) (n : ℕ) (c : Placed) (call : Call) (faulty : Bool) → Changes w n c call faulty → OnlyRemoves (host_of w) (after_entry (host_of w) (entry_of (host_of w) n call faulty))
 removes-changed w n c call faulty on =
     on-entry (OnlyRemoves (host_of w)) (host_of w) n call faulty (removes-nothing (host_of w)) (λ f. removes-outside (host_of w) call (sound_host w on.legal) (on.allowed f) (change-of w n c call faulty on).call_is)
