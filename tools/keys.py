@@ -35,9 +35,16 @@ def keys_of(text, pattern=ROW):
     return found
 
 
+def opening_keys(text):
+    """The keys of an opening and of its links, without the values in brackets."""
+    said = next(said for key, said in ITEM.findall(text) if key == "`opening`")
+    outside, inside = re.sub(r"\([^)]*\)", "", said).split("objects with")
+    return {**dict.fromkeys(NAME.findall(outside), {}), "links": dict.fromkeys(NAME.findall(inside), {})}
+
+
 def pod_keys():
     text = section("FORMATS.md", "Pod files")
-    return {**keys_of(text, ITEM), "rounds": keys_of(text)}
+    return {"opening": opening_keys(text), "rounds": keys_of(text)}
 
 
 def ipam_keys():
@@ -46,10 +53,14 @@ def ipam_keys():
 
 
 def plugin_keys(name):
-    """The keys of a plugin; none of one that has no page, which the program refuses."""
-    if name not in [it.stem for it in (DOCS / "plugins").iterdir()]:
+    """The keys of a plugin, or of any where no type is named; none of a type that has no page, which the program
+    refuses."""
+    pages = [it.stem for it in (DOCS / "plugins").iterdir() if name in (it.stem, None)]
+    if not pages:
         return None
-    keys = keys_of(section(f"plugins/{name}.md", "Keys"))
+    keys = {}
+    for page in pages:
+        keys.update(keys_of(section(f"plugins/{page}.md", "Keys")))
     dns = keys_of(section("plugins/bridge.md", "Keys"))["dns"]
     inside = {"dns": dns, "ipam": ipam_keys(), "sysctl": None}
     return {**keys, "type": {}, **{key: inside[key] for key in inside if key in keys}}
@@ -66,14 +77,14 @@ def unnamed(value, keys, place=""):
             if key in keys:
                 yield from unnamed(inside, keys[key], there)
             else:
-                yield there, difflib.get_close_matches(key, keys, 1)
+                yield there, (difflib.get_close_matches(key, keys, 1) or [it for it in keys if it in key])[:1]
 
 
 def unnamed_in(value):
     """The places of a list or a pod file, which may be of any form, as those that the program refuses are."""
     if not isinstance(value, dict):
         return
-    if "rounds" in value or "plugins" not in value:
+    if "rounds" in value or not value.keys() & {"cniVersion", "name", "plugins"}:
         yield from unnamed(value, pod_keys())
         return
     yield from unnamed(value, {**keys_of(section("FORMATS.md", "Network lists")), "plugins": None})
@@ -83,9 +94,17 @@ def unnamed_in(value):
         yield from unnamed(plugin, plugin_keys(name), f"plugins[{number}]")
 
 
+def refuse(constant):
+    raise ValueError(f"{constant} is no JSON")
+
+
 def lines_of(file):
     try:
-        value = json.loads(pathlib.Path(file).read_text(encoding="utf-8"))
+        value = json.loads(pathlib.Path(file).read_text(encoding="utf-8"), parse_constant=refuse)
+    except UnicodeDecodeError as error:
+        *before, last = error.object[: error.start].split(b"\n")
+        yield f"no UTF-8: line {len(before) + 1} column {len(last) + 1}"
+        return
     except (OSError, ValueError) as error:
         yield str(error)
         return

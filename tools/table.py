@@ -27,9 +27,10 @@ def main():
     if len(sys.argv) < 2:
         sys.exit(__doc__)
     kind, *keys = sys.argv[1:]
-    objects = [value for value in map(json.loads, sys.stdin) if value.pop("kind", None) == kind]
+    values = [value for value in map(json.loads, sys.stdin) if "kind" in value]
+    objects = [value for value in values if value.pop("kind") == kind]
     if not objects:
-        print(f"table.py: no {kind} in what was given; is it a dump?", file=sys.stderr)
+        sys.exit(f"table.py: no {kind} in this dump" if values else "table.py: this is no dump")
     keys = keys or list(dict.fromkeys(key for it in objects for key in it))
     print("\n".join(table(objects, keys)))
 

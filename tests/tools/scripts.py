@@ -35,7 +35,7 @@ TOOLS = TOP / "tools"
 MOST_RUNS = 4
 SVG = "{http://www.w3.org/2000/svg}"
 PODS = {
-    "opening": {"links": [{"name": "eth1", "kind": "device", "mut": 1}]},
+    "opening": {"ns": ["/ns/a"], "links": [{"name": "eth1", "kind": "device", "mut": 1, "netns": "/ns/a"}]},
     "rounds": [
         [{"verb": "GC", "network": "pods", "vaild": [{"containerID": "c1", "ifname": "eth0"}]}],
         [{"verb": "ADD", "portMappings": [{"hostport": 1}], "valid": None}],
@@ -50,11 +50,20 @@ LIST = {
         {"type": "tuning", "sysctl": {"net.core.somaxconn": "1"}, "txqlen": 1, "dns": {}},
         {"type": "portmap", "capabilities": {"portMappings": True}, "conditionsV4": []},
         {"type": "loopback", "any": 1},
+        {"typ": "macvlan", "master": "eth1"},
     ],
 }
-NO_JSON = b'{"rounds":[],\n}'
+# files that can't be read, or whose main key is misspelt
+OTHERS = {
+    "bad.json": b'{"rounds":[],\n}',
+    "nan.json": b'{"rounds":NaN}',
+    "latin.json": b'{"rounds":[],\n"\xe4":1}',
+    "plugin.json": {"cniVersion": "1.1.0", "name": "pods", "plugin": [{"type": "bridge"}]},
+}
 IGNORED = """\
+pods.json: opening.ns is ignored
 pods.json: opening.links[0].mut is ignored; the nearest name is mtu
+pods.json: opening.links[0].netns is ignored; the nearest name is ns
 pods.json: rounds[0][0].vaild is ignored; the nearest name is valid
 pods.json: rounds[1][0].portMappings[0].hostport is ignored; the nearest name is hostPort
 net.json: runtimeConfig is ignored
@@ -66,7 +75,11 @@ net.json: plugins[1].ipam.ranges[0][0].resolvConf is ignored
 net.json: plugins[1].ipam.routes[0].mtu is ignored
 net.json: plugins[2].txqlen is ignored; the nearest name is txQLen
 net.json: plugins[2].dns is ignored
+net.json: plugins[5].typ is ignored; the nearest name is type
 bad.json: Expecting property name enclosed in double quotes: line 2 column 1 (char 14)
+nan.json: NaN is no JSON
+latin.json: no UTF-8: line 2 column 2
+plugin.json: plugin is ignored; the nearest name is plugins
 """
 DUMP = """\
 {"n":1,"ok":true,"verb":"GC"}
@@ -87,8 +100,9 @@ def output_of(tool, words, given=""):
 
 
 def ignored(_):
-    with in_folder({"pods.json": PODS, "net.json": LIST, "bad.json": NO_JSON}) as folder:
-        ended = run(TOOLS / "keys.py", ["pods.json", "net.json", "bad.json"], folder)
+    files = {"pods.json": PODS, "net.json": LIST, **OTHERS}
+    with in_folder(files) as folder:
+        ended = run(TOOLS / "keys.py", [*files], folder)
     if (ended.stdout.decode("utf-8"), ended.returncode) != (IGNORED, 1):
         yield f"status {ended.returncode}: {ended.stdout.decode('utf-8')}"
     good = [str(it) for it in (TOP / "examples").rglob("*.json") if it.name != "misspelt.json"]
@@ -103,6 +117,9 @@ def ignored(_):
 def table(_):
     if output_of("table.py", ["link", "name", "ns", "peer"], DUMP) != (TABLE, 0):
         yield f"printed: {output_of('table.py', ['link', 'name', 'ns', 'peer'], DUMP)}"
+    for kind, given in (("lease", DUMP), ("link", '{"n":1,"ok":true,"verb":"GC"}\n')):
+        if output_of("table.py", [kind], given) != ("", 1):
+            yield f"{kind}: {output_of('table.py', [kind], given)}"
 
 
 def runs():
@@ -119,6 +136,8 @@ def dump_of(program, files, folder):
 
 
 def changes(program):
+    if output_of("changes.py", [TOP / "no-such-program", "pods.json"]) != ("", 1):
+        yield "a program that isn't there is run"
     for name, files in itertools.islice(runs(), MOST_RUNS):
         with in_folder(files) as folder:
             words = [TOOLS / "changes.py", program, *files]
