@@ -3,9 +3,9 @@ pub mod Cases
 pub mod CidrTexts
 pub mod GroupTexts
 pub mod Groups
-pub mod HexDigits
 pub mod KeyLists
 pub mod Lists
 pub mod MacTexts
 pub mod Networks
-pub mod Spellings
+mod HexDigits
+mod Spellings

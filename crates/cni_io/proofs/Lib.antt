@@ -1,3 +1,3 @@
-pub mod KnownBytes
-pub mod Stored
 pub mod Counts
+mod KnownBytes
+mod Stored

@@ -2,11 +2,11 @@ pub mod Ascending
 pub mod Building
 pub mod EachLemmas
 pub mod Endings
-pub mod LineFeed
-pub mod Lines
-pub mod ObjectLemmas
-pub mod OnLiterals
-pub mod OutcomeLemmas
-pub mod ReadingLemmas
 pub mod Steps
 pub mod WholeNumbers
+mod LineFeed
+mod Lines
+mod ObjectLemmas
+mod OnLiterals
+mod OutcomeLemmas
+mod ReadingLemmas

@@ -1,7 +1,7 @@
-pub mod Depths
-pub mod EntriesAgain
 pub mod Lookups
 pub mod ReadAgain
-pub mod ResultAgain
 pub mod ResultLemmas
 pub mod WholeNumbers
+mod Depths
+mod EntriesAgain
+mod ResultAgain

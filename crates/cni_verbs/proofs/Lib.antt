@@ -1,12 +1,8 @@
-pub mod AddCalls
 pub mod AfterReplies
-pub mod Arguments
 pub mod Asked
 pub mod BackCalls
 pub mod CallsOrOver
 pub mod EarlyEndings
-pub mod Ends
-pub mod Gathered
 pub mod GivenAddresses
 pub mod NextCalls
 pub mod OwnCalls
@@ -14,3 +10,7 @@ pub mod PhaseSteps
 pub mod PluginLaws
 pub mod QuestionCounts
 pub mod WantedShare
+mod AddCalls
+mod Arguments
+mod Ends
+mod Gathered

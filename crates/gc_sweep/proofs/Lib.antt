@@ -1,14 +1,14 @@
 pub mod Calls
 pub mod Covered
 pub mod Deletions
-pub mod Indexed
 pub mod Kept
 pub mod Leaves
 pub mod Lists
 pub mod Machine
 pub mod Owners
-pub mod Phases
-pub mod Places
 pub mod Removes
-pub mod Runs
 pub mod Weights
+mod Indexed
+mod Phases
+mod Places
+mod Runs

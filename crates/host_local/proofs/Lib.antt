@@ -1,2 +1,2 @@
 pub mod KindLemmas
-pub mod LeaseLemmas
+mod LeaseLemmas

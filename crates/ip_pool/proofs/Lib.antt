@@ -1,15 +1,15 @@
 pub mod Addresses
 pub mod Choice
-pub mod Disjoint
 pub mod InOrder
 pub mod Lists
-pub mod Membership
 pub mod Passing
 pub mod Places
-pub mod RunEdits
-pub mod RunMembers
-pub mod RunPlaces
-pub mod RunSearch
-pub mod Stretches
 pub mod TakenAlone
-pub mod WayRound
+mod Disjoint
+mod Membership
+mod RunEdits
+mod RunMembers
+mod RunPlaces
+mod RunSearch
+mod Stretches
+mod WayRound

@@ -1,3 +1,3 @@
-pub mod LeavingLinks
-pub mod TaggedOwners
-pub mod OnLeavingLinks
+mod LeavingLinks
+mod OnLeavingLinks
+mod TaggedOwners

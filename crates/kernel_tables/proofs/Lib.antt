@@ -1,13 +1,13 @@
-pub mod Added
-pub mod Along
-pub mod Free
-pub mod Kept
-pub mod Leaving
-pub mod Namespaces
-pub mod NewLease
-pub mod Noted
-pub mod Opening
-pub mod Owned
-pub mod Owners
-pub mod Places
-pub mod Questions
+mod Added
+mod Along
+mod Free
+mod Kept
+mod Leaving
+mod Namespaces
+mod NewLease
+mod Noted
+mod Opening
+mod Owned
+mod Owners
+mod Places
+mod Questions

@@ -1,2 +1,2 @@
-pub mod DumpLemmas
-pub mod TextLemmas
+mod DumpLemmas
+mod TextLemmas

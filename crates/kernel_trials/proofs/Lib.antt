@@ -1,1 +1,1 @@
-pub mod WorkedMacs
+mod WorkedMacs

@@ -1,4 +1,3 @@
--- cited by the crates above too
 pub mod Cases
 pub mod ChangeLemmas
 pub mod Deletes
@@ -6,17 +5,16 @@ pub mod DropsOwn
 pub mod EveryCall
 pub mod Isolation
 pub mod LeasedAddress
+pub mod Leases
 pub mod ListLemmas
 pub mod Namespaces
+pub mod Outside
 pub mod Removal
 pub mod Replies
 pub mod SoundHosts
 pub mod SoundOpening
 pub mod TouchRemoval
--- of this crate's own proofs
-pub mod Adds
-pub mod Append
-pub mod Leases
-pub mod LinkSet
-pub mod OneList
-pub mod Outside
+mod Adds
+mod Append
+mod LinkSet
+mod OneList

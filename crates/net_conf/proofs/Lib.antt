@@ -1,10 +1,10 @@
-pub mod ApartLemmas
-pub mod Endings
-pub mod ListFacts
-pub mod PluginFacts
-pub mod RangeFacts
-pub mod RangeLemmas
-pub mod SetFacts
-pub mod TuningFacts
-pub mod TuningLemmas
-pub mod ValueLemmas
+mod ApartLemmas
+mod Endings
+mod ListFacts
+mod PluginFacts
+mod RangeFacts
+mod RangeLemmas
+mod SetFacts
+mod TuningFacts
+mod TuningLemmas
+mod ValueLemmas

@@ -1,7 +1,7 @@
 pub mod CommandFacts
-pub mod GeneratedListFacts
-pub mod GeneratorFacts
-pub mod IndexFacts
-pub mod Numbering
-pub mod OpeningFacts
-pub mod PodFacts
+mod GeneratedListFacts
+mod GeneratorFacts
+mod IndexFacts
+mod Numbering
+mod OpeningFacts
+mod PodFacts

@@ -1,17 +1,17 @@
-pub mod Added
-pub mod Apart
-pub mod AskedFor
-pub mod Bounded
-pub mod Checked
-pub mod Collected
-pub mod Deleted
-pub mod Given
-pub mod Guaranteed
-pub mod Histories
-pub mod LastAddresses
-pub mod Outside
-pub mod Questions
-pub mod Refused
-pub mod Shares
-pub mod StatusRuns
-pub mod Tests
+mod Added
+mod Apart
+mod AskedFor
+mod Bounded
+mod Checked
+mod Collected
+mod Deleted
+mod Given
+mod Guaranteed
+mod Histories
+mod LastAddresses
+mod Outside
+mod Questions
+mod Refused
+mod Shares
+mod StatusRuns
+mod Tests

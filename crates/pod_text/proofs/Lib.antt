@@ -1,2 +1,2 @@
-pub mod Rounds
-pub mod Whole
+mod Rounds
+mod Whole

@@ -1,4 +1,4 @@
-pub mod Counting
-pub mod Entered
-pub mod Formed
-pub mod Recent
+mod Counting
+mod Entered
+mod Formed
+mod Recent

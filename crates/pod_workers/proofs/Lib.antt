@@ -1,43 +1,41 @@
--- the lemmas of the laws, for the crates above
 pub mod AddCalls
-pub mod AnswersDue
-pub mod Facts
-pub mod Listed
-pub mod OneOutcome
-pub mod Prefixes
-pub mod Reached
-pub mod Sound
-pub mod Stopped
--- what stands under them
 pub mod Alone
-pub mod Appended
+pub mod AnswersDue
 pub mod Asked
 pub mod CallsLeft
-pub mod Clauses
-pub mod Collected
 pub mod Deletable
-pub mod DoneBefore
 pub mod Each
 pub mod Elements
+pub mod Facts
 pub mod Falls
-pub mod FileOrder
 pub mod Histories
-pub mod Indexed
-pub mod Joined
 pub mod Kept
-pub mod KeptAtBegin
+pub mod Listed
 pub mod MostCalls
 pub mod OfPlugins
 pub mod Order
 pub mod PluginCalls
-pub mod Positions
-pub mod ReadyByIndex
+pub mod Prefixes
 pub mod Replies
 pub mod RoundDone
 pub mod Rounds
-pub mod RoundsAscend
+pub mod Sound
 pub mod Splits
 pub mod StepsLeft
-pub mod TakenBack
-pub mod Turns
 pub mod WellFormedPlans
+mod Appended
+mod Clauses
+mod Collected
+mod DoneBefore
+mod FileOrder
+mod Indexed
+mod Joined
+mod KeptAtBegin
+mod OneOutcome
+mod Positions
+mod Reached
+mod ReadyByIndex
+mod RoundsAscend
+mod Stopped
+mod TakenBack
+mod Turns

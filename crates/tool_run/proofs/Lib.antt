@@ -1,7 +1,7 @@
-pub mod Dues
-pub mod Endings
-pub mod GeneratedPlans
-pub mod Joined
-pub mod Lists
-pub mod Stopping
-pub mod Whole
+mod Dues
+mod Endings
+mod GeneratedPlans
+mod Joined
+mod Lists
+mod Stopping
+mod Whole

@@ -1,5 +1,5 @@
-pub mod App
-pub mod Counts
-pub mod Given
-pub mod Numbers
-pub mod Saying
+mod App
+mod Counts
+mod Given
+mod Numbers
+mod Saying
