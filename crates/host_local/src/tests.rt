@@ -49,7 +49,7 @@ fn two_sets(alloc: Global) -> Result<NetList, Fail> {
 fn ipam_of(list: &NetList) -> Option<&HostLocalConf> {
     match &list.first {
         First::Ptp(conf) => Some(&conf.ipam),
-        First::Bridge(_) | First::Macvlan(_) => None,
+        _ => None,
     }
 }
 
