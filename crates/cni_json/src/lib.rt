@@ -19,8 +19,8 @@
 //!
 //! Each of these terms is a definition in `specs/` that computes on literals, under `unfolding cni_json_on_literals`.
 //! `Gives` of `specs/Outcome.antt` says that an outcome is the defined one or out of memory. Each enum of errors can
-//! use it, by its own test of which of its errors mean out of memory, which [`Refusal`] has for readers that serve any of
-//! them.
+//! use it, by its own test of which of its errors mean out of memory, which [`Refusal`] has for readers that serve any
+//! of them.
 //!
 //! ```text
 //! let list = read(alloc, b"{\"name\":\"pods\",\"mtu\":1500,\"dns\":null}")?;
