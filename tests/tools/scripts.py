@@ -14,8 +14,10 @@ import collections
 import contextlib
 import itertools
 import json
+import os
 import pathlib
 import re
+import signal
 import subprocess
 import sys
 import xml.etree.ElementTree
@@ -135,12 +137,22 @@ def dump_of(program, files, folder):
     return [line for line in lines if "kind" in json.loads(line)]
 
 
+def status_unread(words, folder):
+    """How a script ends whose output nobody reads."""
+    read, write = os.pipe()
+    os.close(read)
+    with open(write, "wb") as unread:
+        return run(sys.executable, words, folder, stdout=unread).returncode
+
+
 def changes(program):
     if output_of("changes.py", [TOP / "no-such-program", "pods.json"]) != ("", 1):
         yield "a program that isn't there is run"
-    for name, files in itertools.islice(runs(), MOST_RUNS):
+    for number, (name, files) in enumerate(itertools.islice(runs(), MOST_RUNS)):
         with in_folder(files) as folder:
             words = [TOOLS / "changes.py", program, *files]
+            if number == 0 and status_unread(words, folder) != -signal.SIGPIPE:
+                yield f"{name}: it doesn't end where nobody reads"
             printed = lines_of(run(sys.executable, words, folder).stdout)
             wanted = dump_of(program, files, folder)
             (folder / "pods.json").write_text(compact({**files["pods.json"], "rounds": []}), encoding="utf-8")
