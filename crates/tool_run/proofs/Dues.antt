@@ -1,5 +1,5 @@
 -- What words and files come to, and what a run is then to report.
-use Rattle.std.proofs.Common.{◌≡◌, ◌∙◌, ◌≤◌, ℕ, List, ◌∷◌, inl, inr, length, sym, ap, subst, Option, Some, Ok, Err, Result, IfOk}
+use Rattle.std.proofs.Common.{◌≡◌, ◌∙◌, ◌≤◌, ℕ, List, inl, inr, length, sym, ap, subst, Option, Some, Ok, Err, Result, IfOk}
 use Rattle.std.proofs.lemmas.Option.{same_Some}
 use Rattle.cni_io.specs.Files.{StoredFiles}
 use Rattle.pod_text.specs.Lines.{text_of}
@@ -11,7 +11,7 @@ use Rattle.tool_words.specs.Words.{words_given}
 use Rattle.tool_words.specs.declared.source.Source.{Source}
 use Rattle.tool_words.specs.declared.source.Source.TheVariants.{PodFile, Generator}
 use Rattle.tool_words.specs.declared.words.Words.{Words}
-use Rattle.tool_run.specs.Causes.{AreFilesFor, GivesPlan, GivesStored, IsUnread, files_named, files_of}
+use Rattle.tool_run.specs.Causes.{AreFilesFor, GivesPlan, GivesStored, IsUnread, ReachesFile, files_named, files_of}
 use Rattle.tool_run.specs.Reports.{CarriesOut, ComesToNoPlan, IsDueOf, Settles}
 use Rattle.tool_run.specs.Seen.{FilesSeen}
 use Rattle.tool_run.specs.Statuses.{AreFiles, AskForOneThread, ComesTo}
@@ -33,11 +33,11 @@ told by file files stored is (inr none) = absurd (let named = ap (λ (s : Source
 
 -- what the reads of a pod file and its lists give
 pub of_files : (by : Words) (file : List ℕ) (files : FilesSeen) (r : Result Plan NoPlan) → by.source ≡ PodFile file
-    → GivesStored {X = Plan} (λ plan. plan) files.stored files.failures_before files.failures_now (file ∷ by.lists) (λ stored. plan_of_files stored by file) r → GivesPlan by files r
+    → GivesStored {X = Plan} (λ plan. plan) files.stored files.failures_before files.failures_now (ReachesFile files.stored (PodFile file) by.lists) (λ stored. plan_of_files stored by file) r → GivesPlan by files r
 of_files by file files (Ok plan) is gives = λ stored at. ap (plan_from_source stored by) is ∙ gives stored (told by file files stored is at)
 of_files by file files (Err Usage) is gives = gives
 of_files by file files (Err (Line text)) is gives = λ stored at. ap (plan_from_source stored by) is ∙ gives stored (told by file files stored is at)
-of_files by file files (Err (Unread text)) is gives = subst (λ (s : Source). IsUnread (files_of s by.lists) files.failures_before files.failures_now text.items) (sym is) gives
+of_files by file files (Err (Unread text)) is gives = subst (λ (s : Source). IsUnread (ReachesFile files.stored s by.lists) files.failures_before files.failures_now text.items) (sym is) gives
 of_files by file files (Err NoMemory) is gives = tt
 
 -- what the generator gives, whatever the files

@@ -1,5 +1,5 @@
 -- What a step of reading gives, and why it gives nothing.
-use Rattle.std.specs.Prelude.{◌≡◌, ◌⊎◌, ℕ, List, [], ◌∷◌, Option, Some, Result, Ok, Err, Contains, ⊤}
+use Rattle.std.specs.Prelude.{◌≡◌, ◌⊎◌, ℕ, List, [], ◌∷◌, ◌++◌, Option, Some, Result, Ok, Err, IsOk, ⊤}
 use Rattle.cni_io.specs.Failures.{Rose}
 use Rattle.cni_io.specs.Files.{StoredFiles}
 use Rattle.net_conf.specs.List.{list_of}
@@ -12,7 +12,7 @@ use Rattle.tool_words.specs.declared.source.Source.TheVariants.{PodFile, Generat
 use Rattle.tool_words.specs.declared.words.Words.{Words}
 use Rattle.tool_run.specs.Lines.{unread_line}
 use Rattle.tool_run.specs.Seen.{FilesSeen}
-use Rattle.tool_run.specs.Verdict.{Judged, plan_of}
+use Rattle.tool_run.specs.Verdict.{Judged, plan_of, stored_lists, stored_pods}
 use Rattle.tool_run.specs.declared.plan.NoPlan.{NoPlan}
 use Rattle.tool_run.specs.declared.plan.NoPlan.TheVariants.{Usage, Line, Unread, NoMemory}
 
@@ -20,23 +20,36 @@ use Rattle.tool_run.specs.declared.plan.NoPlan.TheVariants.{Usage, Line, Unread,
 abbrev pub WhereTold : Option StoredFiles → (StoredFiles → Type 0) → Type 0
 WhereTold files P = (stored : StoredFiles) → files ≡ Some stored → P stored
 
--- a read failed, and the line names one of these files
-pub record IsUnread (names : List (List ℕ)) (before now : ℕ) (line : List ℕ) : Type 0 where
+-- reading gets to this one of the lists: each before it is taken, where the files are told
+pub record ReachesList (files : Option StoredFiles) (names : List (List ℕ)) (file : List ℕ) : Type 0 where
+  pub before : List (List ℕ)
+  pub after : List (List ℕ)
+  pub names_are : names ≡ before ++ file ∷ after
+  pub taken : WhereTold files (λ stored. IsOk (stored_lists stored before))
+
+-- reading gets to this file: the pod file; or one of the lists, and the pod file is taken, where the files are told
+abbrev pub ReachesFile : Option StoredFiles → Source → List (List ℕ) → List ℕ → Type 0
+ReachesFile files (PodFile pods) lists file =
+    (file ≡ pods) ⊎ (WhereTold files (λ stored. IsOk (stored_pods stored pods)) × ReachesList files lists file)
+ReachesFile files (Generator count) lists file = ⊥
+
+-- a read failed, and the line names a file that reading gets to
+pub record IsUnread (Reached : List ℕ → Type 0) (before now : ℕ) (line : List ℕ) : Type 0 where
   pub file : List ℕ
-  pub named : Contains names file
+  pub reached : Reached file
   pub rose : Rose before now
   pub says : line ≡ unread_line file
 
 -- A step that reads files gives what is defined of the files, where they are told; or the line that is defined of them;
--- or a read of a named file failed; or memory ran out.
-abbrev pub GivesStored : {X Y : Type 0} → (X → Y) → Option StoredFiles → ℕ → ℕ → List (List ℕ)
+-- or a read failed, of a file that it gets to; or memory ran out.
+abbrev pub GivesStored : {X Y : Type 0} → (X → Y) → Option StoredFiles → ℕ → ℕ → (List ℕ → Type 0)
     → (StoredFiles → Judged Y) → Result X NoPlan → Type 0
-GivesStored view files before now names wanted (Ok x) = WhereTold files (λ stored. wanted stored ≡ Ok (view x))
-GivesStored view files before now names wanted (Err Usage) = ⊥
-GivesStored view files before now names wanted (Err (Line line)) =
+GivesStored view files before now Reached wanted (Ok x) = WhereTold files (λ stored. wanted stored ≡ Ok (view x))
+GivesStored view files before now Reached wanted (Err Usage) = ⊥
+GivesStored view files before now Reached wanted (Err (Line line)) =
     WhereTold files (λ stored. wanted stored ≡ Err line.items)
-GivesStored view files before now names wanted (Err (Unread line)) = IsUnread names before now line.items
-GivesStored view files before now names wanted (Err NoMemory) = ⊤
+GivesStored view files before now Reached wanted (Err (Unread line)) = IsUnread Reached before now line.items
+GivesStored view files before now Reached wanted (Err NoMemory) = ⊤
 
 -- the same of a step that reads no file
 abbrev pub GivesJudged : {X : Type 0} → Result X NoPlan → Judged X → Type 0
@@ -58,8 +71,8 @@ files_named words = files_of words.source words.lists
 abbrev pub AreFilesFor : Words → FilesSeen → StoredFiles → Type 0
 AreFilesFor words files stored = (files.stored ≡ Some stored) ⊎ (files_named words ≡ [])
 
--- with any such files the words have this plan, or this line that tells why there is none; or a read of a named file
--- failed; or memory ran out
+-- with any such files the words have this plan, or this line that tells why there is none; or a read failed, of a named
+-- file that reading gets to; or memory ran out
 abbrev pub GivesPlan : Words → FilesSeen → Result Plan NoPlan → Type 0
 GivesPlan words files (Ok plan) = (stored : StoredFiles) → AreFilesFor words files stored
     → plan_of stored words ≡ Ok plan
@@ -67,7 +80,7 @@ GivesPlan words files (Err Usage) = ⊥
 GivesPlan words files (Err (Line line)) = (stored : StoredFiles) → AreFilesFor words files stored
     → plan_of stored words ≡ Err line.items
 GivesPlan words files (Err (Unread line)) =
-    IsUnread (files_named words) files.failures_before files.failures_now line.items
+    IsUnread (ReachesFile files.stored words.source words.lists) files.failures_before files.failures_now line.items
 GivesPlan words files (Err NoMemory) = ⊤
 
 -- the list was read from some bytes

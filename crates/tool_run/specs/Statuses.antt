@@ -10,7 +10,7 @@ use Rattle.pod_workers.specs.Order.{IsDoneInFileOrder}
 use Rattle.pod_workers.specs.World.{World}
 use Rattle.tool_words.specs.Words.{words_given}
 use Rattle.tool_words.specs.declared.words.Words.{Words}
-use Rattle.tool_run.specs.Causes.{IsUnread, files_named}
+use Rattle.tool_run.specs.Causes.{IsUnread, ReachesFile, files_named}
 use Rattle.tool_run.specs.Lines.{usage_line}
 use Rattle.tool_run.specs.Seen.{FilesSeen, HasReadFailure, HasWriteFailure, SinkSeen}
 use Rattle.tool_run.specs.Verdict.{Verdict, usage, line, carry, asked_by, verdict_of}
@@ -55,11 +55,11 @@ pub record IsRefusal (words : List (List ℕ)) (files : FilesSeen) (bytes : List
   pub words_are : words_given words ≡ Some by
   pub comes : ComesTo words files (line bytes)
 
--- a read failed, and the line names a file that the words name
+-- a read failed, and the line names a file of the words, to which reading gets
 pub record IsUnreadOf (words : List (List ℕ)) (files : FilesSeen) (bytes : List ℕ) : Type 0 where
   pub by : Words
   pub words_are : words_given words ≡ Some by
-  pub unread : IsUnread (files_named by) files.failures_before files.failures_now bytes
+  pub unread : IsUnread (ReachesFile files.stored by.source by.lists) files.failures_before files.failures_now bytes
 
 -- a legal book of the plan that the words and the files come to, with every round over
 pub record IsCarriedOut (words : List (List ℕ)) (files : FilesSeen) (book : World) : Type 0 where

@@ -1,9 +1,10 @@
 //! The plan that the words and the files come to, or why there is none.
 
-ghost use Rattle.std.specs.Prelude.{◌≡◌, ◌≤◌, ◌<◌, ◌^◌, ◌∷◌, [], IfOk, All, length};
+ghost use Rattle.std.specs.Prelude.{◌≡◌, ◌≤◌, ◌<◌, ◌^◌, IfOk, All, length};
 ghost use Rattle.pod_workers.specs.Plans.{IsWellFormed};
 ghost use Rattle.tool_words.specs.Command.{most_lists};
-ghost use Rattle.tool_run.specs.Causes.{GivesJudged, GivesStored, IsReadList, IsReadPods};
+ghost use Rattle.tool_words.specs.declared.source.Source.TheVariants.{PodFile};
+ghost use Rattle.tool_run.specs.Causes.{GivesJudged, GivesStored, IsReadList, IsReadPods, ReachesFile, ReachesList};
 ghost use Rattle.tool_run.specs.Verdict.{stored_bytes, stored_list, stored_lists, plan_of_files, stored_pods, judged_list, judged_plan, judged_pods};
 
 use crate::laws::read_plans_are_well_formed;
@@ -55,7 +56,8 @@ pub(crate) fn read_plan<F: Files>(
     requires { length words.now.lists ≤ most_lists }
     ensures gives { GivesStored (λ plan. plan) (F.files files.old)
         (F.failure_count files.old) (F.failure_count files.new)
-        (file.now ∷ words.now.lists) (λ stored. plan_of_files stored words.now file.now) result }
+        (ReachesFile (F.files files.old) (PodFile file.now) words.now.lists)
+        (λ stored. plan_of_files stored words.now file.now) result }
     ensures well_formed { IfOk result IsWellFormed }
     ensures keeps { F.files files.new ≡ F.files files.old }
     ensures later { F.failure_count files.old ≤ F.failure_count files.new }
@@ -94,7 +96,7 @@ fn join(
 fn read_pods<F: Files>(alloc: Global, files: &mut F, file: &str) -> Result<Pods, NoPlan>
     ensures gives { GivesStored (λ pods. pods) (F.files files.old)
         (F.failure_count files.old) (F.failure_count files.new)
-        (file.now ∷ []) (λ stored. stored_pods stored file.now) result }
+        (λ name. name ≡ file.now) (λ stored. stored_pods stored file.now) result }
     ensures read { IfOk result IsReadPods }
     ensures keeps { F.files files.new ≡ F.files files.old }
     ensures later { F.failure_count files.old ≤ F.failure_count files.new }
@@ -123,7 +125,7 @@ fn read_lists<F: Files>(
 ) -> Result<Items<RefCounted<NetList>>, NoPlan>
     ensures gives { GivesStored (λ lists. lists) (F.files files.old)
         (F.failure_count files.old) (F.failure_count files.new)
-        names.now (λ stored. stored_lists stored names.now) result }
+        (ReachesList (F.files files.old) names.now) (λ stored. stored_lists stored names.now) result }
     ensures read { IfOk result (All IsReadList) }
     ensures count { IfOk result (λ lists. length lists ≡ length names.now) }
     ensures keeps { F.files files.new ≡ F.files files.old }
@@ -142,7 +144,7 @@ fn read_lists<F: Files>(
 fn read_list<F: Files>(alloc: Global, files: &mut F, file: &str) -> Result<NetList, NoPlan>
     ensures gives { GivesStored (λ list. list) (F.files files.old)
         (F.failure_count files.old) (F.failure_count files.new)
-        (file.now ∷ []) (λ stored. stored_list stored file.now) result }
+        (λ name. name ≡ file.now) (λ stored. stored_list stored file.now) result }
     ensures read { IfOk result IsReadList }
     ensures keeps { F.files files.new ≡ F.files files.old }
     ensures later { F.failure_count files.old ≤ F.failure_count files.new }
@@ -168,7 +170,7 @@ fn list_of_bytes(alloc: Global, bytes: &[u8], file: &str) -> Result<NetList, NoP
 fn read_bytes<F: Files>(alloc: Global, files: &mut F, file: &str) -> Result<Vec<u8>, NoPlan>
     ensures gives { GivesStored (λ bytes. bytes.items) (F.files files.old)
         (F.failure_count files.old) (F.failure_count files.new)
-        (file.now ∷ []) (λ stored. stored_bytes stored file.now) result }
+        (λ name. name ≡ file.now) (λ stored. stored_bytes stored file.now) result }
     ensures keeps { F.files files.new ≡ F.files files.old }
     ensures later { F.failure_count files.old ≤ F.failure_count files.new }
     ensures bounded { F.failure_count files.new < 2 ^ 64 }
