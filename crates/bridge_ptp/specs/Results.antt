@@ -14,7 +14,8 @@ use Rattle.cni_result.specs.declared.result.AddResult.{AddResult}
 use Rattle.net_conf.specs.BridgeModes.{is_default}
 use Rattle.net_conf.specs.declared.first.BridgeConf.{BridgeConf}
 use Rattle.net_conf.specs.declared.first.PtpConf.{PtpConf}
-use Rattle.kernel_types.specs.Names.{host_name_of, host_mac_of, link_mac_of}
+use Rattle.link_names.specs.Names.{link_mac_of}
+use Rattle.kernel_types.specs.Names.{host_name_of, host_mac_of}
 use Rattle.kernel_types.specs.declared.object.Att.{Att}
 use Rattle.plugin_base.specs.Families.{first_of_family}
 use Rattle.plugin_base.specs.Results.{inner_interface, completed}

@@ -5,7 +5,8 @@ ghost use Rattle.bridge_ptp.specs.Results as results;
 
 use cni_addr::{Duplicate, Items, NoMemory, Text};
 use cni_result::{Interface, Version, mtu_since_1_1};
-use kernel_types::{BridgeName, NamedAtt};
+use kernel_types::NamedAtt;
+use link_names::BridgeName;
 use plugin_base::inner_interface;
 
 /// A bridge of the host.

@@ -24,7 +24,7 @@ pub mod refusing;
 pub use kernel::Kernel;
 pub use kernel_types::{
     AddrObj, Att, CachedObj, Call, Chain, Change, Given, Host, Kind, Last, Lease, Link, LinkKey,
-    LinkKind, NsObj, Object, Probe, Reply, RouteObj, Rule, Setting, Table, Tag, Target, link_mac,
+    LinkKind, NsObj, Object, Probe, Reply, RouteObj, Rule, Setting, Table, Tag, Target,
 };
 pub use list_kernel::ListKernel;
 pub use refusing::RefusingKernel;

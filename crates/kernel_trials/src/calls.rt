@@ -6,7 +6,8 @@ use crate::objects::{
 };
 use crate::tokens::{RowError, cidr_of, cut, family_of, kind_of, link_tokens};
 use cni_addr::{RefCounted, Text};
-use kernel_types::{Call, Change, Object, Probe, link_mac, table_named};
+use kernel_types::{Call, Change, Object, Probe, table_named};
+use link_names::link_mac;
 use std::alloc::Global;
 
 /// `Begin CONTAINER NAMESPACE`; the host's own namespace is written `host`.

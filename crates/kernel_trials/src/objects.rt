@@ -9,8 +9,9 @@ use cni_addr::{Addr, Cidr, Family, Items, MacvlanMode, NoMemory, Range, RangeSet
 use cni_result::{AddResult, Cached, Version, no_dns};
 use kernel_types::{
     AddrObj, Att, Chain, Lease, Link, LinkKey, LinkKind, RouteObj, Rule, Setting, Table, Tag,
-    Target, link_mac,
+    Target,
 };
+use link_names::link_mac;
 use std::alloc::Global;
 
 /// The list of one item.

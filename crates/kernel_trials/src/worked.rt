@@ -1,7 +1,7 @@
 //! A derived hardware address, worked out.
 
 ghost use Rattle.std.specs.Prelude.{◌≡◌, [], ◌∷◌, codes};
-ghost use Rattle.kernel_types.specs.Names.{link_mac_of};
+ghost use Rattle.link_names.specs.Names.{link_mac_of};
 
 /// A bridge named `abc` has the address `0a:ba:78:16:bf:8f`: `0a` and the first five bytes of the digest of `abc`,
 /// which FIPS 180-4 gives as its first example.

@@ -40,7 +40,7 @@ pub mod texts;
 
 pub use call::{Call, Change, Given, Kind, Object, Probe, Reply};
 pub use link_values::{LinkValues, set_links};
-pub use names::{BridgeName, NamedAtt, host_name_bytes, link_mac};
+pub use names::{NamedAtt, host_name_bytes};
 pub use object::{
     AddrObj, Att, CachedObj, Host, Last, Lease, Link, LinkKey, LinkKind, NsObj, RouteObj, Setting,
     Tag,

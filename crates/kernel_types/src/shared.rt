@@ -3,9 +3,9 @@
 ghost use Rattle.std.specs.Prelude.{◌≡◌, IfOk};
 ghost use Rattle.kernel_types.specs.Apply.Calls.{forward_key, new_bridge, new_forward, new_gateway};
 
-use crate::names::link_mac;
 use crate::object::{AddrObj, Link, LinkKey, LinkKind, Setting, Tag};
 use cni_addr::{Cidr, Duplicate, Family, NoMemory, Text};
+use link_names::link_mac;
 use std::alloc::Global;
 
 impl Link {

@@ -17,7 +17,7 @@ use crate::members::{flag, mtu};
 use crate::names::is_interface_name;
 use cni_addr::Text;
 use cni_json::{Field, Value, field_str};
-use kernel_types::BridgeName;
+use link_names::BridgeName;
 use std::alloc::Global;
 
 /// The configuration of the `bridge` plugin, from its object in a list.

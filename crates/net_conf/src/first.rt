@@ -4,7 +4,7 @@ use crate::bridge_modes::{BridgeMode, GatewayRole};
 use crate::range_sets::RangeSets;
 use cni_addr::{Items, MacvlanMode, Text};
 use cni_result::{Dns, RouteEntry};
-use kernel_types::BridgeName;
+use link_names::BridgeName;
 
 /// The configuration of `host-local`: an attachment gets one address of each set.
 #[derive(PartialEq, Eq, Drop)]

@@ -7,7 +7,7 @@ use Rattle.cni_json.specs.Each.{each_after}
 use Rattle.cni_json.specs.Outcome.{◌>>=◌}
 use Rattle.cni_json.specs.Fields.{text_field, list_field, u64_field, member_or, object_or, needed, tested}
 use Rattle.cni_json.specs.declared.fields.Field.{Field}
-use Rattle.kernel_types.specs.Names.{link_mac_of}
+use Rattle.link_names.specs.Names.{link_mac_of}
 use Rattle.kernel_types.specs.Texts.{link_kind_text}
 use Rattle.kernel_types.specs.Terms.{is_host_ns, is_at, new_link}
 use Rattle.kernel_types.specs.declared.object.Link.{Link}

@@ -6,7 +6,7 @@ ghost use Rattle.pod_file.specs.Generator as defined;
 
 use cni_addr::{Addr, Cidr, Family, Items, NoMemory, Range, RangeSet, Text};
 use cni_result::{Version, no_dns};
-use kernel_types::BridgeName;
+use link_names::BridgeName;
 use net_conf::{
     BridgeConf, BridgeMode, Chained, ChainedPlugins, DEFAULT_MTU, FirewallConf, First, GatewayRole,
     HostLocalConf, NetList, PortmapConf, RangeSets,

@@ -13,7 +13,8 @@ use crate::indexed::{Names, PlacedLinks};
 use cni_addr::{Items, Text};
 use cni_json::{Field, Value, field_list, field_str, field_u64, need_object};
 use kernel_types::terms::is_host_ns;
-use kernel_types::{Link, LinkKey, LinkKind, Tag, link_kind_text, link_mac};
+use kernel_types::{Link, LinkKey, LinkKind, Tag, link_kind_text};
+use link_names::link_mac;
 use net_conf::{DEFAULT_MTU, is_interface_name, is_mtu};
 use std::alloc::Global;
 

@@ -13,8 +13,8 @@ use Rattle.cni_result.specs.declared.cached.Cached.{Cached}
 use Rattle.kernel_types.specs.Equal.{att_eq, link_eq, addr_obj_eq, route_eq, rule_eq, setting_eq, lease_eq, table_eq}
 use Rattle.cni_addr.specs.Lists.{each_key_once, without_first}
 use Rattle.ip_pool.specs.Pool.{pick_of, has_free_of}
+use Rattle.link_names.specs.Names.{link_mac_of}
 pub use Rattle.kernel_types.specs.Keys.{is_same_addr, is_same_route, is_same_rule, is_same_setting}
-use Rattle.kernel_types.specs.Names.{link_mac_of}
 pub use Rattle.kernel_types.specs.Terms.{has_link_in, addresses_in, is_of_pool, last_in, last_leased, leased_addresses, owner_in}
 use Rattle.kernel_types.specs.Terms.{is_host_or_ns, is_own, is_owned, is_bridge, is_at, is_peer_at, has_named_ns, link_at, is_host_link, is_bridge_with, has_host_bridge, has_objects, new_link, lease_of, cached_in, outside_namespace}
 use Rattle.kernel_types.specs.declared.object.Att.{Att}

@@ -7,7 +7,7 @@ use Rattle.std.specs.List.{list_all}
 use Rattle.std.specs.Str.{IsAscii}
 use Rattle.hex.proofs.HexLemmas.{IsAscii-encode_with}
 use Rattle.hex.specs.Hex.{lower_digits}
-use Rattle.kernel_types.proofs.names.host_name_text.Goals as goal
+use Rattle.link_names.proofs.host_name.host_name_text.Goals as goal
 
 IsAscii-from_test : (bs : List ℕ) → list_all (λ b. nat_lt b 128) bs ≡ true → IsAscii bs
 IsAscii-from_test bs test =
