@@ -8,7 +8,7 @@ use Rattle.cni_json.specs.Members.{text_data, number_data, addr_data, cidr_data,
 use Rattle.cni_result.specs.Results.{result_data}
 use Rattle.cni_addr.specs.Modes.{mode_text}
 use Rattle.kernel_types.specs.Texts.{link_kind_text, table_text}
-use Rattle.kernel_text.specs.Texts.{tag_text, link_mode, chain_text, target_text}
+use Rattle.kernel_text.specs.Texts.{tag_text, link_mode, vlan_id, chain_text, target_text}
 use Rattle.kernel_types.specs.declared.object.AddrObj.{AddrObj}
 use Rattle.kernel_types.specs.declared.object.CachedObj.{CachedObj}
 use Rattle.kernel_types.specs.declared.object.Host.{Host}
@@ -68,6 +68,7 @@ put_relations link ms = ms
     ▷ put_if text_data (codes "master") link.master
     ▷ put_if (λ mode. text_data (mode_text mode)) (codes "mode") (link_mode link.kind)
     ▷ put_if link_key_data (codes "peer") link.peer
+    ▷ put_if number_data (codes "vlan") (vlan_id link.kind)
 
 -- a link
 unfoldable pub link_data : Link → Data

@@ -1,4 +1,4 @@
--- Attachments, owners, chains and targets as texts, and the mode of a link.
+-- Attachments, owners, chains and targets as texts, and the mode and the VLAN of a link.
 use Rattle.std.specs.Prelude.{ℕ, List, [], ◌∷◌, ◌++◌, codes, Option, Some, None, decimal}
 use Rattle.std.specs.List.{join_with_byte}
 use Rattle.cni_addr.specs.AddrText.{addr_text}
@@ -33,6 +33,17 @@ link_mode kinds.Device = None
 link_mode kinds.Bridge = None
 link_mode kinds.Veth = None
 link_mode (kinds.Macvlan mode) = Some mode
+link_mode kinds.Dummy = None
+link_mode (kinds.Vlan id) = None
+
+-- the number of a VLAN link's VLAN; no other link has one
+abbrev pub vlan_id : LinkKind → Option ℕ
+vlan_id kinds.Device = None
+vlan_id kinds.Bridge = None
+vlan_id kinds.Veth = None
+vlan_id (kinds.Macvlan mode) = None
+vlan_id kinds.Dummy = None
+vlan_id (kinds.Vlan id) = Some id
 
 -- a chain, by the names of the reference plugins
 abbrev pub chain_text : Chain → List ℕ

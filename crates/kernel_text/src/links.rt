@@ -7,7 +7,7 @@ ghost use Rattle.kernel_text.specs.Dump.{namespace_data, link_key_data, link_dat
 
 use crate::dump::Dumped;
 use crate::tags::put_tag;
-use crate::texts::link_mode;
+use crate::texts::{link_mode, vlan_id};
 use cni_addr::{NoMemory, mode_text};
 use cni_json::JsonObject;
 use kernel_types::{Link, LinkKey, NsObj, link_kind_text};
@@ -73,7 +73,7 @@ fn put_relations(object: &mut JsonObject, alloc: Global, link: &Link) -> Result<
     if let Some(peer) = &link.peer {
         object.put_value("peer", key_value(alloc, peer)?)?;
     }
-    Ok(())
+    object.put_if("vlan", &vlan_id(link.kind))
 }
 
 impl Dumped for Link {

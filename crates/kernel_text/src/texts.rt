@@ -1,7 +1,7 @@
-//! The mode of a link, and chains and targets as texts.
+//! The mode and the VLAN of a link, and chains and targets as texts.
 
 ghost use Rattle.std.specs.Prelude.{◌≡◌, IfOk};
-ghost use Rattle.kernel_text.specs.Texts.{link_mode, chain_text, host_text, target_text};
+ghost use Rattle.kernel_text.specs.Texts.{link_mode, vlan_id, chain_text, host_text, target_text};
 
 use cni_addr::{Addr, Family, MacvlanMode, NoMemory, Text, write_addr};
 use kernel_types::{Chain, LinkKind, Target};
@@ -13,7 +13,25 @@ pub fn link_mode(kind: LinkKind) -> Option<MacvlanMode>
 {
     match kind {
         LinkKind::Macvlan(mode) => Some(mode),
-        LinkKind::Device | LinkKind::Bridge | LinkKind::Veth => None,
+        LinkKind::Device
+        | LinkKind::Bridge
+        | LinkKind::Veth
+        | LinkKind::Dummy
+        | LinkKind::Vlan { .. } => None,
+    }
+}
+
+/// The number of a VLAN link's VLAN; no other link has one.
+pub fn vlan_id(kind: LinkKind) -> Option<u16>
+    ensures { result ≡ vlan_id kind }
+{
+    match kind {
+        LinkKind::Vlan { id } => Some(id),
+        LinkKind::Device
+        | LinkKind::Bridge
+        | LinkKind::Veth
+        | LinkKind::Macvlan(_)
+        | LinkKind::Dummy => None,
     }
 }
 

@@ -3,8 +3,8 @@
 ghost use Rattle.std.specs.Prelude.{◌≡◌, true, false};
 ghost use Rattle.ip_pool.specs.NextAddress.{is_candidate_or_none};
 ghost use Rattle.kernel_types.specs.Apply.Calls.{last_leased};
-ghost use Rattle.kernel_types.specs.Allowed.{IsAllowed, IsAllowedChange, HasRangesApart, IsVethPair, IsMacvlanLink};
-ghost use Rattle.kernel_types.specs.Terms.{is_host_ns, is_macvlan, is_owned, is_peer_at, is_veth};
+ghost use Rattle.kernel_types.specs.Allowed.{IsAllowed, IsAllowedChange, HasRangesApart, IsVethPair, IsInnerLink};
+ghost use Rattle.kernel_types.specs.Terms.{fits_master, is_host_ns, is_owned, is_peer_at, is_veth};
 
 use cni_addr::{Addr, RangeSet, Text};
 use ip_pool::{are_apart, contains_candidate};
@@ -39,13 +39,13 @@ fn is_veth_pair(host_end: &Link, inner_end: &Link) -> bool
     kinds & tags & peers & places
 }
 
-fn is_macvlan_link(link: &Link) -> bool
-    ensures link { result ≡ true → IsMacvlanLink link.now }
-    ensures found { IsMacvlanLink link.now → result ≡ true }
+fn is_inner_link(link: &Link) -> bool
+    ensures link { result ≡ true → IsInnerLink link.now }
+    ensures found { IsInnerLink link.now → result ≡ true }
 {
-    let over = link.kind.is_macvlan() & link.master.is_some();
+    let fits = link.kind.fits_master(&link.master);
     let alone = link.tag.is_owned() & link.peer.is_none();
-    over & alone & !is_host_ns(link.ns.as_str())
+    fits & alone & !is_host_ns(link.ns.as_str())
 }
 
 fn is_attachments_setting(setting: &Setting) -> bool
@@ -106,7 +106,7 @@ pub fn is_allowed(host: &Host, call: &Call) -> bool
             host_end,
             inner_end,
         } => is_veth_pair(host_end.get(), inner_end.get()),
-        Call::MacvlanAdd { link } => is_macvlan_link(link.get()),
+        Call::MacvlanAdd { link } => is_inner_link(link.get()),
         Call::AddrAdd { obj } => obj.get().tag.is_owned(),
         Call::RouteAdd { obj } => obj.get().tag.is_owned(),
         Call::RuleAppend { rule } => rule.get().tag.is_owned(),

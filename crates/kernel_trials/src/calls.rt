@@ -1,12 +1,12 @@
 //! The calls that the tokens of a row stand for, a function each.
 
 use crate::objects::{
-    address, att, cached, host_end, inner_end, key, lease, macvlan, route, rule, set, set_number,
-    setting,
+    address, att, cached, dummy, host_end, inner_end, key, lease, macvlan, route, rule, set,
+    set_number, setting, vlan,
 };
 use crate::tokens::{RowError, cidr_of, cut, family_of, kind_of, link_tokens};
 use cni_addr::{RefCounted, Text};
-use kernel_types::{Call, Change, Object, Probe, table_named};
+use kernel_types::{Call, Change, Link, Object, Probe, table_named};
 use link_names::link_mac;
 use std::alloc::Global;
 
@@ -48,8 +48,8 @@ fn veth_add(alloc: Global, tokens: &str) -> Result<Call, RowError> {
     })
 }
 
-fn macvlan_add(alloc: Global, tokens: &str) -> Result<Call, RowError> {
-    let link = RefCounted::of(alloc, macvlan(alloc, tokens)?)?;
+fn inner_add(alloc: Global, link: Link) -> Result<Call, RowError> {
+    let link = RefCounted::of(alloc, link)?;
     Ok(Call::MacvlanAdd { link })
 }
 
@@ -181,6 +181,8 @@ fn outside(alloc: Global, verb: &str, tokens: &str) -> Result<Call, RowError> {
 fn object_question(alloc: Global, verb: &str, tokens: &str) -> Result<Call, RowError> {
     let object = match verb {
         "HasLink" => Object::Link(RefCounted::of(alloc, macvlan(alloc, tokens)?)?),
+        "HasVlan" => Object::Link(RefCounted::of(alloc, vlan(alloc, tokens)?)?),
+        "HasDummy" => Object::Link(RefCounted::of(alloc, dummy(alloc, tokens)?)?),
         "HasAddress" => Object::Address(RefCounted::of(alloc, address(alloc, tokens)?)?),
         "HasRoute" => Object::Route(RefCounted::of(alloc, route(alloc, tokens)?)?),
         "HasRule" => Object::Rule(RefCounted::of(alloc, rule(alloc, tokens)?)?),
@@ -225,7 +227,9 @@ pub(crate) fn call_of(alloc: Global, tokens: &str) -> Result<Call, RowError> {
         "GatewayEnsure" => gateway_ensure(alloc, tokens),
         "ForwardEnsure" => forward_ensure(tokens),
         "VethAdd" => veth_add(alloc, tokens),
-        "MacvlanAdd" => macvlan_add(alloc, tokens),
+        "MacvlanAdd" => inner_add(alloc, macvlan(alloc, tokens)?),
+        "VlanAdd" => inner_add(alloc, vlan(alloc, tokens)?),
+        "DummyAdd" => inner_add(alloc, dummy(alloc, tokens)?),
         _ => addition(alloc, verb, tokens),
     }
 }

@@ -4,7 +4,7 @@ ghost use Rattle.std.specs.Prelude.{◌≡◌, [], ◌∷◌, None, IfOk};
 ghost use Rattle.kernel_types.specs.declared.object.LinkKind.TheVariants as kinds;
 ghost use Rattle.kernel_types.specs.declared.object.Tag.TheVariants as tags;
 
-use crate::tokens::{RowError, addr_of, cidr_of, cut, link_tokens, port_of};
+use crate::tokens::{RowError, addr_of, cidr_of, cut, link_tokens, number_of};
 use cni_addr::{Addr, Cidr, Family, Items, MacvlanMode, NoMemory, Range, RangeSet, Text};
 use cni_result::{AddResult, Cached, Version, no_dns};
 use kernel_types::{
@@ -116,6 +116,25 @@ pub(crate) fn macvlan(alloc: Global, tokens: &str) -> Result<Link, RowError> {
     Ok(link(place, kind, Some(master), None, tag))
 }
 
+/// A VLAN link: container, place, master and the number of the VLAN.
+pub(crate) fn vlan(alloc: Global, tokens: &str) -> Result<Link, RowError> {
+    let at = link_tokens(tokens);
+    let (master, id) = cut(at.rest);
+    let id = number_of(id)?;
+    let place = key(alloc, at.ns, at.link)?;
+    let master = Text::of(alloc, master)?;
+    let tag = own(alloc, at.container)?;
+    Ok(link(place, LinkKind::Vlan { id }, Some(master), None, tag))
+}
+
+/// A dummy link: container and place.
+pub(crate) fn dummy(alloc: Global, tokens: &str) -> Result<Link, RowError> {
+    let at = link_tokens(tokens);
+    let place = key(alloc, at.ns, at.link)?;
+    let tag = own(alloc, at.container)?;
+    Ok(link(place, LinkKind::Dummy, None, None, tag))
+}
+
 /// Container, place and address.
 pub(crate) fn address(alloc: Global, tokens: &str) -> Result<AddrObj, RowError> {
     let at = link_tokens(tokens);
@@ -154,7 +173,7 @@ pub(crate) fn route(alloc: Global, tokens: &str) -> Result<RouteObj, RowError> {
 /// A rule that accepts what comes to a port: container and port.
 pub(crate) fn rule(alloc: Global, tokens: &str) -> Result<Rule, RowError> {
     let (container, port) = cut(tokens);
-    let port = port_of(port)?;
+    let port = number_of(port)?;
     let tag = own(alloc, container)?;
     Ok(Rule {
         table: Table::Nat,

@@ -36,6 +36,26 @@ MacvlanAdd c2 /ns/a eth1 veth1 => NoLink
 MacvlanAdd c2 /ns/a eth0 ens1 => Taken pods/c1/eth0
 MacvlanAdd c2 /ns/a eth1 ens1 => Done
 HasLink c2 /ns/a eth1 ens1 => Has true
+# A VLAN link, added by MacvlanAdd too: container, place, master, number. One master carries a number twice.
+VlanAdd c3 /ns/x eth2 ens1 100 => NoNs
+VlanAdd c3 /ns/a eth2 ens9 100 => NoLink
+VlanAdd c3 /ns/a eth2 veth1 100 => NoLink
+VlanAdd c3 /ns/a eth0 ens1 100 => Taken pods/c1/eth0
+VlanAdd c3 /ns/a eth2 ens1 100 => Done
+VlanAdd c3 /ns/a eth3 ens1 100 => Done
+HasVlan c3 /ns/a eth2 ens1 100 => Has true
+HasVlan c3 /ns/a eth2 ens1 101 => Has false
+# A dummy link, added so too, has no master: container, place.
+DummyAdd c3 /ns/x eth4 => NoNs
+DummyAdd c3 /ns/a eth2 => Taken pods/c3/eth0
+DummyAdd c3 /ns/a eth4 => Done
+HasDummy c3 /ns/a eth4 => Has true
+HasDummy c3 /ns/a eth2 => Has false
+LinkDel c3 => Gone true
+LinkDel c3 => Gone true
+LinkDel c3 => Gone true
+LinkDel c3 => Gone false
+# Values of a link that is there.
 LinkSet c2 /ns/a eth9 => NoLink
 LinkSet c1 /ns/a eth1 => NoLink
 LinkSet c2 /ns/a eth1 => Done

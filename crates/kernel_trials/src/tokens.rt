@@ -56,7 +56,7 @@ pub(crate) fn cidr_of(token: &str) -> Result<Cidr, RowError> {
     read_cidr(token.as_bytes()).ok_or(RowError::NoCall)
 }
 
-pub(crate) fn port_of(token: &str) -> Result<u16, RowError> {
+pub(crate) fn number_of(token: &str) -> Result<u16, RowError> {
     token.parse().or(Err(RowError::NoCall))
 }
 

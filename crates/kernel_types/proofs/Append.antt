@@ -7,10 +7,10 @@ use Rattle.std.specs.Str.{bytes_eq}
 use Rattle.std.proofs.lemmas.Slice.Eq.{bytes_eq-Decides}
 use Rattle.cni_addr.specs.Lists.{distinct}
 use Rattle.kernel_types.specs.Equal.{tag_eq}
-use Rattle.kernel_types.specs.Terms.{is_host_ns, is_host_or_ns, is_host_link, is_own, is_at, is_peer_at, is_owned, is_link_of, is_veth, has_named_ns, link_at, is_host_bridge, is_macvlan}
+use Rattle.kernel_types.specs.Terms.{is_host_ns, is_host_or_ns, is_host_link, is_own, is_at, is_peer_at, is_owned, is_link_of, is_veth, has_named_ns, link_at, is_host_bridge, fits_master}
 use Rattle.kernel_types.specs.Apply.Calls.{bridge_ensure_of, bridge_or_new, new_bridge, veth_add_of, macvlan_add_of, master_is_bridge_or_none, has_master}
 use Rattle.kernel_types.specs.Sound.{IsSound, peer_fits, peers_back, address_fits_tag, link_fits_tag, is_owned_kind}
-use Rattle.kernel_types.specs.Allowed.{IsVethPair, IsMacvlanLink}
+use Rattle.kernel_types.specs.Allowed.{IsVethPair, IsInnerLink}
 use Rattle.kernel_types.specs.Touch.{AddsBridge, TouchesOwnAlone, TouchesTag}
 use Rattle.cni_addr.proofs.Cases.{by_test}
 use Rattle.kernel_types.proofs.Cases.{by_addition, none-option_map, none-option_or, tag_eq-refl, own-own, TouchesTag-owned, is_at-itself, host_ns-eq, other_host}
@@ -19,7 +19,7 @@ use Rattle.kernel_types.proofs.ListLemmas.{list_all-weaker, list_any-none, list_
 use Rattle.kernel_types.proofs.OneList.{TouchesOwnAlone-nothing, TouchesOwnAlone-with_links}
 use Rattle.kernel_types.specs.declared.object.LinkKey.{LinkKey}
 use Rattle.kernel_types.specs.declared.object.LinkKind.{LinkKind}
-use Rattle.kernel_types.specs.declared.object.LinkKind.TheVariants.{Device, Bridge, Veth, Macvlan}
+use Rattle.kernel_types.specs.declared.object.LinkKind.TheVariants.{Device, Bridge, Veth, Macvlan, Dummy, Vlan}
 use Rattle.kernel_types.specs.declared.object.Att.{Att}
 use Rattle.kernel_types.specs.declared.object.Tag.{Tag}
 use Rattle.kernel_types.specs.declared.object.Tag.TheVariants.{Outside, Base, Own}
@@ -107,6 +107,8 @@ owned_veth ns Device h = cc
 owned_veth ns Bridge h = cc
 owned_veth ns Veth h = refl
 owned_veth ns (Macvlan mode) h = cc
+owned_veth ns Dummy h = cc
+owned_veth ns (Vlan id) h = cc
 
 tagged_owned : (l : Link) (t : Tag) → is_owned t ≡ true → is_owned_kind l.ns l.kind ≡ true → link_fits_tag l t ≡ true
 tagged_owned l Outside h k = cc
@@ -171,24 +173,26 @@ pub TouchesTag-veth_add : (host : Host) (h i : Link) → IsVethPair h i → Touc
 TouchesTag-veth_add host h i pair =
     TouchesTag-owned h.tag host (veth_add_of host h i).0 pair.owned (λ att own. touches-veth host h i att own (pair.same_tag ∙ own))
 
--- ---- a macvlan link
+-- ---- a link that is no end of a pair
 
-macvlan_fits : (ns : List ℕ) (k : LinkKind) → is_macvlan k ≡ true → is_host_ns ns ≡ false → (is_owned_kind ns k ≡ true) × (is_veth k ≡ false)
-macvlan_fits ns Device h inner = cc
-macvlan_fits ns Bridge h inner = cc
-macvlan_fits ns Veth h inner = cc
-macvlan_fits ns (Macvlan mode) h inner = (grind (arith, inner), refl)
+inner_kind : (ns : List ℕ) (k : LinkKind) (master : Option (List ℕ)) → fits_master k master ≡ true → is_host_ns ns ≡ false → (is_owned_kind ns k ≡ true) × (is_veth k ≡ false)
+inner_kind ns Device master h inner = cc
+inner_kind ns Bridge master h inner = cc
+inner_kind ns Veth master h inner = cc
+inner_kind ns (Macvlan mode) master h inner = (grind (arith, inner), refl)
+inner_kind ns Dummy master h inner = (grind (arith, inner), refl)
+inner_kind ns (Vlan id) master h inner = (grind (arith, inner), refl)
 
 no_peer-fits : (links : List Link) (l : Link) (o : Option LinkKey) → o ≡ None → is_veth l.kind ≡ false → peer_fits links l o ≡ true
 no_peer-fits links l None e v = grind (arith, v)
 no_peer-fits links l (Some key) e v = cc
 
-AreNewLinks-macvlan : (host : Host) (l : Link) → IsMacvlanLink l → has_named_ns host l.ns ≡ true → link_at host l.ns l.name ≡ None → AreNewLinks host.namespaces host.links (l ∷ [])
-AreNewLinks-macvlan host l macvlan there free =
+AreNewLinks-inner : (host : Host) (l : Link) → IsInnerLink l → has_named_ns host l.ns ≡ true → link_at host l.ns l.name ≡ None → AreNewLinks host.namespaces host.links (l ∷ [])
+AreNewLinks-inner host l link there free =
     let new : list_any (is_at l.ns l.name) host.links ≡ false = list_any-find_none (is_at l.ns l.name) host.links free in
-    let fits = macvlan_fits l.ns l.kind macvlan.kind macvlan.inner in
-    let tagged : link_fits_tag l l.tag ≡ true = tagged_owned l l.tag macvlan.owned fits.0 in
-    let alone : peer_fits (host.links ++ l ∷ []) l l.peer ≡ true = no_peer-fits (host.links ++ l ∷ []) l l.peer macvlan.alone fits.1 in
+    let kind = inner_kind l.ns l.kind l.master link.fits link.inner in
+    let tagged : link_fits_tag l l.tag ≡ true = tagged_owned l l.tag link.owned kind.0 in
+    let alone : peer_fits (host.links ++ l ∷ []) l l.peer ≡ true = no_peer-fits (host.links ++ l ∷ []) l l.peer link.alone kind.1 in
     record {
       distinct = refl;
       new = grind (arith, new);
@@ -197,11 +201,11 @@ AreNewLinks-macvlan host l macvlan there free =
       peers = grind (arith, alone);
     }
 
-pub IsSound-macvlan_add : (host : Host) (l : Link) → IsMacvlanLink l → IsSound host → IsSound (macvlan_add_of host l).0
-IsSound-macvlan_add host l macvlan sound =
+pub IsSound-macvlan_add : (host : Host) (l : Link) → IsInnerLink l → IsSound host → IsSound (macvlan_add_of host l).0
+IsSound-macvlan_add host l link sound =
     by_test (λ (step : Host × Reply). IsSound step.0) (has_named_ns host l.ns) _ _
     (λ there. by_addition IsSound (has_master host l.master) (option_map (λ m. m.tag) (link_at host l.ns l.name)) host _ _ sound
-    (λ master free. IsSound-more_links host (l ∷ []) sound (AreNewLinks-macvlan host l macvlan there (none-option_map (λ m. m.tag) _ free))))
+    (λ master free. IsSound-more_links host (l ∷ []) sound (AreNewLinks-inner host l link there (none-option_map (λ m. m.tag) _ free))))
     (λ _. sound)
 
 touches-macvlan : (host : Host) (l : Link) (att : Att) → l.tag ≡ Own att → TouchesOwnAlone att host (macvlan_add_of host l).0
@@ -213,5 +217,5 @@ touches-macvlan host l att own =
     (λ _ _. TouchesOwnAlone-with_links att host _ (ChangesOnly-append (λ m. is_own att m.tag) host.links (l ∷ []) (grind (arith, at)))))
     (λ _. nothing)
 
-pub TouchesTag-macvlan_add : (host : Host) (l : Link) → IsMacvlanLink l → TouchesTag l.tag host (macvlan_add_of host l).0
-TouchesTag-macvlan_add host l macvlan = TouchesTag-owned l.tag host (macvlan_add_of host l).0 macvlan.owned (touches-macvlan host l)
+pub TouchesTag-macvlan_add : (host : Host) (l : Link) → IsInnerLink l → TouchesTag l.tag host (macvlan_add_of host l).0
+TouchesTag-macvlan_add host l link = TouchesTag-owned l.tag host (macvlan_add_of host l).0 link.owned (touches-macvlan host l)

@@ -14,7 +14,7 @@ use Rattle.kernel_types.specs.Touch.{TouchesOwnAlone, TouchesTag}
 use Rattle.kernel_types.specs.declared.object.Att.{Att}
 use Rattle.kernel_types.specs.declared.object.Link.{Link}
 use Rattle.kernel_types.specs.declared.object.LinkKind.{LinkKind}
-use Rattle.kernel_types.specs.declared.object.LinkKind.TheVariants.{Device, Bridge, Veth, Macvlan}
+use Rattle.kernel_types.specs.declared.object.LinkKind.TheVariants.{Device, Bridge, Veth, Macvlan, Dummy, Vlan}
 use Rattle.kernel_types.specs.declared.object.Tag.{Tag}
 use Rattle.kernel_types.specs.declared.object.Tag.TheVariants.{Outside, Base, Own}
 use Rattle.kernel_types.specs.declared.object.Host.{Host}
@@ -88,6 +88,8 @@ shared-no_veth Device h = refl
 shared-no_veth Bridge h = refl
 shared-no_veth Veth h = cc
 shared-no_veth (Macvlan mode) h = cc
+shared-no_veth Dummy h = cc
+shared-no_veth (Vlan id) h = cc
 
 pub other_host : (a b : List ℕ) → is_host_ns a ≡ true → is_host_ns b ≡ false → bytes_eq a b ≡ false
 other_host [] [] h g = cc

@@ -17,7 +17,7 @@ use Rattle.kernel_types.proofs.Removal.{IsSound-without_link}
 use Rattle.kernel_types.proofs.TouchRemoval.{addresses_gone, routes_gone, may_go, keeps_or_owns, list_all-both}
 use Rattle.kernel_types.specs.declared.object.LinkKey.{LinkKey}
 use Rattle.kernel_types.specs.declared.object.LinkKind.{LinkKind}
-use Rattle.kernel_types.specs.declared.object.LinkKind.TheVariants.{Device, Bridge, Veth, Macvlan}
+use Rattle.kernel_types.specs.declared.object.LinkKind.TheVariants.{Device, Bridge, Veth, Macvlan, Dummy, Vlan}
 use Rattle.kernel_types.specs.declared.object.Tag.{Tag}
 use Rattle.kernel_types.specs.declared.object.Tag.TheVariants.{Outside, Base, Own}
 use Rattle.kernel_types.specs.declared.object.Link.{Link}
@@ -71,6 +71,8 @@ veth_no_bridge Device h = refl
 veth_no_bridge Bridge h = cc
 veth_no_bridge Veth h = refl
 veth_no_bridge (Macvlan mode) h = refl
+veth_no_bridge Dummy h = refl
+veth_no_bridge (Vlan id) h = refl
 
 peer-veth : (links : List Link) (l : Link) (o : Option LinkKey) → peer_fits links l o ≡ true → is_some o ≡ true → is_veth l.kind ≡ true
 peer-veth links l None h s = cc

@@ -16,7 +16,7 @@ use Rattle.kernel_types.proofs.Removal.{same_place}
 use Rattle.kernel_types.specs.declared.object.Att.{Att}
 use Rattle.kernel_types.specs.declared.object.LinkKey.{LinkKey}
 use Rattle.kernel_types.specs.declared.object.LinkKind.{LinkKind}
-use Rattle.kernel_types.specs.declared.object.LinkKind.TheVariants.{Device, Bridge, Veth, Macvlan}
+use Rattle.kernel_types.specs.declared.object.LinkKind.TheVariants.{Device, Bridge, Veth, Macvlan, Dummy, Vlan}
 use Rattle.kernel_types.specs.declared.object.Tag.{Tag}
 use Rattle.kernel_types.specs.declared.object.Tag.TheVariants.{Outside, Base, Own}
 use Rattle.kernel_types.specs.declared.object.Link.{Link}
@@ -143,6 +143,8 @@ owned_no_bridge ns Device h = cc
 owned_no_bridge ns Bridge h = cc
 owned_no_bridge ns Veth h = refl
 owned_no_bridge ns (Macvlan mode) h = refl
+owned_no_bridge ns Dummy h = refl
+owned_no_bridge ns (Vlan id) h = refl
 
 own_no_bridge : (att : Att) (l : Link) (t : Tag) → is_own att t ≡ true → link_fits_tag l t ≡ true → is_bridge l.kind ≡ false
 own_no_bridge att l Outside h g = cc

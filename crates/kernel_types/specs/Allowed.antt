@@ -1,9 +1,9 @@
 -- When a call may be made: the shape of its fields, and what it asks of the host.
-use Rattle.std.specs.Prelude.{◌≡◌, true, false, None, is_some}
+use Rattle.std.specs.Prelude.{◌≡◌, true, false, None}
 use Rattle.cni_addr.specs.declared.range.RangeSet.{RangeSet}
 use Rattle.ip_pool.specs.Pool.{are_apart}
 use Rattle.ip_pool.specs.NextAddress.{is_candidate_or_none}
-use Rattle.kernel_types.specs.Terms.{last_leased, is_host_ns, is_macvlan, is_owned, is_peer_at, is_veth}
+use Rattle.kernel_types.specs.Terms.{last_leased, fits_master, is_host_ns, is_owned, is_peer_at, is_veth}
 use Rattle.kernel_types.specs.declared.object.Link.{Link}
 use Rattle.kernel_types.specs.declared.object.Host.{Host}
 use Rattle.kernel_types.specs.declared.call.Call.{Call}
@@ -22,11 +22,10 @@ pub record IsVethPair (host_end inner_end : Link) : Type 0 where
   pub outer : is_host_ns host_end.ns ≡ true
   pub inner : is_host_ns inner_end.ns ≡ false
 
--- an attachment's link over a master, in another namespace than the host's own
-pub record IsMacvlanLink (link : Link) : Type 0 where
-  pub kind : is_macvlan link.kind ≡ true
+-- an attachment's link that is no end of a pair, in another namespace than the host's own
+pub record IsInnerLink (link : Link) : Type 0 where
+  pub fits : fits_master link.kind link.master ≡ true
   pub owned : is_owned link.tag ≡ true
-  pub over : is_some link.master ≡ true
   pub alone : link.peer ≡ None
   pub inner : is_host_ns link.ns ≡ false
 
@@ -44,7 +43,7 @@ IsAllowed host (BridgeEnsure name mtu promisc) = Unit {0}
 IsAllowed host (GatewayEnsure bridge cidr) = Unit {0}
 IsAllowed host (ForwardEnsure family) = Unit {0}
 IsAllowed host (VethAdd host_end inner_end) = IsVethPair host_end inner_end
-IsAllowed host (MacvlanAdd link) = IsMacvlanLink link
+IsAllowed host (MacvlanAdd link) = IsInnerLink link
 IsAllowed host (LinkSet att key mac mtu tx_qlen promisc allmulti) = Unit {0}
 IsAllowed host (AddrAdd obj) = is_owned obj.tag ≡ true
 IsAllowed host (RouteAdd obj) = is_owned obj.tag ≡ true

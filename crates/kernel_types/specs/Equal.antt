@@ -5,7 +5,7 @@ pub use Rattle.cni_addr.specs.Equal.{addr_eq, cidr_eq, mac_eq}
 use Rattle.std.specs.Option.{option_eq}
 use Rattle.std.proofs.Math.Bool.{beq}
 use Rattle.kernel_types.specs.declared.object.LinkKind.{LinkKind}
-use Rattle.kernel_types.specs.declared.object.LinkKind.TheVariants.{Device, Bridge, Veth, Macvlan}
+use Rattle.kernel_types.specs.declared.object.LinkKind.TheVariants.{Device, Bridge, Veth, Macvlan, Dummy, Vlan}
 pub use Rattle.cni_addr.specs.Codes.{family_eq, mode_eq}
 pub use Rattle.kernel_types.specs.Codes.{table_eq, chain_eq, kind_eq}
 pub use Rattle.cni_result.specs.Codes.{proto_eq}
@@ -39,6 +39,8 @@ link_kind_eq Device Device = true
 link_kind_eq Bridge Bridge = true
 link_kind_eq Veth Veth = true
 link_kind_eq (Macvlan a) (Macvlan b) = mode_eq a b
+link_kind_eq Dummy Dummy = true
+link_kind_eq (Vlan a) (Vlan b) = a == b
 link_kind_eq _ _ = false
 
 abbrev pub target_eq : Target → Target → Bool

@@ -10,7 +10,7 @@ use Rattle.kernel_types.specs.declared.object.LinkKey.{LinkKey}
 use Rattle.kernel_types.specs.declared.object.Tag.{Tag}
 use Rattle.kernel_types.specs.declared.object.Tag.TheVariants.{Outside, Base, Own}
 use Rattle.kernel_types.specs.declared.object.LinkKind.{LinkKind}
-use Rattle.kernel_types.specs.declared.object.LinkKind.TheVariants.{Device, Bridge, Veth, Macvlan}
+use Rattle.kernel_types.specs.declared.object.LinkKind.TheVariants.{Device, Bridge, Veth, Macvlan, Dummy, Vlan}
 use Rattle.kernel_types.specs.declared.object.NsObj.{NsObj}
 use Rattle.kernel_types.specs.declared.object.Link.{Link}
 use Rattle.kernel_types.specs.declared.object.AddrObj.{AddrObj}
@@ -49,12 +49,16 @@ is_owned_kind ns Device = false
 is_owned_kind ns Bridge = false
 is_owned_kind ns Veth = true
 is_owned_kind ns (Macvlan mode) = not (is_host_ns ns)
+is_owned_kind ns Dummy = not (is_host_ns ns)
+is_owned_kind ns (Vlan id) = not (is_host_ns ns)
 
 abbrev pub is_unowned_kind : LinkKind → Bool
 is_unowned_kind Device = true
 is_unowned_kind Bridge = true
 is_unowned_kind Veth = false
 is_unowned_kind (Macvlan mode) = false
+is_unowned_kind Dummy = false
+is_unowned_kind (Vlan id) = false
 
 abbrev pub link_fits_tag : Link → Tag → Bool
 link_fits_tag link Outside = is_unowned_kind link.kind

@@ -1,5 +1,5 @@
 -- What is asked of a host.
-use Rattle.std.specs.Prelude.{ℕ, Bool, true, false, ◌&&◌, ◌||◌, ◌==◌, List, length, map, filter, Option, Some, None, find, option_map, if◌then◌else◌}
+use Rattle.std.specs.Prelude.{ℕ, Bool, true, false, ◌&&◌, ◌||◌, ◌==◌, List, length, map, filter, Option, Some, None, is_none, is_some, find, option_map, if◌then◌else◌}
 use Rattle.std.specs.List.{list_any}
 use Rattle.std.specs.Str.{bytes_eq}
 use Rattle.cni_addr.specs.declared.address.Addr.{Addr}
@@ -11,7 +11,7 @@ use Rattle.kernel_types.specs.declared.object.LinkKey.{LinkKey}
 use Rattle.kernel_types.specs.declared.object.Tag.{Tag}
 use Rattle.kernel_types.specs.declared.object.Tag.TheVariants.{Outside, Base, Own}
 use Rattle.kernel_types.specs.declared.object.LinkKind.{LinkKind}
-use Rattle.kernel_types.specs.declared.object.LinkKind.TheVariants.{Bridge, Veth, Macvlan}
+use Rattle.kernel_types.specs.declared.object.LinkKind.TheVariants.{Bridge, Veth, Macvlan, Dummy, Vlan}
 use Rattle.kernel_types.specs.declared.object.Link.{Link}
 use Rattle.kernel_types.specs.declared.object.Lease.{Lease}
 use Rattle.kernel_types.specs.declared.object.Last.{Last}
@@ -37,6 +37,13 @@ is_veth kind = false
 abbrev pub is_macvlan : LinkKind → Bool
 is_macvlan (Macvlan mode) = true
 is_macvlan kind = false
+
+-- a macvlan or a VLAN link with a master, or a dummy link without one
+abbrev pub fits_master : LinkKind → Option (List ℕ) → Bool
+fits_master (Macvlan mode) master = is_some master
+fits_master (Vlan id) master = is_some master
+fits_master Dummy master = is_none master
+fits_master kind master = false
 
 -- a link as Linux makes a new one: under no master, without a peer, in no mode, with a queue of 1000 packets
 abbrev pub new_link : LinkKey → LinkKind → Mac → ℕ → Tag → Link

@@ -13,6 +13,8 @@ link_kind_text kinds.Device = codes "device"
 link_kind_text kinds.Bridge = codes "bridge"
 link_kind_text kinds.Veth = codes "veth"
 link_kind_text (kinds.Macvlan mode) = codes "macvlan"
+link_kind_text kinds.Dummy = codes "dummy"
+link_kind_text (kinds.Vlan id) = codes "vlan"
 
 -- a table as iptables names it
 abbrev pub table_text : Table → List ℕ

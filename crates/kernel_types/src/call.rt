@@ -59,7 +59,7 @@ pub enum Probe {
     Whole(Object),
     /// A bridge of the host of this name and hardware address.
     BridgeAt { name: Text, mac: Mac },
-    /// A link of the host of this name that no attachment owns, which a macvlan link may stand on.
+    /// A link of the host of this name that no attachment owns, which a macvlan or a VLAN link may stand on.
     Master { name: Text },
 }
 
@@ -102,7 +102,8 @@ pub enum Call {
         host_end: RefCounted<Link>,
         inner_end: RefCounted<Link>,
     },
-    /// A macvlan link on its master.
+    /// A link in another namespace than the host's own that is no end of a pair: a macvlan or a VLAN link on its
+    /// master, or a dummy link.
     MacvlanAdd {
         link: RefCounted<Link>,
     },

@@ -51,6 +51,13 @@ pub enum LinkKind {
     Veth,
     /// A macvlan link on its master.
     Macvlan(MacvlanMode),
+    /// A dummy link, which has no master.
+    Dummy,
+    /// A VLAN link on its master.
+    Vlan {
+        /// The number of the VLAN (IEEE 802.1Q). One master may carry it twice.
+        id: u16,
+    },
 }
 
 /// An attachment of a container to a network (CNI specification, section 2: what the runtime names by `CNI_CONTAINERID`
@@ -123,7 +130,7 @@ pub struct Link {
     pub ns: Text,
     pub name: Text,
     pub kind: LinkKind,
-    /// The host's bridge that it is a port of, or the host's link that a macvlan link is on.
+    /// The host's bridge that it is a port of, or the host's link that a macvlan or a VLAN link is on.
     pub master: Option<Text>,
     /// The other end of a veth pair.
     pub peer: Option<LinkKey>,

@@ -6,7 +6,7 @@ ghost use Rattle.std.specs.Option.{option_copied};
 ghost use Rattle.kernel_types.specs.Apply.Calls.{goes_with, goes_with_ns, has_peer_in};
 ghost use Rattle.kernel_types.specs.Keys.{is_same_addr, is_same_route, is_same_setting};
 ghost use Rattle.kernel_types.specs.Replies.{needs_no_memory};
-ghost use Rattle.kernel_types.specs.Terms.{is_at, is_bridge, is_host_ns, is_macvlan, is_owned, is_peer_at, is_veth, is_of_pool, last_in};
+ghost use Rattle.kernel_types.specs.Terms.{fits_master, is_at, is_bridge, is_host_ns, is_owned, is_peer_at, is_veth, is_of_pool, last_in};
 
 use crate::call::Call;
 use crate::object::{AddrObj, Last, Link, LinkKey, LinkKind, RouteObj, Setting, Tag};
@@ -76,11 +76,15 @@ impl LinkKind {
         matches!(self, LinkKind::Veth)
     }
 
-    /// Whether it is a macvlan link, in any mode.
-    pub fn is_macvlan(self) -> bool
-        ensures { result ≡ is_macvlan self }
+    /// Whether it is a macvlan or a VLAN link and there is a master, or a dummy link and there is none.
+    pub fn fits_master(self, master: &Option<Text>) -> bool
+        ensures { result ≡ fits_master self master.now }
     {
-        matches!(self, LinkKind::Macvlan(_))
+        match self {
+            LinkKind::Macvlan(_) | LinkKind::Vlan { .. } => master.is_some(),
+            LinkKind::Dummy => master.is_none(),
+            LinkKind::Device | LinkKind::Bridge | LinkKind::Veth => false,
+        }
     }
 }
 

@@ -20,6 +20,8 @@ pub fn link_kind_text(kind: LinkKind) -> &'static str
         LinkKind::Bridge => "bridge",
         LinkKind::Veth => "veth",
         LinkKind::Macvlan(_) => "macvlan",
+        LinkKind::Dummy => "dummy",
+        LinkKind::Vlan { .. } => "vlan",
     }
 }
 

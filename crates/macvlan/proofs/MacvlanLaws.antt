@@ -28,7 +28,7 @@ macvlan-before : (conf : MacvlanConf) (att : Att) (netns : List ℕ) → AreCall
 macvlan-before conf att netns = record {
   own = grind (arith, att_eq-refl att);
   make_interface = refl;
-  well_formed = λ place. (record { kind = refl; owned = refl; over = refl; alone = refl; inner = place }, tt);
+  well_formed = λ place. (record { fits = refl; owned = refl; alone = refl; inner = place }, tt);
   ensured = refl;
   in_order = refl;
 }

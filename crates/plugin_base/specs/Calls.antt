@@ -1,7 +1,7 @@
 -- Whose a plugin's call is, whether it is well formed, and what calls append.
 use Rattle.std.specs.Prelude.{◌≡◌, Bool, true, false, not, ◌&&◌, ◌||◌, List, [], ◌∷◌, fold, is_some}
 use Rattle.std.specs.List.{list_any}
-use Rattle.kernel_types.specs.Allowed.{IsVethPair, IsMacvlanLink, HasRangesApart, IsAllowedChange}
+use Rattle.kernel_types.specs.Allowed.{IsVethPair, IsInnerLink, HasRangesApart, IsAllowedChange}
 use Rattle.kernel_types.specs.Apply.{apply}
 use Rattle.kernel_types.specs.Codes.{kind_eq}
 use Rattle.kernel_types.specs.Isolation.{names_att, ensures_shared, deletes_for}
@@ -36,7 +36,7 @@ is_plugin_call_of att call = not (is_beside_plugins call) && is_call_of att call
 -- address of the pool is one of its candidates.)
 abbrev pub IsWellFormedCall : Call → Type 0
 IsWellFormedCall (VethAdd host_end inner_end) = IsVethPair host_end inner_end
-IsWellFormedCall (MacvlanAdd link) = IsMacvlanLink link
+IsWellFormedCall (MacvlanAdd link) = IsInnerLink link
 IsWellFormedCall (AddrAdd obj) = is_owned obj.tag ≡ true
 IsWellFormedCall (RouteAdd obj) = is_owned obj.tag ≡ true
 IsWellFormedCall (RuleAppend rule) = is_owned rule.tag ≡ true

@@ -14,7 +14,7 @@ use Rattle.pod_file.specs.declared.command.Verb.{Verb}
 use Rattle.pod_file.specs.declared.command.Verb.TheVariants as verbs
 use Rattle.ip_pool.specs.Pool.{has_free_of}
 use Rattle.kernel_types.specs.Apply.{apply}
-use Rattle.kernel_types.specs.Apply.Calls.{leased_addresses}
+use Rattle.kernel_types.specs.Apply.Calls.{has_master, leased_addresses}
 use Rattle.kernel_types.specs.Replies.{is_fault}
 use Rattle.kernel_types.proofs.Replies.{IsReplyOf-apply}
 use Rattle.kernel_types.specs.declared.object.Host.{Host}
@@ -28,7 +28,7 @@ use Rattle.cni_verbs.specs.declared.answer.Question.{Question}
 use Rattle.cni_verbs.proofs.EarlyEndings.{old_ending-cases, too_old}
 use Rattle.pod_workers.specs.World.{entry_of, host_of, reply_to}
 use Rattle.pod_workers.specs.declared.plan.Entry.{Entry}
-use Rattle.pod_laws.specs.Available.{EndsStatus, IsUnavailable, LacksService, WasAvailable, has_master, is_available}
+use Rattle.pod_laws.specs.Available.{EndsStatus, IsUnavailable, LacksService, WasAvailable, is_available}
 use Rattle.pod_laws.specs.Granted.{grants, only_asks}
 use Rattle.pod_laws.specs.Moments.{has_fault, host_at_end, own_entries}
 use Rattle.pod_laws.specs.Answers.{EndsByFault, EndsByTest}

@@ -1,5 +1,5 @@
 -- What a STATUS is answered (CNI specification, section 3, "Status").
-use Rattle.std.specs.Prelude.{◌≡◌, ℕ, ◌&&◌, Bool, true, MatchBool, List, [], Option, Some, None}
+use Rattle.std.specs.Prelude.{◌≡◌, ◌&&◌, Bool, MatchBool, List, []}
 use Rattle.std.specs.List.{list_all}
 use Rattle.cni_result.specs.Versions.{is_before_1_1}
 use Rattle.cni_verbs.specs.Answers.{code_of}
@@ -10,9 +10,8 @@ use Rattle.cni_verbs.specs.declared.answer.Cause.TheVariants as causes
 use Rattle.cni_verbs.specs.declared.answer.Ending.{Ending}
 use Rattle.cni_verbs.specs.declared.answer.Ending.TheVariants.{Refused}
 use Rattle.ip_pool.specs.Pool.{has_free_of}
-use Rattle.kernel_types.specs.Apply.Calls.{has_object, leased_addresses}
+use Rattle.kernel_types.specs.Apply.Calls.{has_master, leased_addresses}
 use Rattle.kernel_types.specs.declared.object.Host.{Host}
-use Rattle.kernel_types.specs.declared.call.Probe.TheVariants.{Master}
 use Rattle.net_conf.specs.declared.list.NetList.{NetList}
 use Rattle.pod_file.specs.declared.command.Command.{Command}
 use Rattle.pod_file.specs.declared.command.Verb.TheVariants as verbs
@@ -21,12 +20,7 @@ use Rattle.pod_laws.specs.Granted.{EndsByDenied}
 use Rattle.pod_laws.specs.Moments.{has_fault}
 use Rattle.pod_laws.specs.Answers.{EachEnding, EndsByFault, EndsByTest}
 
--- the master, if the plugin has one, is a link of the host that no attachment owns
-abbrev pub has_master : Host → Option (List ℕ) → Bool
-has_master host None = true
-has_master host (Some master) = has_object host (Master master)
-
--- the network can serve an ADD: each range set has a free address, and the master is there
+-- the network can serve an ADD: each range set has a free address, and the master, if the plugin has one, is there
 abbrev pub is_available : NetList → Command → Host → Bool
 is_available list c host = list_all (λ set. has_free_of set (leased_addresses host c.network))
     (sets_of list) && has_master host (master_of list.first)

@@ -141,6 +141,8 @@ veth-of ns link_kinds.Device fits outer = cc
 veth-of ns link_kinds.Bridge fits outer = cc
 veth-of ns link_kinds.Veth fits outer = refl
 veth-of ns (link_kinds.Macvlan mode) fits outer = absurd (both_ways (is_host_ns ns) (not-true (is_host_ns ns) fits) outer)
+veth-of ns link_kinds.Dummy fits outer = absurd (both_ways (is_host_ns ns) (not-true (is_host_ns ns) fits) outer)
+veth-of ns (link_kinds.Vlan id) fits outer = absurd (both_ways (is_host_ns ns) (not-true (is_host_ns ns) fits) outer)
 
 inner-peer : (att : Att) (l m : Link) (key : LinkKey) → is_own att l.tag ≡ true → is_host_ns key.ns ≡ false → peers_back l key m ≡ true → takes_inner att l m ≡ true
 inner-peer att l m key own far back =

@@ -90,7 +90,7 @@ impl HostLists {
     {
         match master {
             Some(name) => has_free_master(&self.links, name),
-            None => false,
+            None => true,
         }
     }
 

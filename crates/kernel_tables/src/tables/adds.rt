@@ -101,7 +101,7 @@ impl Tables {
     {
         match master {
             Some(name) => self.has_free_master(name),
-            None => false,
+            None => true,
         }
     }
 

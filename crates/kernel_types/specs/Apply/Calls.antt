@@ -119,8 +119,9 @@ is_free_master name link = is_host_link name link && not (is_owned link.tag)
 abbrev pub has_free_master : List Link → List ℕ → Bool
 has_free_master links name = list_any (is_free_master name) links
 
+-- the master, if there is one, is a link of the host that no attachment owns
 abbrev pub has_master : Host → Option (List ℕ) → Bool
-has_master host None = false
+has_master host None = true
 has_master host (Some name) = has_free_master host.links name
 
 abbrev pub macvlan_add_of : Host → Link → Host × Reply

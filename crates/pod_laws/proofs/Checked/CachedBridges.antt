@@ -81,6 +81,8 @@ bridge-no_veth link_kinds.Device h = refl
 bridge-no_veth link_kinds.Bridge h = refl
 bridge-no_veth link_kinds.Veth h = cc
 bridge-no_veth (link_kinds.Macvlan mode) h = refl
+bridge-no_veth link_kinds.Dummy h = refl
+bridge-no_veth (link_kinds.Vlan id) h = refl
 
 bridge-alone : (links : List Link) (l : Link) (o : Option LinkKey) → peer_fits links l o ≡ true → is_bridge l.kind ≡ true → o ≡ None
 bridge-alone links l None fits bridge = refl
