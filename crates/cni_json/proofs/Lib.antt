@@ -1,7 +1,9 @@
 pub mod Ascending
 pub mod Building
+pub mod Depths
 pub mod EachLemmas
 pub mod Endings
+pub mod KeptMembers
 pub mod Steps
 pub mod WholeNumbers
 mod LineFeed

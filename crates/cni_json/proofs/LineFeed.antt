@@ -221,7 +221,7 @@ is_line_feed : is_utf8 (10 ∷ []) ≡ true
 unfolding is_utf8 chars encode_utf8
 is_line_feed = refl
 
-IsUtf8-line_feed : IsUtf8 (10 ∷ [])
+pub IsUtf8-line_feed : IsUtf8 (10 ∷ [])
 IsUtf8-line_feed = IsUtf8-from_is_utf8 (10 ∷ []) is_line_feed
 
 IsUtf8-before_line_feed : (t : List ℕ) → IsUtf8 (with_line_feed t) → IsUtf8 t

@@ -13,6 +13,17 @@ use Rattle.cni_json.specs.declared.members.JsonObject.{JsonObject}
 abbrev pub members_of : JsonObject → Members
 members_of o = members_view o.members.entries
 
+-- the members of an object, none of any other value
+abbrev pub members_in : Data → Members
+members_in (object ms) = ms
+members_in d = no_members
+
+-- the members whose keys pass the test, in their order
+abbrev pub members_where : (List ℕ → Bool) → Members → Members
+members_where test no_members = no_members
+members_where test (member k d ms) =
+    if test k then member k d (members_where test ms) else members_where test ms
+
 -- a text
 abbrev pub text_data : List ℕ → Data
 text_data text = string text

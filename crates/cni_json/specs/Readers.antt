@@ -1,4 +1,4 @@
--- Functions that read one member or make a refusal, as what their calls give.
+-- Functions that read one member, test a key or make a refusal, as what their calls give.
 use Rattle.std.specs.Prelude.{◌≡◌, ℕ, List, Bool, Result, All}
 use Rattle.std.specs.Fn.{Once, Shared}
 use Rattle.serde_json.specs.Data.{Data}
@@ -34,6 +34,11 @@ abbrev pub MayReadEach : {R T E : Type 0} → Shared R (Bor (List T) × (Bor Val
 MayReadEach {T = T} calls read list =
     All (λ v. (before : Bor (List T)) (member : Bor Value) → member.now ≡ v
     → calls.pre read (before, (member, tt))) list
+
+-- each call tells whether the key passes the test
+pub record IsKeyTest {P : Type 0} (calls : Shared P (Bor (List ℕ) × Unit {0}) Bool) (passes : P)
+    (test : List ℕ → Bool) : Type 0 where
+  pub tells : (key : Bor (List ℕ)) (b : Bool) → calls.post passes (key, tt) b → b ≡ test key.now
 
 -- the call makes the defined error
 pub record IsRefusal {R E : Type 0} (is_out_of_memory : E → Bool) (calls : Once R (Unit {0}) E) (refusal : R)

@@ -13,7 +13,8 @@
 //!   that is given what stands before the member. `read_list_or` gives `list_or` of the list under a key, and
 //!   `need_object` `object_or` of a value.
 //! - An object that `JsonObject` builds has the members that were put into it, in ascending byte order of their keys.
-//! - `line` writes `line_of` of the value.
+//!   `members_where` begins one with the members of a value whose keys pass a test.
+//! - `line` writes `line_of` of the value, and `line_text` gives it as a text.
 //! - What a line was written for is what it is read as (`a_line_is_read_again`), and the keys of
 //!   each object that is read ascend (`keys_ascend`).
 //!
@@ -48,8 +49,8 @@ pub use fields::{
 };
 pub use laws::{a_line_feed_is_space, a_line_is_read_again, keys_ascend};
 pub use lists::{read_each, read_each_after, read_each_placed, read_list_or};
-pub use members::{JsonObject, ToJson, list_value};
+pub use members::{JsonObject, ToJson, list_value, members_where};
 pub use reading::{ReadEnd, read};
 pub use refusal::Refusal;
 pub use serde_json::{Map, Value};
-pub use writing::line;
+pub use writing::{line, line_text};

@@ -1,9 +1,10 @@
 //! JSON objects that are built member by member (RFC 8259, section 4).
 
-ghost use Rattle.std.specs.Prelude.{◌≡◌, OnErr, OnOk, IfOk};
+ghost use Rattle.std.specs.Prelude.{◌≡◌, ℕ, List, Bool, OnErr, OnOk, IfOk};
 ghost use Rattle.serde_json.specs.Data.{Data, boolean, object, no_members, put as with_member};
-ghost use Rattle.serde_json.specs.View.{view};
-ghost use Rattle.cni_json.specs.Members.{members_of, text_data, number_data, addr_data, cidr_data, mac_data, list_data, put_if, put_if_true, put_text_unless_empty, put_list_unless_empty, put_object_unless_empty};
+ghost use Rattle.serde_json.specs.View.{view, members_view};
+ghost use Rattle.cni_json.specs.Members.{members_in, members_of, members_where, text_data, number_data, addr_data, cidr_data, mac_data, list_data, put_if, put_if_true, put_text_unless_empty, put_list_unless_empty, put_object_unless_empty};
+ghost use Rattle.cni_json.specs.Readers.{IsKeyTest};
 
 use cni_addr::{Addr, Cidr, Mac, NoMemory, Text, write_addr, write_cidr, write_mac};
 use serde_json::{Map, Value, put};
@@ -216,4 +217,39 @@ impl JsonObject {
         }
         self.put_value(key, inner.into_value())
     }
+}
+
+/// An object with copies of the members whose keys pass the test, of a value that is no object without members. Further
+/// members can be put. It calls the test once a member, and takes time and memory in proportion to those that pass.
+pub fn members_where<P: Fn(&str) -> bool>(
+    alloc: Global,
+    object: &Value,
+    passes: P,
+) -> Result<JsonObject, NoMemory>
+    requires { P.IsAlwaysCallable passes }
+    ensures { (test : List ℕ → Bool) → IsKeyTest P.Fn passes test
+        → IfOk result (λ kept. members_of kept ≡ members_where test (members_in (view object.now))) }
+{
+    match object {
+        Value::Object(members) => kept_members(alloc, members, passes),
+        _ => Ok(JsonObject::new(alloc)),
+    }
+}
+
+fn kept_members<P: Fn(&str) -> bool>(
+    alloc: Global,
+    members: &Map<String, Value>,
+    passes: P,
+) -> Result<JsonObject, NoMemory>
+    requires { P.IsAlwaysCallable passes }
+    ensures { (test : List ℕ → Bool) → IsKeyTest P.Fn passes test
+        → IfOk result (λ kept. members_of kept ≡ members_where test (members_view members.now.entries)) }
+{
+    let mut kept = JsonObject::new(alloc);
+    for (key, value) in members.iter() {
+        if passes(key.as_str()) {
+            kept.put_value(key.as_str(), value.clone()?)?;
+        }
+    }
+    Ok(kept)
 }

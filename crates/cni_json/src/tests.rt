@@ -1,6 +1,6 @@
 //! The rows for single calls: what is read, a member, and a line.
 
-use crate::{Field, ReadEnd, field_u64, line, read};
+use crate::{Field, ReadEnd, field_u64, line, line_text, members_where, read};
 use std::alloc::Global;
 use std::test::Fail;
 
@@ -40,6 +40,16 @@ fn a_line_has_its_keys_in_order(rt: HostRuntime) -> Result<(), Fail> {
             written.as_bytes(),
             "at {text}"
         );
+        assert_eq!(rt; line_text(rt.alloc(), &value)?.as_str(), written);
     }
+    Ok(())
+}
+
+#[test]
+fn members_are_kept_by_their_keys(rt: HostRuntime) -> Result<(), Fail> {
+    let value = read(rt.alloc(), b"{\"a\":1,\"b\":2}")?;
+    let kept = members_where(rt.alloc(), &value, |key| key != "b")?.into_value();
+    assert_eq!(rt; field_u64(&kept, "a"), Field::Here(1));
+    assert_eq!(rt; field_u64(&kept, "b"), Field::Absent);
     Ok(())
 }

@@ -1,9 +1,16 @@
-use Rattle.std.proofs.Common.{◌≡◌, rules, [], ◌∷◌, ◌++◌, ap, ◌∙◌}
+use Rattle.std.proofs.Common.{◌≡◌, rules, [], ◌∷◌, ◌++◌, IsUtf8, sym, subst, ap, ◌∙◌}
+use Rattle.std.proofs.lemmas.Str.{IsUtf8-append}
 use Rattle.serde_json.specs.View.{view}
 use Rattle.cni_json.specs.Json.{json_of}
 use Rattle.cni_json.proofs.Ascending.{KeysAscend-json_of}
+use Rattle.cni_json.proofs.LineFeed.{IsUtf8-line_feed}
 use Rattle.cni_json.proofs.Lines.{json_of-text}
 use Rattle.cni_json.proofs.writing.line.Goals as goal
+
+pub returns-clause-utf8 : goal.returns-clause-utf8
+returns-clause-utf8 c =
+    let whole : c.push.new.self.items ≡ c.in-Ok.text.items ++ 10 ∷ [] = search rules in
+    subst IsUtf8 (sym whole) (IsUtf8-append c.in-Ok.text.items (10 ∷ []) c.in-Ok.ensures.utf8 IsUtf8-line_feed)
 
 pub returns-clause-again : goal.returns-clause-again
 returns-clause-again c =
