@@ -35,7 +35,7 @@ use Rattle.cni_result.specs.declared.version.Version.TheVariants.{V0_4, V1_0, V1
 pub cidr_read : (c : CidrValue) → IsCidr c → cidr_of_text (cidr_text c) ≡ Some c
 cidr_read c kept = network_spelled_is_read (cidr_text c) c (network_written_is_spelled c kept)
 
-addr_if_read : (o : Option AddrValue) → IfSome o IsAddr → IfSome o (λ a. addr_of_text (addr_text a) ≡ Some a)
+pub addr_if_read : (o : Option AddrValue) → IfSome o IsAddr → IfSome o (λ a. addr_of_text (addr_text a) ≡ Some a)
 addr_if_read None kept = tt
 addr_if_read (Some a) kept = spelled_is_read (addr_text a) a (written_is_spelled a kept)
 

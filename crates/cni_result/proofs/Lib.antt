@@ -1,7 +1,8 @@
+pub mod Depths
 pub mod Lookups
 pub mod ReadAgain
 pub mod ResultLemmas
 pub mod WholeNumbers
-mod Depths
 mod EntriesAgain
+mod MappingAgain
 mod ResultAgain

@@ -1,12 +1,14 @@
--- When a result that was printed is read again as the same result.
-use Rattle.std.specs.Prelude.{◌≡◌, ◌^◌, ◌<◌, length, true, IfSome, Ok}
+-- When a result or a port mapping that was printed is read again as the same.
+use Rattle.std.specs.Prelude.{◌≡◌, ◌^◌, ◌<◌, length, true, IfSome, Some, Ok}
 use Rattle.std.specs.List.{AllByRecursion}
 use Rattle.cni_addr.specs.MacText.{IsMac}
 use Rattle.cni_addr.specs.Network.{IsCidr}
 use Rattle.cni_addr.specs.Value.{IsAddr}
+use Rattle.cni_result.specs.Mappings.{mapping_data, mapping_at}
 use Rattle.cni_result.specs.Reading.{are_on, result_at}
 use Rattle.cni_result.specs.Results.{result_data}
 use Rattle.cni_result.specs.Versions.{mtu_since_1_1}
+use Rattle.cni_result.specs.declared.cached.PortMapping.{PortMapping}
 use Rattle.cni_result.specs.declared.result.AddResult.{AddResult}
 use Rattle.cni_result.specs.declared.result.Interface.{Interface}
 use Rattle.cni_result.specs.declared.result.IpEntry.{IpEntry}
@@ -41,3 +43,13 @@ pub record IsReadable (r : AddResult) : Type 0 where
 -- what was printed of a result is read as that result
 abbrev pub ResultsAreReadAgain : Type 0
 ResultsAreReadAgain = (r : AddResult) → IsReadable r → result_at (result_data r) ≡ Ok r
+
+-- a port mapping as its type keeps it
+pub record IsMapping (mapping : PortMapping) : Type 0 where
+  pub host_port : mapping.host_port < 2 ^ 16
+  pub container_port : mapping.container_port < 2 ^ 16
+  pub host_ip : IfSome mapping.host_ip IsAddr
+
+-- what was printed of a port mapping is read as that mapping
+abbrev pub MappingsAreReadAgain : Type 0
+MappingsAreReadAgain = (mapping : PortMapping) → IsMapping mapping → mapping_at (mapping_data mapping) ≡ Some mapping

@@ -4,7 +4,7 @@
 //! fields, and a copy equals what was copied. `to_value` and `error_value` are the specification's JSON, `read_result`
 //! is exact with its first refusal, and a result that was printed is read again as the same result. `read_dns` reads
 //! the `dns` of a result and that of a plugin's object, `version_named` the text of `cniVersion`, `read_texts` a list
-//! of texts.
+//! of texts, `read_mapping` an entry of `portMappings`, which gives a printed mapping back.
 //!
 //! ```text
 //! let added = read_result(alloc, b"{\"cniVersion\":\"1.0.0\",\"ips\":[{\"address\":\"10.0.0.2/8\"}]}")?;
@@ -18,6 +18,7 @@ mod entries;
 pub mod error;
 mod fields;
 pub mod laws;
+pub mod mappings;
 pub mod printing;
 pub mod reading;
 pub mod refusal;
@@ -29,8 +30,9 @@ pub mod version;
 pub use cached::{Cached, PortMapping, Proto, proto_named, proto_text};
 pub use dns::{no_dns, read_dns, read_texts};
 pub use error::CniError;
+pub use mappings::read_mapping;
 pub use printing::{error_value, result_line, to_value};
-pub use reading::read_result;
+pub use reading::{read_result, result_of};
 pub use refusal::ResultError;
 pub use result::{AddResult, Dns, Interface, IpEntry, RouteEntry};
 pub use version::{Version, mtu_since_1_1, version_named, version_text};

@@ -41,8 +41,9 @@ fn decode(alloc: Global, bytes: &[u8]) -> Result<Value, ResultError>
     }
 }
 
+/// The result that a JSON value is, read and refused as [`read_result`] has it from the value on.
 #[tactic(auto, using(cni_json::proofs::Steps::steps), unfolding(crate::specs::Reading::result_at))]
-fn result_of(alloc: Global, top: &Value) -> Result<AddResult, ResultError>
+pub fn result_of(alloc: Global, top: &Value) -> Result<AddResult, ResultError>
     ensures { Gives is_out_of_memory result (result_at (view top.now)) }
 {
     need_object(top, || invalid(alloc, "result"))?;
