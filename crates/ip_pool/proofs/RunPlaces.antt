@@ -92,11 +92,8 @@ find-past_all a rs i ended end =
 pub add-at : (a : Addr) (rs : List Run) (i : ℕ) (r : Run) → list_all (ends_before 1 a) (take i rs) ≡ true → i < length rs → r ≡ get_or rs i r → with_addr a rs ≡ take i rs ++ with_addr a (r ∷ drop (i + 1) rs)
 add-at a rs i r ended below is = ap (with_addr a) (parts rs i r below is) ∙ with_addr-past a (take i rs) (r ∷ drop (i + 1) rs) ended
 
-pub add-extends : (a : Addr) (rs rest : List Run) (i : ℕ) (r : Run) → list_all (ends_before 1 a) (take i rs) ≡ true → i < length rs → r ≡ get_or rs i r → ends_before 1 a r ≡ false → is_next r.last a ≡ true → rest ≡ take i rs ++ drop (i + 1) rs → take i rest ++ run_up_to r.first a (drop i rest) ≡ with_addr a rs
-add-extends a rs rest i r ended below is reaches next left =
-    let front : take i rest ≡ take i rs = ap (take i) left ∙ take_at (take i rs) (drop (i + 1) rs) i (length-take-le i rs (omega arith)) in
-    let back : drop i rest ≡ drop (i + 1) rs = ap (drop i) left ∙ drop_at (take i rs) (drop (i + 1) rs) i (length-take-le i rs (omega arith)) in
-    rw (front, back, add-at a rs i r ended below is) (rw (reaches, next) refl)
+pub add-extends : (a : Addr) (rs : List Run) (i : ℕ) (r : Run) → list_all (ends_before 1 a) (take i rs) ≡ true → i < length rs → r ≡ get_or rs i r → ends_before 1 a r ≡ false → is_next r.last a ≡ true → take i rs ++ run_up_to r.first a (drop (i + 1) rs) ≡ with_addr a rs
+add-extends a rs i r ended below is reaches next = rw (add-at a rs i r ended below is) (rw (reaches, next) refl)
 
 pub add-begins : (a : Addr) (rs : List Run) (i : ℕ) (r : Run) → list_all (ends_before 1 a) (take i rs) ≡ true → i < length rs → r ≡ get_or rs i r → ends_before 1 a r ≡ false → is_next r.last a ≡ false → take i rs ++ run_up_to a.bits a (drop i rs) ≡ with_addr a rs
 add-begins a rs i r ended below is reaches other =
@@ -127,16 +124,11 @@ keep-all a rs i ended end =
     let none : drop i rs ≡ [] = drop_all i rs end in
     sym (ap (without_addr a) (sym (take-append-drop i rs)) ∙ without_addr-past a (take i rs) (drop i rs) ended ∙ rw none (rw (← none) (take-append-drop i rs)))
 
--- two parts put in at a place, the upper one first
-pub parts-put : (rs rest upper both : List Run) (i : ℕ) (above below : List Run) → i ≤ length rs → rest ≡ take i rs ++ drop (i + 1) rs → upper ≡ take i rest ++ (above ++ drop i rest) → both ≡ take i upper ++ (below ++ drop i upper) → both ≡ take i rs ++ (below ++ (above ++ drop (i + 1) rs))
-parts-put rs rest upper both i above below within left one two =
-    let size = length-take-le i rs within in
-    let front : take i rest ≡ take i rs = ap (take i) left ∙ take_at (take i rs) (drop (i + 1) rs) i size in
-    let back : drop i rest ≡ drop (i + 1) rs = ap (drop i) left ∙ drop_at (take i rs) (drop (i + 1) rs) i size in
-    let upper-is : upper ≡ take i rs ++ (above ++ drop (i + 1) rs) = one ∙ rw (front, back) refl in
-    let front-2 : take i upper ≡ take i rs = ap (take i) upper-is ∙ take_at (take i rs) (above ++ drop (i + 1) rs) i size in
-    let back-2 : drop i upper ≡ above ++ drop (i + 1) rs = ap (drop i) upper-is ∙ drop_at (take i rs) (above ++ drop (i + 1) rs) i size in
-    two ∙ rw (front-2, back-2) refl
+-- a part in the stead of a run
+pub part-put : (rs : List Run) (i : ℕ) (part : Run) → i < length rs → set rs i part ≡ take i rs ++ (part ∷ drop (i + 1) rs)
+part-put rs i part below =
+    let more : i + 1 ≡ suc i = omega arith in
+    rw (← more) at (set_split rs i part below)
 
 single : ℕ → Addr → Run
 single first last = record { first = first; last = last }
@@ -160,6 +152,15 @@ pub put-joins : (rs : List Run) (i first : ℕ) (a : Addr) (r s : Run) → i < l
 put-joins rs i first a r s below is is-2 next =
     let same : s ≡ r = same_read rs i s r below is-2 is in
     let back : drop i rs ≡ r ∷ drop (i + 1) rs = drop_more rs i r below ∙ ap (λ x. x ∷ drop (i + 1) rs) (sym is) in
-    let more : i + 1 ≡ suc i = omega arith in
-    let whole = rw (← more) at (set_split rs i (record { first = first; last = s.last }) below) in
-    whole ∙ rw (back, same) (rw next refl)
+    part-put rs i (record { first = first; last = s.last }) below ∙ rw (back, same) (rw next refl)
+
+-- a run that ends with the address, where the next one doesn't touch it, or where there is none
+pub put-apart : (rs : List Run) (i first : ℕ) (a : Addr) (r : Run) → i < length rs → i + 1 < length rs → r ≡ get_or rs (i + 1) r → is_next a (first_of r) ≡ false → set rs i (record { first = first; last = a }) ≡ take i rs ++ run_up_to first a (drop (i + 1) rs)
+put-apart rs i first a r below within is apart =
+    let back : drop (i + 1) rs ≡ r ∷ drop (i + 1 + 1) rs = drop_more rs (i + 1) r within ∙ ap (λ x. x ∷ drop (i + 1 + 1) rs) (sym is) in
+    part-put rs i (record { first = first; last = a }) below ∙ rw back (rw apart refl)
+
+pub put-last : (rs : List Run) (i first : ℕ) (a : Addr) → i < length rs → length rs ≤ i + 1 → set rs i (record { first = first; last = a }) ≡ take i rs ++ run_up_to first a (drop (i + 1) rs)
+put-last rs i first a below end =
+    let none : drop (i + 1) rs ≡ [] = drop_all (i + 1) rs end in
+    part-put rs i (record { first = first; last = a }) below ∙ rw none refl

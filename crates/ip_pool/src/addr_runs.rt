@@ -54,6 +54,13 @@ impl AddrRuns {
         }
     }
 
+    /// The addresses of every set ascend, so that each is there once.
+    pub fn addresses_ascend(&self)
+        ensures { ascends self.now.addresses ≡ true }
+    {
+        let _runs = &self.runs;
+    }
+
     /// Makes room for one more address, where there is none. Takes memory by doubling, and none where there is room.
     pub fn reserve_one(&mut self) -> Result<(), NoMemory>
         ensures same { self.new.addresses ≡ self.old.addresses }
@@ -68,7 +75,8 @@ impl AddrRuns {
     }
 
     /// Adds an address that is not in the set. Takes no memory, since there is room. The runs that it touches become
-    /// one: a binary search, and a move of the later runs where their number changes.
+    /// one: a binary search, and a move of the later runs where their number changes, as it doesn't where one run is
+    /// made longer.
     pub fn add(&mut self, addr: &Addr)
         requires absent { is_taken self.old.addresses addr.now ≡ false }
         requires room { 0 < self.old.room }
@@ -82,7 +90,8 @@ impl AddrRuns {
     }
 
     /// Takes an address out of the set, and says whether it was there: then its place is room. Takes no memory. It
-    /// may split a run: a binary search, and a move of the later runs.
+    /// may split a run: a binary search, and a move of the later runs where their number changes, as it doesn't where
+    /// one run is made shorter.
     pub fn remove(&mut self, addr: &Addr) -> bool
         ensures found { result ≡ is_taken self.old.addresses addr.now }
         ensures absent { result ≡ false → self.new ≡ self.old }

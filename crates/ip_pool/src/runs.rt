@@ -1,6 +1,7 @@
 //! Runs of addresses in a sorted vector. Nothing here takes memory.
 
 ghost use Rattle.std.specs.Prelude.{◌≡◌, ◌+◌, ◌≤◌, ◌<◌, true, false, length, take, drop, ◌++◌, find, vec_len};
+ghost use Rattle.std.specs.Prelude.{option_to_list};
 ghost use Rattle.std.specs.List.{list_all, HoldsAt};
 ghost use Rattle.std.specs.Vec.{vec_capacity};
 ghost use Rattle.ip_pool.specs.Runs.{are_runs, ends_before, first_of, is_in_run, is_in_runs, size_of};
@@ -71,22 +72,45 @@ pub(crate) fn run_with(runs: &[Run], addr: &Addr) -> Option<Run>
     if has(&run, addr) { Some(run) } else { None }
 }
 
-/// Puts a run that ends with the address in at its place, and takes in the run there where they touch.
-fn put_run_up_to(runs: &mut Vec<Run>, place: usize, first: u128, addr: &Addr)
+/// Begins a run with the address at its place, or lets the run there begin with it where they touch.
+fn begin_run(runs: &mut Vec<Run>, place: usize, addr: &Addr)
     requires within { place ≤ vec_len runs.old }
     requires room { vec_len runs.old < vec_capacity runs.old }
     ensures items { runs.new.items
-        ≡ take place runs.old.items ++ run_up_to first addr.now (drop place runs.old.items) }
+        ≡ take place runs.old.items ++ run_up_to addr.now.bits addr.now (drop place runs.old.items) }
     ensures capacity { vec_capacity runs.new ≡ vec_capacity runs.old }
 {
     if place < runs.len() && begins_after(&runs[place], addr) {
-        runs[place].first = first;
+        runs[place].first = addr.bits;
     } else {
-        runs.insert(place, Run { first, last: *addr }).unwrap();
+        let run = Run {
+            first: addr.bits,
+            last: *addr,
+        };
+        runs.insert(place, run).unwrap();
     }
 }
 
-/// Adds the address: to the runs that it touches, which become one, or as a run of its own.
+/// Lets the run at the place end with the address. Where the next run touches it, the two become one.
+fn extend_run(runs: &mut Vec<Run>, place: usize, addr: &Addr)
+    requires within { place < vec_len runs.old }
+    ensures items { HoldsAt
+        (λ r. runs.new.items
+        ≡ take place runs.old.items ++ run_up_to r.first addr.now (drop (place + 1) runs.old.items))
+        runs.old.items place }
+    ensures capacity { vec_capacity runs.new ≡ vec_capacity runs.old }
+{
+    let next = place + 1;
+    if next < runs.len() && begins_after(&runs[next], addr) {
+        runs[next].first = runs[place].first;
+        let _joined = runs.remove(place);
+    } else {
+        runs[place].last = *addr;
+    }
+}
+
+/// Adds the address: to the runs that it touches, which become one, or as a run of its own. The later runs move only
+/// where their number changes.
 pub(crate) fn add_addr(runs: &mut Vec<Run>, addr: &Addr)
     requires runs { are_runs runs.old.items ≡ true }
     requires room { vec_len runs.old < vec_capacity runs.old }
@@ -95,51 +119,61 @@ pub(crate) fn add_addr(runs: &mut Vec<Run>, addr: &Addr)
 {
     let place = place_of(runs, 1, addr);
     if place < runs.len() && is_after(&runs[place], addr) {
-        let run = runs.remove(place);
-        put_run_up_to(runs, place, run.first, addr);
+        extend_run(runs, place, addr);
     } else {
-        put_run_up_to(runs, place, addr.bits, addr);
+        begin_run(runs, place, addr);
     }
 }
 
-/// Puts the part of the run above the address in at its place, where there is one.
-fn put_part_above(runs: &mut Vec<Run>, place: usize, run: &Run, addr: &Addr)
-    requires within { place ≤ vec_len runs.old }
-    requires room { vec_len runs.old + length (part_above addr.now run.now) ≤ vec_capacity runs.old }
-    ensures items { runs.new.items
-        ≡ take place runs.old.items ++ (part_above addr.now run.now ++ drop place runs.old.items) }
-    ensures len { vec_len runs.new ≡ vec_len runs.old + length (part_above addr.now run.now) }
+/// The part of the run below the address, which the run has.
+fn part_below(run: &Run, addr: &Addr) -> Option<Run>
+    ensures { option_to_list result ≡ part_below addr.now run.now }
+{
+    if addr.bits <= run.first {
+        return None;
+    }
+    let last = Addr {
+        family: addr.family,
+        bits: addr.bits - 1,
+    };
+    Some(Run { last, ..*run })
+}
+
+/// The part of the run above the address, which the run has.
+fn part_above(run: &Run, addr: &Addr) -> Option<Run>
+    ensures { option_to_list result ≡ part_above addr.now run.now }
+{
+    if run.last.bits <= addr.bits {
+        return None;
+    }
+    let first = addr.bits + 1;
+    Some(Run { first, ..*run })
+}
+
+/// Puts what is left of the run at the place in its stead.
+fn put_parts(runs: &mut Vec<Run>, place: usize, below: Option<Run>, above: Option<Run>)
+    requires within { place < vec_len runs.old }
+    requires room { vec_len runs.old + length (option_to_list below) + length (option_to_list above)
+        ≤ vec_capacity runs.old + 1 }
+    ensures items { runs.new.items ≡ take place runs.old.items
+        ++ (option_to_list below ++ (option_to_list above ++ drop (place + 1) runs.old.items)) }
     ensures capacity { vec_capacity runs.new ≡ vec_capacity runs.old }
 {
-    if addr.bits < run.last.bits {
-        let above = Run {
-            first: addr.bits + 1,
-            last: run.last,
-        };
-        runs.insert(place, above).unwrap();
+    match (below, above) {
+        (None, None) => {
+            let _gone = runs.remove(place);
+        }
+        (Some(below), None) => runs[place] = below,
+        (None, Some(above)) => runs[place] = above,
+        (Some(below), Some(above)) => {
+            runs[place] = above;
+            runs.insert(place, below).unwrap();
+        }
     }
 }
 
-/// Puts the part of the run below the address in at its place, where there is one.
-fn put_part_below(runs: &mut Vec<Run>, place: usize, run: &Run, addr: &Addr)
-    requires within { place ≤ vec_len runs.old }
-    requires room { vec_len runs.old + length (part_below addr.now run.now) ≤ vec_capacity runs.old }
-    ensures items { runs.new.items
-        ≡ take place runs.old.items ++ (part_below addr.now run.now ++ drop place runs.old.items) }
-    ensures len { vec_len runs.new ≡ vec_len runs.old + length (part_below addr.now run.now) }
-    ensures capacity { vec_capacity runs.new ≡ vec_capacity runs.old }
-{
-    if run.first < addr.bits {
-        let last = Addr {
-            family: addr.family,
-            bits: addr.bits - 1,
-        };
-        let first = run.first;
-        runs.insert(place, Run { first, last }).unwrap();
-    }
-}
-
-/// Takes the address out of the run that has it, which may split it. Says whether it was there.
+/// Takes the address out of the run that has it, which may split it. Says whether it was there. The later runs move
+/// only where their number changes.
 pub(crate) fn remove_addr(runs: &mut Vec<Run>, addr: &Addr) -> bool
     requires runs { are_runs runs.old.items ≡ true }
     requires room { size_of runs.old.items ≤ vec_capacity runs.old }
@@ -148,11 +182,13 @@ pub(crate) fn remove_addr(runs: &mut Vec<Run>, addr: &Addr) -> bool
     ensures capacity { vec_capacity runs.new ≡ vec_capacity runs.old }
 {
     let place = place_of(runs, 0, addr);
-    if place == runs.len() || !has(&runs[place], addr) {
+    if place == runs.len() {
         return false;
     }
-    let run = runs.remove(place);
-    put_part_above(runs, place, &run, addr);
-    put_part_below(runs, place, &run, addr);
+    let run = runs[place];
+    if !has(&run, addr) {
+        return false;
+    }
+    put_parts(runs, place, part_below(&run, addr), part_above(&run, addr));
     true
 }

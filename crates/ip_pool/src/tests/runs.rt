@@ -75,3 +75,10 @@ fn runs_join_and_split(rt: HostRuntime) -> Result<(), Fail> {
     join_and_split::<Brand>(&rt, rt.alloc(), Blank::new(1))?;
     Ok(())
 }
+
+#[test]
+fn counting_takes_no_bytes(rt: HostRuntime) -> Result<(), Fail> {
+    assert_eq!(rt; size_of::<Steps<Brand>>(), 0);
+    assert_eq!(rt; size_of::<(Addr, Steps<Brand>)>(), size_of::<Addr>());
+    Ok(())
+}
