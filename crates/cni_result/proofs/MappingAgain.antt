@@ -1,5 +1,5 @@
 -- A port mapping that was printed is read again.
-use Rattle.std.proofs.Common.{◌≡◌, ℕ, ◌^◌, ◌<◌, List, Option, Some, None, option_map, refl, ap, ◌∙◌, rules}
+use Rattle.std.proofs.Common.{◌≡◌, ℕ, ◌^◌, ◌<◌, Option, Some, None, option_map, refl, ap, ◌∙◌, rules}
 use Rattle.std.specs.Prelude.{codes, IfSome}
 use Rattle.serde_json.proofs.Views.{get_member-put}
 use Rattle.serde_json.specs.Data.{Members, no_members, put}
