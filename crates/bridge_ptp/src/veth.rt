@@ -3,8 +3,8 @@
 ghost use Rattle.std.specs.Prelude.{◌≡◌, IfOk};
 ghost use Rattle.bridge_ptp.specs.Veth as veth;
 
-use cni_addr::{NoMemory, Text};
-use kernel_types::{Call, NamedAtt, RefCounted};
+use cni_addr::{NoMemory, RefCounted, Text};
+use kernel_types::{Call, NamedAtt};
 use plugin_base::{host_end, inner_end};
 use std::alloc::Global;
 

@@ -1,9 +1,9 @@
-//! Texts, lists and network addresses, which every other crate uses.
+//! Texts, lists, shared values and network addresses, which every other crate uses.
 //!
 //! What it promises above:
 //!
-//! - A [`Text`] is the list of its bytes and an [`Items`] the list of its items, whatever they share inside; a copy
-//!   equals what was copied.
+//! - A [`Text`] is the list of its bytes, an [`Items`] the list of its items and a [`RefCounted`] the value in it,
+//!   whatever they share inside; a copy equals what was copied.
 //! - An address is a family, IPv4 or IPv6, and a number below the family's bound.
 //! - Each reader is equal to a definition, which [`laws`] tie to a grammar both ways: what is spelled is read, and what
 //!   is read is spelled. What a writer writes is read again as the same value.
@@ -32,6 +32,7 @@ pub mod memory;
 pub mod network;
 pub mod range;
 pub mod read;
+pub mod ref_counted;
 pub mod text;
 pub mod write;
 
@@ -43,6 +44,7 @@ pub use memory::{Duplicate, NoMemory};
 pub use network::{contains, last_of, network_of, next_addr, whole};
 pub use range::{Range, RangeSet};
 pub use read::{read_addr, read_cidr, read_mac};
+pub use ref_counted::RefCounted;
 pub use text::Text;
 pub use write::{write_addr, write_cidr, write_mac};
 

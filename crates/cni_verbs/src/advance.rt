@@ -21,8 +21,8 @@ ghost use Rattle.cni_verbs.specs.Phases.{Awaits, KeepsResult, Stands, IsPhaseOf,
 use crate::answer::{Cause, Ending, Question};
 use crate::over::is_changing;
 use crate::phase::Phase;
-use cni_addr::{Addr, Duplicate, Items, NoMemory};
-use kernel_types::{Call, RefCounted, Reply};
+use cni_addr::{Addr, Duplicate, Items, NoMemory, RefCounted};
+use kernel_types::{Call, Reply};
 use std::alloc::Global;
 use std::mem::replace;
 

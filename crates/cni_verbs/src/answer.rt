@@ -1,8 +1,8 @@
 //! What a command is answered, and why an attachment's verb refuses.
 
-use cni_addr::{Addr, Cidr, Items, Text};
+use cni_addr::{Addr, Cidr, Items, RefCounted, Text};
 use cni_result::{AddResult, CniError, Version};
-use kernel_types::{Call, Chain, RefCounted, Table, Tag};
+use kernel_types::{Call, Chain, Table, Tag};
 
 /// A verb that a list disables (`disableCheck`, `disableGC`).
 #[derive(Clone, Copy, PartialEq, Eq)]

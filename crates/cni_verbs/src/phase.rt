@@ -3,9 +3,9 @@
 ghost use Rattle.std.specs.Prelude.{◌≡◌};
 
 use crate::answer::{Cause, Ending, Question};
-use cni_addr::Items;
+use cni_addr::{Items, RefCounted};
 use cni_result::Cached;
-use kernel_types::{Call, RefCounted};
+use kernel_types::Call;
 
 /// What a run does next. The numbers say how much of a list that is made ahead is behind it.
 #[derive(Drop)]

@@ -11,11 +11,9 @@ use crate::fields::named_att_of;
 use crate::plugins::{bridge_of, calls_before, master_of};
 use crate::share::{Objects, no_objects};
 use crate::wanted::{plugin_calls, sets_of};
-use cni_addr::{Addr, Duplicate, Items, Mac, NoMemory, RangeSet, Text};
+use cni_addr::{Addr, Duplicate, Items, Mac, NoMemory, RangeSet, RefCounted, Text};
 use cni_result::{AddResult, Cached, Interface};
-use kernel_types::{
-    AddrObj, Call, Lease, Link, Object, Probe, RefCounted, RouteObj, Rule, Setting,
-};
+use kernel_types::{AddrObj, Call, Lease, Link, Object, Probe, RouteObj, Rule, Setting};
 use net_conf::NetList;
 use pod_file::Command;
 use std::alloc::Global;

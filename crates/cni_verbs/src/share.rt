@@ -4,11 +4,10 @@ ghost use Rattle.std.specs.Prelude.{◌≡◌, ◌++◌, ◌∷◌, [], map, OnO
 ghost use Rattle.plugin_base.specs.Share.{no_objects, share_after_call, share_after_calls};
 ghost use Rattle.kernel_types.specs.Terms.{lease_of};
 
-use cni_addr::{Addr, Duplicate, Items, NoMemory};
+use cni_addr::{Addr, Duplicate, Items, NoMemory, RefCounted};
 use cni_result::Cached;
 use kernel_types::{
-    AddrObj, Att, CachedObj, Call, Lease, Link, LinkValues, RefCounted, RouteObj, Rule, Setting,
-    Tag, set_links,
+    AddrObj, Att, CachedObj, Call, Lease, Link, LinkValues, RouteObj, Rule, Setting, Tag, set_links,
 };
 use std::alloc::Global;
 use std::marker::Model;

@@ -10,10 +10,10 @@ ghost use Rattle.cni_verbs.specs.Wanted as wanted;
 use crate::plugins::{
     calls_after, chained_calls, chained_kinds, chained_result, first_kinds, first_result, ipam_of,
 };
-use cni_addr::{Addr, Duplicate, Items, NoMemory, RangeSet, Text};
+use cni_addr::{Addr, Duplicate, Items, NoMemory, RangeSet, RefCounted, Text};
 use cni_result::{AddResult, Cached, PortMapping};
 use host_local::{given_of, ipam_result_of};
-use kernel_types::{Att, Call, Given, Kind, NamedAtt, RefCounted};
+use kernel_types::{Att, Call, Given, Kind, NamedAtt};
 use net_conf::{Chained, First, NetList};
 use std::alloc::Global;
 

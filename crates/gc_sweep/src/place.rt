@@ -10,9 +10,9 @@ ghost use Rattle.gc_sweep.specs.Valid.{IsIndexOf};
 ghost use Rattle.gc_sweep.specs.View.{HasTaken, IsPlace, jobs_left, step_of, steps_of, sweep_of, sweeps_after, sweeps_from, work_of};
 
 use crate::valid::ValidIndex;
-use cni_addr::{Duplicate, Items, NoMemory, Text};
+use cni_addr::{Duplicate, Items, NoMemory, RefCounted, Text};
 use cni_verbs::wanted::deletion;
-use kernel_types::{Att, Call, Kind, RefCounted, Reply};
+use kernel_types::{Att, Call, Kind, Reply};
 use std::alloc::Global;
 
 /// The sweep at hand: none yet, that of the cached results, or that of a kind.

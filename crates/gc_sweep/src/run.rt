@@ -10,10 +10,10 @@ ghost use Rattle.gc_sweep.specs.View.{ending_in};
 
 use crate::place::{SweepPlace, next_call, take};
 use crate::valid::ValidIndex;
-use cni_addr::{Duplicate, Items, NoMemory};
+use cni_addr::{Duplicate, Items, NoMemory, RefCounted};
 use cni_verbs::wanted::kinds_of;
 use cni_verbs::{Answer, Cause, Ending, early_ending, plain_answer};
-use kernel_types::{Call, Kind, RefCounted, Reply};
+use kernel_types::{Call, Kind, Reply};
 use net_conf::NetList;
 use pod_file::Command;
 use std::alloc::Global;

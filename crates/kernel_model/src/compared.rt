@@ -3,7 +3,8 @@
 ghost use Rattle.std.specs.Prelude.{◌≡◌};
 ghost use Rattle.std.specs.List.{list_any};
 
-use kernel_types::{AddrObj, Lease, Link, RefCounted, RouteObj, Rule, Setting};
+use cni_addr::RefCounted;
+use kernel_types::{AddrObj, Lease, Link, RouteObj, Rule, Setting};
 
 /// An object that is compared as a whole. Its test is the one that the calls are defined by.
 pub(crate) trait Compared {

@@ -18,10 +18,9 @@ mod questions;
 mod shared;
 
 use crate::kernel::Kernel;
-use cni_addr::{NoMemory, copies};
+use cni_addr::{NoMemory, RefCounted, copies};
 use kernel_types::{
-    AddrObj, CachedObj, Call, Host, Last, Lease, Link, NsObj, RefCounted, Reply, RouteObj, Rule,
-    Setting,
+    AddrObj, CachedObj, Call, Host, Last, Lease, Link, NsObj, Reply, RouteObj, Rule, Setting,
 };
 use std::alloc::Global;
 use std::marker::Model;

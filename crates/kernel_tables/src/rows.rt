@@ -11,11 +11,10 @@ ghost use Rattle.kernel_tables.specs.Rows.{owner_named};
 
 use crate::keys::{AddrKey, PoolKey, RouteKey, SettingKey};
 use crate::row::Row;
-use cni_addr::{Duplicate, NoMemory, Text};
+use cni_addr::{Duplicate, NoMemory, RefCounted, Text};
 use kernel_types::terms::is_host_ns;
 use kernel_types::{
-    AddrObj, Att, CachedObj, Last, Lease, Link, LinkKey, NsObj, RefCounted, RouteObj, Rule,
-    Setting, Tag,
+    AddrObj, Att, CachedObj, Last, Lease, Link, LinkKey, NsObj, RouteObj, Rule, Setting, Tag,
 };
 
 /// The attachment that a tag names.

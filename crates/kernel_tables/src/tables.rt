@@ -18,12 +18,11 @@ mod shared;
 
 use crate::keys::{AddrKey, PoolKey, RouteKey, SettingKey};
 use crate::table::Table;
-use cni_addr::{NoMemory, Text};
+use cni_addr::{NoMemory, RefCounted, Text};
 use indexmap::IndexMap;
 use ip_pool::AddrRuns;
 use kernel_types::{
-    AddrObj, Att, CachedObj, Host, Last, Lease, Link, LinkKey, NsObj, RefCounted, RouteObj, Rule,
-    Setting,
+    AddrObj, Att, CachedObj, Host, Last, Lease, Link, LinkKey, NsObj, RouteObj, Rule, Setting,
 };
 use std::alloc::Global;
 use std::marker::Model;

@@ -7,9 +7,9 @@ ghost use Rattle.kernel_text.specs.Dump.{rule_data, put_match, put_chain, settin
 use crate::dump::Dumped;
 use crate::tags::put_tag;
 use crate::texts::{chain_text, target_text};
-use cni_addr::NoMemory;
+use cni_addr::{NoMemory, RefCounted};
 use cni_json::JsonObject;
-use kernel_types::{RefCounted, Rule, Setting, table_text};
+use kernel_types::{Rule, Setting, table_text};
 use serde_json::Value;
 use std::alloc::Global;
 

@@ -5,8 +5,8 @@ use crate::objects::{
     setting,
 };
 use crate::tokens::{RowError, cidr_of, cut, family_of, kind_of, link_tokens};
-use cni_addr::Text;
-use kernel_types::{Call, Change, Object, Probe, RefCounted, link_mac, table_named};
+use cni_addr::{RefCounted, Text};
+use kernel_types::{Call, Change, Object, Probe, link_mac, table_named};
 use std::alloc::Global;
 
 /// `Begin CONTAINER NAMESPACE`; the host's own namespace is written `host`.

@@ -1,9 +1,8 @@
 //! The calls of the modelled kernel, its replies, and a leased address with what its range says of it.
 
 use crate::object::{AddrObj, Att, Lease, Link, LinkKey, RouteObj, Setting, Tag};
-use crate::ref_counted::RefCounted;
 use crate::rule::{Rule, Table};
-use cni_addr::{Addr, Cidr, Family, Items, Mac, RangeSet, Text};
+use cni_addr::{Addr, Cidr, Family, Items, Mac, RangeSet, RefCounted, Text};
 use cni_result::Cached;
 use std::marker::Model;
 

@@ -7,9 +7,8 @@ ghost use Rattle.kernel_types.specs.declared.call.Reply.TheVariants as replies;
 
 use crate::call::{Call, Change, Kind, Object, Probe, Reply};
 use crate::object::{AddrObj, Att, Link, LinkKey, RouteObj, Setting, Tag};
-use crate::ref_counted::RefCounted;
 use crate::rule::Rule;
-use cni_addr::{Cidr, Duplicate, Items, Mac, NoMemory, RangeSet, Text};
+use cni_addr::{Cidr, Duplicate, Items, Mac, NoMemory, RangeSet, RefCounted, Text};
 use cni_result::Cached;
 
 impl Duplicate for Object {

@@ -33,7 +33,6 @@ pub mod link_values;
 pub mod names;
 pub mod object;
 pub mod opening;
-pub mod ref_counted;
 pub mod rule;
 pub mod shared;
 pub mod terms;
@@ -47,6 +46,5 @@ pub use object::{
     Tag,
 };
 pub use opening::opening_with;
-pub use ref_counted::RefCounted;
 pub use rule::{Chain, Rule, Table, Target};
 pub use texts::{link_kind_text, table_named, table_text};

@@ -3,9 +3,8 @@
 ghost use Rattle.std.specs.Prelude.{◌≡◌, IfOk};
 ghost use Rattle.kernel_types.specs.Terms.{is_own, lease_of, outside_namespace};
 
-use crate::ref_counted::RefCounted;
 use crate::rule::Rule;
-use cni_addr::{Addr, Cidr, Duplicate, Items, Mac, MacvlanMode, NoMemory, Text};
+use cni_addr::{Addr, Cidr, Duplicate, Items, Mac, MacvlanMode, NoMemory, RefCounted, Text};
 use cni_result::Cached;
 
 /// Whose an object is.

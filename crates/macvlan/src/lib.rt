@@ -15,10 +15,10 @@ pub mod laws;
 ghost use Rattle.std.specs.Prelude.{◌≡◌, IfOk};
 ghost use Rattle.macvlan.specs.Macvlan as plan;
 
-use cni_addr::{Duplicate, Items, NoMemory, Text};
+use cni_addr::{Duplicate, Items, NoMemory, RefCounted, Text};
 use cni_result::AddResult;
 use host_local::{interface_kinds, routes_of};
-use kernel_types::{Att, Call, Given, Kind, NamedAtt, RefCounted};
+use kernel_types::{Att, Call, Given, Kind, NamedAtt};
 use net_conf::MacvlanConf;
 use plugin_base::{addresses_on, ask_all, completed, inner_interface, macvlan_link, routes_on};
 use std::alloc::Global;

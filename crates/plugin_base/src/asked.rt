@@ -1,9 +1,9 @@
 //! Objects that calls ask for, told apart by their keys.
 
 use crate::key_writes::{hash_addr, hash_cidr, hash_rule};
-use cni_addr::NoMemory;
+use cni_addr::{NoMemory, RefCounted};
 use kernel_types::terms::{is_same_addr, is_same_route, is_same_setting};
-use kernel_types::{AddrObj, Call, RefCounted, RouteObj, Rule, Setting};
+use kernel_types::{AddrObj, Call, RouteObj, Rule, Setting};
 use std::alloc::Global;
 use std::hash::{Hash, Hasher};
 

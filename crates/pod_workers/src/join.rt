@@ -9,8 +9,7 @@ ghost use Rattle.pod_file.specs.Rounds.{file_limit};
 ghost use Rattle.pod_workers.specs.Plans.{has_list, lacks_list, list_in, list_named, placed_from};
 
 use crate::plan::{Plan, PlanError};
-use cni_addr::{Items, Text};
-use kernel_types::RefCounted;
+use cni_addr::{Items, RefCounted, Text};
 use net_conf::NetList;
 use pod_file::{Command, Pods};
 

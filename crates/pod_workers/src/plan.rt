@@ -1,8 +1,8 @@
 //! What is to be done, and one entry of what was done.
 
-use cni_addr::Items;
+use cni_addr::{Items, RefCounted};
 use cni_verbs::Answer;
-use kernel_types::{Call, RefCounted, Reply};
+use kernel_types::{Call, Reply};
 use net_conf::NetList;
 use pod_file::Pods;
 

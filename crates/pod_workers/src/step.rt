@@ -12,10 +12,10 @@ ghost use Rattle.pod_workers.specs.World.{IsUpToStop, after_entry, entry_by, is_
 use crate::join::list_in;
 use crate::plan::{Entry, Next};
 use crate::task::Task;
-use cni_addr::NoMemory;
+use cni_addr::{NoMemory, RefCounted};
 use cni_verbs::Answer;
 use kernel_model::Kernel;
-use kernel_types::{Call, RefCounted, Reply};
+use kernel_types::{Call, Reply};
 use net_conf::NetList;
 use pod_file::Command;
 use std::alloc::Global;

@@ -10,10 +10,10 @@ ghost use Rattle.pod_workers.specs.Tasks.{AreFaultsOf, view_of};
 ghost use Rattle.pod_workers.specs.World.{is_faulty};
 
 use crate::faults::Faults;
-use cni_addr::NoMemory;
+use cni_addr::{NoMemory, RefCounted};
 use cni_verbs::{Answer, Run};
 use gc_sweep::GcRun;
-use kernel_types::{Call, RefCounted, Reply};
+use kernel_types::{Call, Reply};
 use net_conf::NetList;
 use pod_file::{Command, Verb};
 use std::alloc::Global;

@@ -6,8 +6,7 @@ ghost use Rattle.tool_words.specs.Command.{most_pods};
 ghost use Rattle.tool_run.specs.Verdict.{generated_plan};
 
 use crate::laws::generated_plans_are_well_formed;
-use cni_addr::{Items, NoMemory};
-use kernel_types::RefCounted;
+use cni_addr::{Items, NoMemory, RefCounted};
 use pod_file::{Generated, generate};
 use pod_workers::Plan;
 use std::alloc::Global;

@@ -10,9 +10,8 @@ ghost use Rattle.tool_run.specs.Verdict.{stored_bytes, stored_list, stored_lists
 use crate::laws::read_plans_are_well_formed;
 use crate::lines::{error_line, reason_line};
 use crate::refusals::{blamed_file, list_error, plan_error, pods_error};
-use cni_addr::{Items, NoMemory, Text};
+use cni_addr::{Items, NoMemory, RefCounted, Text};
 use cni_io::{FileFault, Files};
-use kernel_types::RefCounted;
 use net_conf::{ConfError, NetList};
 use pod_file::{PodError, Pods};
 use pod_workers::Plan;

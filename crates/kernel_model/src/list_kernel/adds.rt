@@ -10,9 +10,9 @@ use super::HostLists;
 use crate::compared::contains;
 use crate::lists::push_both;
 use crate::lookups::{copy_tag, has_bridge_in, has_free_master, has_link_in, has_ns_in, link_in};
-use cni_addr::{Duplicate, NoMemory, Text};
+use cni_addr::{Duplicate, NoMemory, RefCounted, Text};
 use kernel_types::terms::{is_same_addr, is_same_route, is_same_setting};
-use kernel_types::{AddrObj, Link, RefCounted, Reply, RouteObj, Rule, Setting, Tag};
+use kernel_types::{AddrObj, Link, Reply, RouteObj, Rule, Setting, Tag};
 
 /// The same address on the same link.
 fn same_addr<'a>(addresses: &'a [AddrObj], obj: &AddrObj) -> Option<&'a AddrObj>

@@ -5,9 +5,9 @@ ghost use Rattle.kernel_types.specs.Apply.Calls.{cache_put_of, cache_get_of};
 
 use super::HostLists;
 use crate::lists::{any_own, find_own};
-use cni_addr::{Duplicate, NoMemory};
+use cni_addr::{Duplicate, NoMemory, RefCounted};
 use cni_result::Cached;
-use kernel_types::{Att, CachedObj, RefCounted, Reply, Tag};
+use kernel_types::{Att, CachedObj, Reply, Tag};
 
 impl HostLists {
     pub(crate) fn cache_put(

@@ -11,8 +11,8 @@ ghost use Rattle.kernel_types.specs.declared.call.Call.TheVariants.{NsChange, Ou
 use super::HostLists;
 use super::leaving::{AtPlace, InNamespace};
 use crate::lookups::{has_ns_in, link_in};
-use cni_addr::{NoMemory, Text};
-use kernel_types::{Change, LinkKey, NsObj, RefCounted, Reply, Rule, Setting, Table, Tag};
+use cni_addr::{NoMemory, RefCounted, Text};
+use kernel_types::{Change, LinkKey, NsObj, Reply, Rule, Setting, Table, Tag};
 
 fn drop_namespace(namespaces: &mut Vec<NsObj>, name: &Text)
     ensures { namespaces.new.items ≡ filter (λ n. not (bytes_eq n.name name.now)) namespaces.old.items }

@@ -4,9 +4,9 @@ ghost use Rattle.std.specs.Prelude.{◌≡◌, IfOk, OnErr};
 ghost use Rattle.kernel_types.specs.Apply.Calls.{cache_put_of, cache_get_of};
 
 use super::Tables;
-use cni_addr::{Duplicate, NoMemory};
+use cni_addr::{Duplicate, NoMemory, RefCounted};
 use cni_result::Cached;
-use kernel_types::{Att, CachedObj, RefCounted, Reply, Tag};
+use kernel_types::{Att, CachedObj, Reply, Tag};
 use std::alloc::Global;
 
 impl Tables {

@@ -8,7 +8,8 @@ ghost use Rattle.kernel_types.specs.declared.call.Call.TheVariants.{Outside};
 
 use super::Tables;
 use crate::row::Test;
-use kernel_types::{Change, RefCounted, Reply, Rule, Table};
+use cni_addr::RefCounted;
+use kernel_types::{Change, Reply, Rule, Table};
 
 /// The rules of a table.
 #[derive(Clone, Copy)]

@@ -7,8 +7,8 @@ ghost use Rattle.kernel_types.specs.Terms.{has_named_ns};
 
 use super::Tables;
 use crate::keys::{AddrKey, RouteKey, SettingKey};
-use cni_addr::{Duplicate, NoMemory, Text};
-use kernel_types::{AddrObj, LinkKey, RefCounted, Reply, RouteObj, Rule, Setting, Tag};
+use cni_addr::{Duplicate, NoMemory, RefCounted, Text};
+use kernel_types::{AddrObj, LinkKey, Reply, RouteObj, Rule, Setting, Tag};
 use std::alloc::Global;
 
 impl Tables {
