@@ -286,7 +286,7 @@ fn pool_question(
     alloc: Global,
     network: &Text,
     number: u32,
-    set: &RangeSet,
+    set: &RefCounted<RangeSet>,
 ) -> Result<Question, NoMemory>
     ensures { IfOk result (λ q. q ≡ asked.pool_question network.now number set.now) }
 {
@@ -301,7 +301,7 @@ fn pool_question(
 fn ask_pools(
     questions: &mut Vec<Question>,
     network: &Text,
-    sets: &[RangeSet],
+    sets: &[RefCounted<RangeSet>],
 ) -> Result<(), NoMemory>
     requires few { length sets.now ≤ most_sets }
     ensures { OnOk result (questions.new.items ≡ questions.old.items ++ asked.pool_questions network.now 0 sets.now) }

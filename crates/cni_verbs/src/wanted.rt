@@ -28,7 +28,7 @@ fn push_all<T: Drop>(list: &mut Vec<T>, more: Items<T>) -> Result<(), NoMemory>
 // ---- addresses
 
 /// The range sets of the list, of each of which an ADD leases one address. Takes no memory.
-pub(crate) fn sets_of(list: &NetList) -> &[RangeSet]
+pub(crate) fn sets_of(list: &NetList) -> &[RefCounted<RangeSet>]
     ensures all { result.now ≡ wanted.sets_of list.now }
     ensures few { length result.now ≤ most_sets }
 {

@@ -6,14 +6,18 @@ ghost use Rattle.ip_pool.specs.NextAddress.{is_between, is_candidate};
 ghost use Rattle.kernel_types.specs.declared.call.Call.TheVariants.{LeaseNext};
 ghost use Rattle.host_local.specs.Leases as leases;
 
-use cni_addr::{Addr, Cidr, Duplicate, Items, NoMemory, Range, RangeSet};
+use cni_addr::{Addr, Cidr, Duplicate, Items, NoMemory, Range, RangeSet, RefCounted};
 use ip_pool::is_between;
 use kernel_types::{Att, Call, Given, Kind};
 use net_conf::HostLocalConf;
 use std::alloc::Global;
 
-/// The lease from the set at this place, if there is one. Linear in the ranges of that set, which it copies.
-pub fn lease_at(sets: &[RangeSet], att: Att, place: u32) -> Result<Option<Call>, NoMemory>
+/// The lease from the set at this place, if there is one. It shares the set, so its ranges cost nothing.
+pub fn lease_at(
+    sets: &[RefCounted<RangeSet>],
+    att: Att,
+    place: u32,
+) -> Result<Option<Call>, NoMemory>
     ensures { IfOk result (λ next. next ≡ option_map (LeaseNext att place) (slice_get sets.now place)) }
 {
     match sets.get(place as usize) {
@@ -26,7 +30,7 @@ pub fn lease_at(sets: &[RangeSet], att: Att, place: u32) -> Result<Option<Call>,
     }
 }
 
-fn lease_from(att: &Att, number: u32, set: &RangeSet) -> Result<Call, NoMemory>
+fn lease_from(att: &Att, number: u32, set: &RefCounted<RangeSet>) -> Result<Call, NoMemory>
     ensures { IfOk result (λ lease. lease ≡ LeaseNext att.now number set.now) }
 {
     Ok(Call::LeaseNext {
@@ -36,7 +40,7 @@ fn lease_from(att: &Att, number: u32, set: &RangeSet) -> Result<Call, NoMemory>
     })
 }
 
-/// One lease of each range set, in order. Linear in the ranges.
+/// One lease of each range set, in order. Linear in the sets, which the calls share.
 pub fn lease_calls(alloc: Global, conf: &HostLocalConf, att: &Att) -> Result<Items<Call>, NoMemory>
     ensures { IfOk result (λ calls. calls ≡ leases.lease_calls_of conf.now.sets att.now) }
 {
@@ -82,13 +86,17 @@ fn find_given(set: &RangeSet, addr: &Addr) -> Option<Given>
 
 /// The k-th address by the k-th set. An address that no range of its set holds is left out, and no candidate is: see
 /// [`candidates_are_given`](crate::laws::candidates_are_given). Linear in the ranges of the sets.
-pub fn given_of(alloc: Global, sets: &[RangeSet], addrs: &[Addr]) -> Result<Vec<Given>, NoMemory>
+pub fn given_of(
+    alloc: Global,
+    sets: &[RefCounted<RangeSet>],
+    addrs: &[Addr],
+) -> Result<Vec<Given>, NoMemory>
     ensures { IfOk result (λ given. given.items ≡ leases.given_of sets.now addrs.now) }
 {
     Ok(
         sets.iter()
             .zip(addrs)
-            .filter_map(|(set, addr)| find_given(set, addr))
+            .filter_map(|(set, addr)| find_given(set.get(), addr))
             .collect(alloc)?,
     )
 }
@@ -110,7 +118,7 @@ pub fn given(conf: &HostLocalConf, set: u32, addr: &Addr) -> Given
     ensures { leases.given_at conf.now.sets set addr.now ≡ Some result }
 {
     match conf.sets.as_slice().get(set as usize) {
-        Some(set) => given_by_set(set, addr),
+        Some(set) => given_by_set(set.get(), addr),
         None => unreachable!(),
     }
 }

@@ -4,7 +4,7 @@ ghost use Rattle.std.specs.Prelude.{◌≡◌};
 ghost use Rattle.cni_addr.specs.declared.address.Family.TheVariants.{V4};
 
 use super::{given, given_of, ipam_result, lease_at, lease_calls, release_kinds};
-use cni_addr::{Addr, Cidr, Duplicate, Family, NoMemory, RangeSet, Text};
+use cni_addr::{Addr, Cidr, Duplicate, Family, NoMemory, RangeSet, RefCounted, Text};
 use cni_result::Version;
 use ip_pool::contains_candidate;
 use kernel_types::{Att, Call, Given, Kind};
@@ -73,7 +73,7 @@ fn means(network: u32, number: u32) -> Given {
 }
 
 /// Whether the call leases from this set for the container.
-fn leases(call: &Option<Call>, att: &Att, number: u32, set: &RangeSet) -> bool {
+fn leases(call: &Option<Call>, att: &Att, number: u32, set: &RefCounted<RangeSet>) -> bool {
     match call {
         Some(
             Call::LeaseNext {
@@ -126,7 +126,7 @@ fn an_address_is_given_by_the_range_of_its_set(rt: HostRuntime) -> Result<(), Fa
 fn given_by_first(conf: &HostLocalConf, addr: &Addr) -> Option<Given> {
     match conf.sets.as_slice().get(0) {
         Some(set) => {
-            if contains_candidate(set, addr) {
+            if contains_candidate(set.get(), addr) {
                 Some(given(conf, 0, addr))
             } else {
                 None

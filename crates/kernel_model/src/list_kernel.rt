@@ -123,7 +123,7 @@ impl HostLists {
             Call::RouteAdd { obj } => self.route_add(obj.get()),
             Call::RuleAppend { rule } => self.rule_append(rule),
             Call::SettingSet { setting } => self.setting_set(setting.get()),
-            Call::LeaseNext { att, number, set } => self.lease_next(att, *number, set),
+            Call::LeaseNext { att, number, set } => self.lease_next(att, *number, set.get()),
             Call::CachePut { att, cached } => self.cache_put(att, cached),
             Call::LinkDel { att } => Ok(self.link_del(att)),
             Call::RuleDel { att } => Ok(self.rule_del(att)),
@@ -133,7 +133,7 @@ impl HostLists {
             Call::HasObj { probe } => Ok(self.has_obj(probe)),
             Call::CacheGet { att } => self.cache_get(att),
             Call::OwnersOf { network, kind } => self.owners_of(alloc, network, *kind),
-            Call::PoolFree { network, set } => Ok(self.pool_free(network, set)),
+            Call::PoolFree { network, set } => Ok(self.pool_free(network, set.get())),
             Call::NsChange { name, add } => self.ns_change(name, *add),
             Call::Outside { change } => Ok(self.outside(change)),
         }

@@ -48,7 +48,7 @@ impl Tables {
             Call::RouteAdd { obj } => self.route_add(alloc, obj.get()),
             Call::RuleAppend { rule } => self.rule_append(alloc, rule),
             Call::SettingSet { setting } => self.setting_set(alloc, setting.get()),
-            Call::LeaseNext { att, number, set } => self.lease_next(alloc, att, *number, set),
+            Call::LeaseNext { att, number, set } => self.lease_next(alloc, att, *number, set.get()),
             Call::CachePut { att, cached } => self.cache_put(alloc, att, cached),
             Call::LinkDel { att } => Ok(self.link_del(att)),
             Call::RuleDel { att } => Ok(self.rule_del(att)),
@@ -58,7 +58,7 @@ impl Tables {
             Call::HasObj { probe } => Ok(self.has_obj(probe)),
             Call::CacheGet { att } => self.cache_get(att),
             Call::OwnersOf { network, kind } => self.owners_of(alloc, network, *kind),
-            Call::PoolFree { network, set } => Ok(self.pool_free(alloc, network, set)),
+            Call::PoolFree { network, set } => Ok(self.pool_free(alloc, network, set.get())),
             Call::NsChange { name, add } => self.ns_change(alloc, name, *add),
             Call::Outside { change } => Ok(self.outside(change)),
         }

@@ -5,7 +5,9 @@ ghost use Rattle.kernel_types.specs.declared.object.LinkKind.TheVariants as kind
 ghost use Rattle.kernel_types.specs.declared.object.Tag.TheVariants as tags;
 
 use crate::tokens::{RowError, addr_of, cidr_of, cut, link_tokens, number_of};
-use cni_addr::{Addr, Cidr, Family, Items, MacvlanMode, NoMemory, Range, RangeSet, Text};
+use cni_addr::{
+    Addr, Cidr, Family, Items, MacvlanMode, NoMemory, Range, RangeSet, RefCounted, Text,
+};
 use cni_result::{AddResult, Cached, Version, no_dns};
 use kernel_types::{
     AddrObj, Att, Chain, Lease, Link, LinkKey, LinkKind, RouteObj, Rule, Setting, Table, Tag,
@@ -230,10 +232,15 @@ fn range_of(subnet: Cidr, gateway: Addr, end: Addr) -> Option<Range> {
 }
 
 /// A set of one range, which has its gateway in it.
-fn set_of(alloc: Global, subnet: &str, gateway: &str, end: &str) -> Result<RangeSet, RowError> {
+fn set_of(
+    alloc: Global,
+    subnet: &str,
+    gateway: &str,
+    end: &str,
+) -> Result<RefCounted<RangeSet>, RowError> {
     let range = range_of(cidr_of(subnet)?, addr_of(gateway)?, addr_of(end)?);
     let ranges = one(alloc, range.ok_or(RowError::NoCall)?)?;
-    Ok(RangeSet { ranges })
+    Ok(RefCounted::of(alloc, RangeSet { ranges })?)
 }
 
 /// The place of a set among those of the network.
@@ -247,7 +254,7 @@ pub(crate) fn set_number(name: &str) -> Result<u32, RowError> {
 }
 
 /// The wide set, or one of those with one candidate: the tiny one, and the top one of IPv6.
-pub(crate) fn set(alloc: Global, name: &str) -> Result<RangeSet, RowError> {
+pub(crate) fn set(alloc: Global, name: &str) -> Result<RefCounted<RangeSet>, RowError> {
     match name {
         "wide" => set_of(alloc, "10.88.0.0/16", "10.88.0.1", "10.88.255.254"),
         "tiny" => set_of(alloc, "10.3.0.0/30", "10.3.0.1", "10.3.0.2"),

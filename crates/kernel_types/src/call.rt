@@ -138,7 +138,7 @@ pub enum Call {
     LeaseNext {
         att: Att,
         number: u32,
-        set: RangeSet,
+        set: RefCounted<RangeSet>,
     },
     /// The cached result of the attachment.
     CachePut {
@@ -181,7 +181,7 @@ pub enum Call {
     /// Asks whether the set has an address without a lease.
     PoolFree {
         network: Text,
-        set: RangeSet,
+        set: RefCounted<RangeSet>,
     },
     /// Makes a namespace from outside, or takes one away with all that is in it.
     NsChange {

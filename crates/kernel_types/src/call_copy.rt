@@ -167,7 +167,7 @@ fn copy_link_set(
 }
 
 #[inline(never)]
-fn copy_lease_next(att: &Att, number: u32, set: &RangeSet) -> Result<Call, NoMemory>
+fn copy_lease_next(att: &Att, number: u32, set: &RefCounted<RangeSet>) -> Result<Call, NoMemory>
     ensures { IfOk result (λ twin. twin ≡ calls.LeaseNext att.now number set.now) }
 {
     let att = att.copy()?;
@@ -185,7 +185,7 @@ fn copy_cache_put(att: &Att, cached: &RefCounted<Cached>) -> Result<Call, NoMemo
 }
 
 #[inline(never)]
-fn copy_pool_free(network: &Text, set: &RangeSet) -> Result<Call, NoMemory>
+fn copy_pool_free(network: &Text, set: &RefCounted<RangeSet>) -> Result<Call, NoMemory>
     ensures { IfOk result (λ twin. twin ≡ calls.PoolFree network.now set.now) }
 {
     let network = network.copy()?;

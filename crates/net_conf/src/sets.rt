@@ -13,7 +13,7 @@ use crate::apart::share_no_address;
 use crate::error::{ConfError, invalid};
 use crate::range_sets::{MOST_SETS, RangeSets};
 use crate::ranges::range;
-use cni_addr::{Family, Items, NoMemory, Range, RangeSet};
+use cni_addr::{Family, Items, NoMemory, Range, RangeSet, RefCounted};
 use cni_json::{Field, Value, field_list, member, read_each, read_each_after};
 use std::alloc::Global;
 
@@ -27,7 +27,7 @@ pub fn sets(alloc: Global, object: &Value) -> Result<RangeSets, ConfError>
 }
 
 #[tactic(auto, using(cni_json::proofs::Steps::steps), unfolding(crate::specs::Sets::sets_at))]
-fn own_and_listed(alloc: Global, object: &Value) -> Result<Items<RangeSet>, ConfError>
+fn own_and_listed(alloc: Global, object: &Value) -> Result<Items<RefCounted<RangeSet>>, ConfError>
     ensures { Gives is_out_of_memory result (defined.sets_at (view object.now)) }
 {
     let listed = listed(alloc, object)?;
@@ -109,7 +109,11 @@ fn all_objects(ranges: &[Value]) -> bool
 }
 
 #[tactic(auto, using(cni_json::proofs::Steps::steps))]
-fn own_sets(alloc: Global, has_own: bool, object: &Value) -> Result<Items<RangeSet>, ConfError>
+fn own_sets(
+    alloc: Global,
+    has_own: bool,
+    object: &Value,
+) -> Result<Items<RefCounted<RangeSet>>, ConfError>
     ensures { Gives is_out_of_memory result (defined.own_sets_of has_own (view object.now)) }
 {
     let mut own = Items::new(alloc);
@@ -117,26 +121,27 @@ fn own_sets(alloc: Global, has_own: bool, object: &Value) -> Result<Items<RangeS
         let range = range(alloc, object)?;
         let mut ranges = Items::new(alloc);
         ranges.push(range)?;
-        own.push(RangeSet { ranges })?;
+        let set = RefCounted::of(alloc, RangeSet { ranges })?;
+        own.push(set)?;
     }
     Ok(own)
 }
 
 #[tactic(auto, using(cni_json::proofs::Steps::steps))]
-fn set(alloc: Global, member: &Value) -> Result<RangeSet, ConfError>
+fn set(alloc: Global, member: &Value) -> Result<RefCounted<RangeSet>, ConfError>
     ensures { Gives is_out_of_memory result (defined.set_of (view member.now)) }
 {
     match member {
         Value::Array(list) => {
             let ranges = read_each(alloc, list.as_slice(), |member| range(alloc, member))?;
-            Ok(RangeSet { ranges })
+            Ok(RefCounted::of(alloc, RangeSet { ranges })?)
         }
         _ => Err(invalid(alloc, "ranges")),
     }
 }
 
 #[tactic(auto, using(cni_json::proofs::Steps::steps))]
-fn separate(alloc: Global, sets: &[RangeSet]) -> Result<(), ConfError>
+fn separate(alloc: Global, sets: &[RefCounted<RangeSet>]) -> Result<(), ConfError>
     ensures { Gives is_out_of_memory result (defined.separate sets.now) }
 {
     let mut ranges = ranges_of(alloc, sets)?;
@@ -146,20 +151,20 @@ fn separate(alloc: Global, sets: &[RangeSet]) -> Result<(), ConfError>
 }
 
 /// All ranges, set by set.
-fn ranges_of(alloc: Global, sets: &[RangeSet]) -> Result<Vec<Range>, NoMemory>
+fn ranges_of(alloc: Global, sets: &[RefCounted<RangeSet>]) -> Result<Vec<Range>, NoMemory>
     ensures { IfOk result (λ all. all.items ≡ defined.ranges_of sets.now) }
 {
     let mut all = Vec::new(alloc);
     for set in sets {
-        all.extend_from_slice(set.ranges.as_slice())?;
+        all.extend_from_slice(set.get().ranges.as_slice())?;
     }
     Ok(all)
 }
 
-fn all_of_one_family(sets: &[RangeSet]) -> bool
+fn all_of_one_family(sets: &[RefCounted<RangeSet>]) -> bool
     ensures { result ≡ list_all defined.is_of_one_family sets.now }
 {
-    sets.iter().all(|set| is_of_one_family(set))
+    sets.iter().all(|set| is_of_one_family(set.get()))
 }
 
 fn is_of_one_family(set: &RangeSet) -> bool

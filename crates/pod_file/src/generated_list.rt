@@ -4,7 +4,7 @@ ghost use Rattle.std.specs.Prelude.{◌≡◌, IfOk};
 ghost use Rattle.cni_addr.specs.declared.address.Family.TheVariants.{V4};
 ghost use Rattle.pod_file.specs.Generator as defined;
 
-use cni_addr::{Addr, Cidr, Family, Items, NoMemory, Range, RangeSet, Text};
+use cni_addr::{Addr, Cidr, Family, Items, NoMemory, Range, RangeSet, RefCounted, Text};
 use cni_result::{Version, no_dns};
 use link_names::BridgeName;
 use net_conf::{
@@ -48,7 +48,8 @@ fn addresses_of_tens(alloc: Global) -> Result<HostLocalConf, NoMemory>
     let mut ranges = Items::new(alloc);
     ranges.push(range_of_tens())?;
     let mut sets = Items::new(alloc);
-    sets.push(RangeSet { ranges })?;
+    let set = RefCounted::of(alloc, RangeSet { ranges })?;
+    sets.push(set)?;
     Ok(HostLocalConf {
         sets: RangeSets::of_items(sets),
         routes: Items::new(alloc),
