@@ -5,7 +5,7 @@ use Rattle.std.specs.Str.{bytes_eq}
 use Rattle.std.specs.List.{list_any, slice_split, onto_first, position_or_len, before_first, after_first, cons_option}
 use Rattle.std.proofs.lemmas.Bool.{or_parts}
 use Rattle.std.proofs.lemmas.List.Splits.{slice_split-cons_yes, slice_split-cons_no, slice_split_first, length-slice_split}
-use Rattle.cni_verbs.specs.CommandFields.{pair_of, argument_of}
+use Rattle.cni_errors.specs.CommandFields.{pair_of, argument_of}
 
 abbrev pub is_equals : ℕ → Bool
 is_equals b = eqb b 61

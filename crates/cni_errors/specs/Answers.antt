@@ -1,4 +1,4 @@
--- What a run that has come to its end answers (CNI specification, section 5, "Error"; codes from 100 on are this
+-- What a verb that refuses answers (CNI specification, section 5, "Error"; codes from 100 on are this
 -- project's own).
 use Rattle.std.specs.Prelude.{ℕ, Bool, List, [], ◌∷◌, ◌++◌, map, codes, if◌then◌else◌}
 use Rattle.std.specs.Fmt.{decimal}
@@ -7,33 +7,28 @@ use Rattle.serde_json.specs.Data.{string}
 use Rattle.serde_json.specs.Written.{compact_text}
 use Rattle.cni_addr.specs.AddrText.{addr_text}
 use Rattle.cni_addr.specs.CidrText.{cidr_text}
-use Rattle.cni_addr.specs.declared.address.Addr.{Addr}
 use Rattle.cni_addr.specs.declared.address.Cidr.{Cidr}
 use Rattle.cni_result.specs.declared.error.CniError.{CniError}
 use Rattle.cni_result.specs.Versions.{version_text}
 use Rattle.cni_result.specs.declared.version.Version.{Version}
-use Rattle.cni_result.specs.declared.version.Version.TheVariants.{V1_1}
-use Rattle.net_conf.specs.declared.list.NetList.{NetList}
 use Rattle.pod_file.specs.declared.command.Command.{Command}
 use Rattle.pod_file.specs.Commands.{verb_text}
 use Rattle.kernel_text.specs.Texts.{attachment_text, tag_text, chain_text}
 use Rattle.kernel_types.specs.Texts.{table_text}
 use Rattle.kernel_types.specs.Terms.{is_host_ns}
-use Rattle.cni_verbs.specs.CommandFields.{att_of}
-use Rattle.cni_verbs.specs.ErrorKinds.{error_kind_code, error_kind_title, message_about, message_of_field}
-use Rattle.cni_verbs.specs.Script.{Finish}
-use Rattle.cni_verbs.specs.Wanted.{result_of_add}
-use Rattle.cni_verbs.specs.declared.answer.Answer.{Answer}
-use Rattle.cni_verbs.specs.declared.answer.Answer.TheVariants as answers
-use Rattle.cni_verbs.specs.declared.answer.Cause.{Cause}
-use Rattle.cni_verbs.specs.declared.answer.Cause.TheVariants.{BadFields, IpArgument, BadMapping, NoNamespace, NameTaken, PoolEmpty, NoMaster, Fault, Faults, TooOld, Unknown, NoFreeAddress, MasterAbsent, NothingThere, Missing}
-use Rattle.cni_verbs.specs.declared.answer.Ending.{Ending}
-use Rattle.cni_verbs.specs.declared.answer.Ending.TheVariants.{Added, Yes, Skipped, Versions, Refused}
-use Rattle.cni_verbs.specs.declared.answer.Missed.{Missed}
-use Rattle.cni_verbs.specs.declared.answer.Missed.TheVariants as missed
-use Rattle.cni_verbs.specs.declared.answer.WrongFields.{WrongFields}
-use Rattle.cni_verbs.specs.declared.error_kind.ErrorKind.{ErrorKind}
-use Rattle.cni_verbs.specs.declared.error_kind.ErrorKind.TheVariants as kinds
+use Rattle.cni_errors.specs.CommandFields.{att_of}
+use Rattle.cni_errors.specs.ErrorKinds.{error_kind_code, error_kind_title, message_about, message_of_field}
+use Rattle.cni_errors.specs.declared.answer.Answer.{Answer}
+use Rattle.cni_errors.specs.declared.answer.Answer.TheVariants as answers
+use Rattle.cni_errors.specs.declared.answer.Cause.{Cause}
+use Rattle.cni_errors.specs.declared.answer.Cause.TheVariants.{BadFields, IpArgument, BadMapping, NoNamespace, NameTaken, PoolEmpty, NoMaster, Fault, Faults, TooOld, Unknown, NoFreeAddress, MasterAbsent, NothingThere, Missing}
+use Rattle.cni_errors.specs.declared.answer.Ending.{Ending}
+use Rattle.cni_errors.specs.declared.answer.Ending.TheVariants.{Added, Yes, Skipped, Versions, Refused}
+use Rattle.cni_errors.specs.declared.answer.Missed.{Missed}
+use Rattle.cni_errors.specs.declared.answer.Missed.TheVariants as missed
+use Rattle.cni_errors.specs.declared.answer.WrongFields.{WrongFields}
+use Rattle.cni_errors.specs.declared.error_kind.ErrorKind.{ErrorKind}
+use Rattle.cni_errors.specs.declared.error_kind.ErrorKind.TheVariants as kinds
 
 abbrev pub kind_of : Cause → ErrorKind
 kind_of (BadFields wrong) = kinds.InvalidVariables
@@ -144,18 +139,3 @@ plain_answer version c Yes = answers.Yes
 plain_answer version c (Skipped skip) = answers.Skipped skip
 plain_answer version c Versions = answers.Versions version
 plain_answer version c (Refused cause) = answers.Refused (error_of version c cause)
-
--- an ADD has the result that its last plugin made
-abbrev pub answer_of_ending : NetList → Command → Ending → List Addr → Answer
-answer_of_ending list c Added given = answers.Added (result_of_add list (att_of c) c.netns given)
-answer_of_ending list c ending given = plain_answer list.version c ending
-
-unfoldable pub answer_of : NetList → Command → Finish → Answer
-answer_of list c finish = answer_of_ending list c finish.ending finish.given
-
--- a change from outside has no list, and its errors are of the newest version
-abbrev pub outside_by : Command → Ending → Answer
-outside_by c ending = plain_answer V1_1 c ending
-
-unfoldable pub answer_outside : Command → Finish → Answer
-answer_outside c finish = outside_by c finish.ending

@@ -11,16 +11,13 @@ use Rattle.cni_result.specs.declared.cached.PortMapping.{PortMapping}
 use Rattle.cni_result.specs.declared.cached.Proto.{Proto}
 use Rattle.cni_result.specs.declared.cached.Proto.TheVariants.{Tcp}
 use Rattle.net_conf.specs.Names.{is_container_id, is_interface_name}
-use Rattle.net_conf.specs.declared.chained.Chained.{Chained}
-use Rattle.net_conf.specs.declared.list.NetList.{NetList}
 use Rattle.pod_file.specs.declared.command.Command.{Command}
 use Rattle.pod_file.specs.declared.command.RawMapping.{RawMapping}
 use Rattle.kernel_types.specs.Terms.{is_host_ns}
 use Rattle.kernel_types.specs.declared.object.Att.{Att}
-use Rattle.cni_verbs.specs.Plugins.{chained_plugin_of}
-use Rattle.cni_verbs.specs.declared.answer.Cause.{Cause}
-use Rattle.cni_verbs.specs.declared.answer.Cause.TheVariants.{BadFields, IpArgument, BadMapping}
-use Rattle.cni_verbs.specs.declared.answer.WrongFields.{WrongFields}
+use Rattle.cni_errors.specs.declared.answer.Cause.{Cause}
+use Rattle.cni_errors.specs.declared.answer.Cause.TheVariants.{BadFields, IpArgument, BadMapping}
+use Rattle.cni_errors.specs.declared.answer.WrongFields.{WrongFields}
 
 -- the attachment that a command speaks of
 abbrev pub att_of : Command → Att
@@ -82,14 +79,6 @@ mapping_by host_port container_port (Some protocol) (Some host_ip) =
 -- the mapping, where it can be taken
 abbrev pub mapping_of : RawMapping → Option PortMapping
 mapping_of raw = mapping_by raw.host_port raw.container_port (proto_of raw.protocol) (host_ip_of raw.host_ip)
-
--- the plugin asks for the mappings; where one of a list does, all are handed them
-abbrev pub takes_mappings : Chained → Bool
-takes_mappings c = (chained_plugin_of c).takes_mappings
-
--- the mappings that reach the plugins of the list
-unfoldable pub mappings_of : NetList → Command → List PortMapping
-mappings_of list c = if list_any takes_mappings list.chained then filter_map mapping_of c.mappings else []
 
 -- ---- the tests, in order
 

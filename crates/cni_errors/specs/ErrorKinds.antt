@@ -3,8 +3,8 @@
 use Rattle.std.specs.Prelude.{ℕ, List, [], ◌++◌, codes}
 use Rattle.cni_result.specs.declared.error.CniError.{CniError}
 use Rattle.cni_result.specs.declared.version.Version.TheVariants.{V1_1}
-use Rattle.cni_verbs.specs.declared.error_kind.ErrorKind.{ErrorKind}
-use Rattle.cni_verbs.specs.declared.error_kind.ErrorKind.TheVariants.{IncompatibleVersion, UnsupportedField, ContainerUnknown, InvalidVariables, DecodingFailed, InvalidList, InvalidPodFile, NotAvailable, NamespaceMissing, NameTaken, PoolEmpty, KernelFault, OutOfMemory, NothingThere, CheckFailed}
+use Rattle.cni_errors.specs.declared.error_kind.ErrorKind.{ErrorKind}
+use Rattle.cni_errors.specs.declared.error_kind.ErrorKind.TheVariants.{IncompatibleVersion, UnsupportedField, ContainerUnknown, InvalidVariables, DecodingFailed, InvalidList, InvalidPodFile, InvalidPacketFile, NotAvailable, NamespaceMissing, NameTaken, PoolEmpty, KernelFault, OutOfMemory, NothingThere, CheckFailed}
 
 abbrev pub error_kind_code : ErrorKind → ℕ
 error_kind_code IncompatibleVersion = 1
@@ -14,6 +14,7 @@ error_kind_code InvalidVariables = 4
 error_kind_code DecodingFailed = 6
 error_kind_code InvalidList = 7
 error_kind_code InvalidPodFile = 7
+error_kind_code InvalidPacketFile = 7
 error_kind_code NotAvailable = 50
 error_kind_code NamespaceMissing = 100
 error_kind_code NameTaken = 101
@@ -31,6 +32,7 @@ error_kind_title InvalidVariables = codes "invalid environment variables"
 error_kind_title DecodingFailed = codes "decoding failed"
 error_kind_title InvalidList = codes "invalid network configuration"
 error_kind_title InvalidPodFile = codes "invalid pod file"
+error_kind_title InvalidPacketFile = codes "invalid packet file"
 error_kind_title NotAvailable = codes "not available"
 error_kind_title NamespaceMissing = codes "namespace missing"
 error_kind_title NameTaken = codes "name taken"

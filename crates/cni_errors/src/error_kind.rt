@@ -2,7 +2,7 @@
 //! "Error").
 
 ghost use Rattle.std.specs.Prelude.{◌≡◌, IfOk};
-ghost use Rattle.cni_verbs.specs.ErrorKinds as kinds;
+ghost use Rattle.cni_errors.specs.ErrorKinds as kinds;
 
 use cni_addr::{NoMemory, Text};
 use cni_result::{CniError, Version};
@@ -26,6 +26,8 @@ pub enum ErrorKind {
     InvalidList,
     /// A pod file that is wrong (code 7).
     InvalidPodFile,
+    /// A packet file that is wrong (code 7).
+    InvalidPacketFile,
     /// An ADD could not be served now (code 50).
     NotAvailable,
     /// A namespace that isn't there (code 100).
@@ -55,7 +57,7 @@ impl ErrorKind {
             ErrorKind::ContainerUnknown => 3,
             ErrorKind::InvalidVariables => 4,
             ErrorKind::DecodingFailed => 6,
-            ErrorKind::InvalidList | ErrorKind::InvalidPodFile => 7,
+            ErrorKind::InvalidList | ErrorKind::InvalidPodFile | ErrorKind::InvalidPacketFile => 7,
             ErrorKind::NotAvailable => 50,
             ErrorKind::NamespaceMissing => 100,
             ErrorKind::NameTaken => 101,
@@ -79,6 +81,7 @@ impl ErrorKind {
             ErrorKind::DecodingFailed => "decoding failed",
             ErrorKind::InvalidList => "invalid network configuration",
             ErrorKind::InvalidPodFile => "invalid pod file",
+            ErrorKind::InvalidPacketFile => "invalid packet file",
             ErrorKind::NotAvailable => "not available",
             ErrorKind::NamespaceMissing => "namespace missing",
             ErrorKind::NameTaken => "name taken",

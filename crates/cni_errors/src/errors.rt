@@ -3,9 +3,9 @@
 ghost use Rattle.std.specs.Prelude.{◌≡◌, ◌++◌, map, string_bytes, IfOk, OnOk};
 ghost use Rattle.serde_json.specs.Data.{string};
 ghost use Rattle.serde_json.specs.Written.{compact_text};
-ghost use Rattle.cni_verbs.specs.Answers as answers;
+ghost use Rattle.cni_errors.specs.Answers as answers;
 
-use crate::answer::{Answer, Cause, WrongFields};
+use crate::answer::{Answer, Cause, Ending, WrongFields};
 use crate::error_kind::{ErrorKind, message_of_field};
 use crate::fields::att_of;
 use crate::missed::{missed_text, spaced};
@@ -46,7 +46,8 @@ fn push_if(alloc: Global, names: &mut Items<Text>, fault: bool, name: &str) -> R
     Ok(())
 }
 
-fn variables_of(alloc: Global, wrong: WrongFields) -> Result<Items<Text>, NoMemory>
+/// The environment variables of the fields that are wrong.
+pub fn variables_of(alloc: Global, wrong: WrongFields) -> Result<Items<Text>, NoMemory>
     ensures { IfOk result (λ names. names ≡ answers.variables_of wrong) }
 {
     let mut names = Items::new(alloc);
@@ -58,7 +59,7 @@ fn variables_of(alloc: Global, wrong: WrongFields) -> Result<Items<Text>, NoMemo
 }
 
 /// The texts with `, ` between them.
-fn joined(alloc: Global, names: &[Text]) -> Result<Text, NoMemory>
+pub fn joined_by_comma(alloc: Global, names: &[Text]) -> Result<Text, NoMemory>
     ensures { IfOk result (λ text. text ≡ answers.joined_by_comma names.now) }
 {
     Text::of(alloc, names.join(alloc, ", ")?.as_str())
@@ -68,7 +69,7 @@ fn fields_message(alloc: Global, wrong: WrongFields) -> Result<Text, NoMemory>
     ensures { IfOk result (λ msg. msg ≡ answers.message_of (Cause.BadFields wrong)) }
 {
     let names = variables_of(alloc, wrong)?;
-    let names = joined(alloc, names.as_slice())?;
+    let names = joined_by_comma(alloc, names.as_slice())?;
     ErrorKind::InvalidVariables.message_about(alloc, names.as_str())
 }
 
@@ -130,7 +131,7 @@ fn calls_text(alloc: Global, numbers: &[u64]) -> Result<Text, NoMemory>
     ensures { IfOk result (λ text. text ≡ answers.joined_by_comma (map answers.call_text numbers.now)) }
 {
     let texts = call_texts(alloc, numbers)?;
-    joined(alloc, texts.as_slice())
+    joined_by_comma(alloc, texts.as_slice())
 }
 
 fn details_of(alloc: Global, command: &Command, cause: &Cause) -> Result<Text, NoMemory>
@@ -172,7 +173,7 @@ fn error_of(
 }
 
 /// The answer of a verb that refuses for this cause, in the version of its list.
-pub(crate) fn refused(
+fn refused(
     alloc: Global,
     version: Version,
     command: &Command,
@@ -181,4 +182,22 @@ pub(crate) fn refused(
     ensures { IfOk result (λ answer. answer ≡ Answer.Refused (answers.error_of version command.now cause.now)) }
 {
     Ok(Answer::Refused(error_of(alloc, version, command, cause)?))
+}
+
+/// The answer to an ending without a result of its own, in this version. `Added` has one, and is Yes here: a run of no
+/// network and a GC, which are answered by this alone, never end so.
+pub fn plain_answer(
+    alloc: Global,
+    version: Version,
+    command: &Command,
+    ending: &Ending,
+) -> Result<Answer, NoMemory>
+    ensures { IfOk result (λ answer. answer ≡ answers.plain_answer version command.now ending.now) }
+{
+    match ending {
+        Ending::Added | Ending::Yes => Ok(Answer::Yes),
+        Ending::Skipped(skip) => Ok(Answer::Skipped(*skip)),
+        Ending::Versions => Ok(Answer::Versions(version)),
+        Ending::Refused(cause) => refused(alloc, version, command, cause),
+    }
 }

@@ -1,23 +1,22 @@
 //! What a verb asks of its command's fields, before its first call.
 
-ghost use Rattle.std.specs.Prelude.{◌≡◌, ◌==◌, ◌&&◌, not, length, Some, None, is_some, find, filter_map, option_map, option_to_list, IfOk};
+ghost use Rattle.std.specs.Prelude.{◌≡◌, ◌==◌, ◌&&◌, not, length, Some, None, is_some, find, option_map, option_to_list, IfOk};
 ghost use Rattle.std.specs.List.{list_all, list_any, slice_split};
 ghost use Rattle.std.specs.Option.{option_copied};
 ghost use Rattle.std.specs.Str.{bytes_eq};
-ghost use Rattle.cni_verbs.specs.CommandFields as fields;
+ghost use Rattle.cni_errors.specs.CommandFields as fields;
 
 use crate::answer::{Cause, WrongFields};
-use crate::plugins::takes_mappings;
-use cni_addr::{Addr, Duplicate, Items, NoMemory, Text, read_addr};
+use cni_addr::{Addr, Duplicate, NoMemory, Text, read_addr};
 use cni_result::{PortMapping, Proto, proto_named};
 use kernel_types::terms::is_host_ns;
 use kernel_types::{Att, NamedAtt};
-use net_conf::{Chained, NetList, is_container_id, is_interface_name};
+use net_conf::{is_container_id, is_interface_name};
 use pod_file::{Command, RawMapping};
 use std::alloc::Global;
 
 /// The attachment that the command speaks of.
-pub(crate) fn att_of(command: &Command) -> Result<Att, NoMemory>
+pub fn att_of(command: &Command) -> Result<Att, NoMemory>
     ensures { IfOk result (λ att. att ≡ fields.att_of command.now) }
 {
     Ok(Att {
@@ -28,7 +27,7 @@ pub(crate) fn att_of(command: &Command) -> Result<Att, NoMemory>
 }
 
 /// The attachment that the command speaks of, with the names that are derived from it.
-pub(crate) fn named_att_of(alloc: Global, command: &Command) -> Result<NamedAtt, NoMemory>
+pub fn named_att_of(alloc: Global, command: &Command) -> Result<NamedAtt, NoMemory>
     ensures { IfOk result (λ att. att ≡ fields.att_of command.now) }
 {
     NamedAtt::of(alloc, att_of(command)?)
@@ -79,7 +78,7 @@ fn all_arguments(text: &str) -> bool
 /// Whether the text is nothing, or `KEY=VALUE` pairs that `;` joins (CNI specification, section 2, `CNI_ARGS`). No key
 /// is empty, and `=` stands once in each pair. Takes no memory.
 #[tactic(auto, unfolding(crate::specs::CommandFields::are_arguments))]
-fn are_arguments(text: &str) -> bool
+pub fn are_arguments(text: &str) -> bool
     ensures { result ≡ fields.are_arguments text.now }
 {
     text.is_empty() || all_arguments(text)
@@ -97,7 +96,7 @@ fn value_if<'a>(key: &str, piece: &'a str) -> Option<&'a str>
 }
 
 /// The value of the first pair with this key, if there is one. What isn't a pair is ignored. Takes no memory.
-fn value_of_argument<'a>(key: &str, text: &'a str) -> Option<&'a str>
+pub fn value_of_argument<'a>(key: &str, text: &'a str) -> Option<&'a str>
     ensures { option_copied result ≡ fields.value_of_argument key.now text.now }
 {
     let mut rest = text;
@@ -171,7 +170,7 @@ fn mapping_by(
 /// The mapping, where both ports are 1 to 65535, the protocol is `tcp`, `udp`, `sctp` or not given, and the address is
 /// one or not given (the `portMappings` capability). `0.0.0.0` and `::` restrict no more than no address does. Takes no
 /// memory.
-fn mapping_of(raw: &RawMapping) -> Option<PortMapping>
+pub fn mapping_of(raw: &RawMapping) -> Option<PortMapping>
     ensures { result ≡ fields.mapping_of raw.now }
 {
     let protocol = proto_of(raw.protocol.as_str())?;
@@ -185,57 +184,15 @@ fn can_be_taken(raw: &RawMapping) -> bool
     mapping_of(raw).is_some()
 }
 
-/// Whether some plugin is handed the mappings.
-fn some_takes(chained: &[Chained]) -> bool
-    ensures { result ≡ list_any fields.takes_mappings chained.now }
-{
-    chained.iter().any(|plugin| takes_mappings(plugin))
-}
-
-fn all_mappings(alloc: Global, raws: &[RawMapping]) -> Result<Vec<PortMapping>, NoMemory>
-    ensures { IfOk result (λ mappings. mappings.items ≡ filter_map fields.mapping_of raws.now) }
-{
-    Ok(
-        raws.iter()
-            .filter_map(|raw| mapping_of(raw))
-            .collect(alloc)?,
-    )
-}
-
-/// What the command gives of the mappings that reach the plugins of the list: nothing where no plugin asks for them.
-/// Takes no memory.
-#[tactic(auto, unfolding(crate::specs::CommandFields::mappings_of))]
-fn raw_mappings<'a>(list: &NetList, command: &'a Command) -> &'a [RawMapping]
-    ensures { filter_map fields.mapping_of result.now ≡ fields.mappings_of list.now command.now }
-{
-    if some_takes(list.chained.as_slice()) {
-        command.mappings.as_slice()
-    } else {
-        &[]
-    }
-}
-
-/// The mappings that reach the plugins of the list: none where no plugin asks for them.
-pub(crate) fn mappings_of(
-    alloc: Global,
-    list: &NetList,
-    command: &Command,
-) -> Result<Items<PortMapping>, NoMemory>
-    ensures { IfOk result (λ mappings. mappings ≡ fields.mappings_of list.now command.now) }
-{
-    let mappings = all_mappings(alloc, raw_mappings(list, command))?;
-    Ok(Items::of_vec(mappings))
-}
-
 // ---- the tests, in order
 
-fn any_wrong(wrong: WrongFields) -> bool
+pub fn any_wrong(wrong: WrongFields) -> bool
     ensures { result ≡ fields.any_wrong wrong }
 {
     wrong.container || wrong.netns || wrong.ifname || wrong.args
 }
 
-fn none_wrong() -> WrongFields
+pub fn none_wrong() -> WrongFields
     ensures { result ≡ fields.none_wrong }
 {
     WrongFields {
@@ -285,7 +242,7 @@ fn mapping_refusal(command: &Command) -> Option<Cause>
 /// Why an ADD refuses its fields, if it does: fields outside their grammar come before the argument `IP`, and that
 /// before the mappings.
 #[tactic(auto, unfolding(crate::specs::CommandFields::add_refusal))]
-pub(crate) fn add_refusal(alloc: Global, command: &Command) -> Result<Option<Cause>, NoMemory>
+pub fn add_refusal(alloc: Global, command: &Command) -> Result<Option<Cause>, NoMemory>
     ensures { IfOk result (λ cause. cause ≡ fields.add_refusal command.now) }
 {
     if let Some(cause) = refusal_by(wrong_for_add(command)) {
@@ -309,7 +266,7 @@ fn refusal_by(wrong: WrongFields) -> Option<Cause>
 
 /// Why a DEL or a CHECK refuses its fields, if it does. They need neither a namespace nor arguments. Takes no memory.
 #[tactic(auto, unfolding(crate::specs::CommandFields::del_refusal))]
-pub(crate) fn del_refusal(command: &Command) -> Option<Cause>
+pub fn del_refusal(command: &Command) -> Option<Cause>
     ensures { result ≡ fields.del_refusal command.now }
 {
     refusal_by(wrong_for_del(command))
@@ -317,7 +274,7 @@ pub(crate) fn del_refusal(command: &Command) -> Option<Cause>
 
 /// Why a change of a namespace refuses its fields, if it does: it needs the namespace. Takes no memory.
 #[tactic(auto, unfolding(crate::specs::CommandFields::netns_refusal))]
-pub(crate) fn netns_refusal(command: &Command) -> Option<Cause>
+pub fn netns_refusal(command: &Command) -> Option<Cause>
     ensures { result ≡ fields.netns_refusal command.now }
 {
     refusal_by(WrongFields {
@@ -328,7 +285,7 @@ pub(crate) fn netns_refusal(command: &Command) -> Option<Cause>
 
 /// Why the loss of a link refuses its fields, if it does: it needs the namespace and the link's name. Takes no memory.
 #[tactic(auto, unfolding(crate::specs::CommandFields::drop_refusal))]
-pub(crate) fn drop_refusal(command: &Command) -> Option<Cause>
+pub fn drop_refusal(command: &Command) -> Option<Cause>
     ensures { result ≡ fields.drop_refusal command.now }
 {
     refusal_by(WrongFields {

@@ -1,7 +1,7 @@
 //! What a check missed, as its error names it.
 
 ghost use Rattle.std.specs.Prelude.{◌≡◌, IfOk};
-ghost use Rattle.cni_verbs.specs.Answers as answers;
+ghost use Rattle.cni_errors.specs.Answers as answers;
 
 use crate::answer::Missed;
 use cni_addr::{Addr, Cidr, NoMemory, Text, write_addr, write_cidr};

@@ -13,7 +13,7 @@ use Rattle.kernel_types.specs.declared.call.Call.{Call}
 use Rattle.kernel_types.specs.declared.call.Call.TheVariants.{CachePut}
 use Rattle.kernel_types.specs.declared.call.Given.{Given}
 use Rattle.plugin_base.proofs.KeyLists.{list_all-append}
-use Rattle.cni_verbs.specs.Wanted.{all_chained_calls, back_calls, cached_of, calls_after, chained_calls, chained_result, first_plugin_result, given_by_list}
+use Rattle.plugin_chain.specs.Wanted.{all_chained_calls, back_calls, cached_of, calls_after, chained_calls, chained_result, first_plugin_result, given_by_list}
 
 -- the calls of a chained plugin pass, whatever addresses it is handed
 abbrev pub PassesChained : (Call → Bool) → Att → List ℕ → List PortMapping → Chained → Type 0

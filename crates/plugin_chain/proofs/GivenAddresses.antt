@@ -8,8 +8,8 @@ use Rattle.net_conf.specs.declared.first.HostLocalConf.{HostLocalConf}
 use Rattle.kernel_types.specs.declared.object.Att.{Att}
 use Rattle.kernel_types.specs.declared.call.Given.{Given}
 use Rattle.host_local.specs.Results.{ip_of, ipam_result_of}
-use Rattle.cni_verbs.specs.Wanted.{chained_result, first_result}
-use Rattle.cni_verbs.proofs.PluginLaws.{chained_laws, first_laws}
+use Rattle.plugin_chain.specs.Wanted.{chained_result, first_result}
+use Rattle.plugin_chain.proofs.PluginLaws.{chained_laws, first_laws}
 
 -- a chained plugin keeps the addresses
 pub chained-ips : (c : Chained) (prev : AddResult) → (chained_result c prev).ips ≡ prev.ips

@@ -14,8 +14,8 @@ use Rattle.firewall_tuning.proofs.FirewallLaws.{firewall_laws}
 use Rattle.firewall_tuning.proofs.TuningLaws.{tuning_laws}
 use Rattle.macvlan.proofs.MacvlanLaws.{macvlan_laws}
 use Rattle.portmap.proofs.PortmapLaws.{portmap_laws}
-use Rattle.cni_verbs.specs.Plugins.{chained_plugin_of, plugin_of}
-use Rattle.cni_verbs.specs.Wanted.{ipam_of, sets_links}
+use Rattle.plugin_chain.specs.Plugins.{chained_plugin_of, plugin_of}
+use Rattle.plugin_chain.specs.Wanted.{ipam_of, sets_links}
 
 pub first_laws : (first : First) → FirstLaws (plugin_of first)
 unfolding plugin_of

@@ -22,10 +22,10 @@ use Rattle.kernel_types.specs.Terms.{lease_of}
 use Rattle.plugin_base.specs.Plugins.{added_after, changed_by}
 use Rattle.plugin_base.specs.Share.{Share, no_objects, share_after_calls}
 use Rattle.plugin_base.proofs.CallLists.{share_after_calls-append, share_plus-laid_on, share_plus-links}
-use Rattle.cni_verbs.specs.Plugins.{chained_plugin_of, plugin_of}
-use Rattle.cni_verbs.specs.Wanted.{calls_before, calls_after, rules_of, settings_of, links_after, chained_calls, chained_result, all_chained_calls, all_links_after, given_by_list, first_plugin_result, cached_of, wanted, back_calls}
-use Rattle.cni_verbs.proofs.GivenAddresses.{chained-ips}
-use Rattle.cni_verbs.proofs.PluginLaws.{chained_laws, first_laws}
+use Rattle.plugin_chain.specs.Plugins.{chained_plugin_of, plugin_of}
+use Rattle.plugin_chain.specs.Wanted.{calls_before, calls_after, rules_of, settings_of, links_after, chained_calls, chained_result, all_chained_calls, all_links_after, given_by_list, first_plugin_result, cached_of, wanted, back_calls}
+use Rattle.plugin_chain.proofs.GivenAddresses.{chained-ips}
+use Rattle.plugin_chain.proofs.PluginLaws.{chained_laws, first_laws}
 
 -- ---- the first plugin
 

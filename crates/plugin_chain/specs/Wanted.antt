@@ -28,7 +28,7 @@ use Rattle.plugin_base.specs.Share.{Share}
 use Rattle.host_local.specs.Conf.{range_sets_of}
 use Rattle.host_local.specs.Leases.{given_of, lease_calls_of}
 use Rattle.host_local.specs.Results.{ipam_result_of}
-use Rattle.cni_verbs.specs.Plugins.{chained_plugin_of, plugin_of}
+use Rattle.plugin_chain.specs.Plugins.{chained_plugin_of, plugin_of}
 
 -- ---- the first plugin
 

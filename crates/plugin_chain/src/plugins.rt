@@ -2,7 +2,7 @@
 
 ghost use Rattle.std.specs.Prelude.{◌≡◌, ◌<◌, length, IfOk};
 ghost use Rattle.std.specs.Option.{option_copied};
-ghost use Rattle.cni_verbs.specs.Plugins.{chained_plugin_of, plugin_of};
+ghost use Rattle.plugin_chain.specs.Plugins.{chained_plugin_of, plugin_of};
 
 use bridge_ptp::{
     bridge_after, bridge_before, bridge_kinds, bridge_result, ptp_after, ptp_before, ptp_kinds,
@@ -21,7 +21,7 @@ use std::alloc::Global;
 
 /// What it asks of `host-local`, if it does.
 #[tactic(auto, unfolding(crate::specs::Plugins::plugin_of))]
-pub(crate) fn ipam_of(first: &First) -> Option<&HostLocalConf>
+pub fn ipam_of(first: &First) -> Option<&HostLocalConf>
     ensures { option_copied result ≡ (plugin_of first.now).ipam }
 {
     match first {
@@ -33,7 +33,7 @@ pub(crate) fn ipam_of(first: &First) -> Option<&HostLocalConf>
 
 /// Its calls before an address is leased: at least the one that makes its link.
 #[tactic(auto, unfolding(crate::specs::Plugins::plugin_of))]
-pub(crate) fn calls_before(
+pub fn calls_before(
     alloc: Global,
     first: &First,
     att: &NamedAtt,
@@ -50,7 +50,7 @@ pub(crate) fn calls_before(
 }
 
 #[tactic(auto, unfolding(crate::specs::Plugins::plugin_of))]
-pub(crate) fn calls_after(
+pub fn calls_after(
     alloc: Global,
     first: &First,
     att: &NamedAtt,
@@ -67,7 +67,7 @@ pub(crate) fn calls_after(
 }
 
 #[tactic(auto, unfolding(crate::specs::Plugins::plugin_of))]
-pub(crate) fn first_result(
+pub fn first_result(
     alloc: Global,
     first: &First,
     att: &NamedAtt,
@@ -84,7 +84,7 @@ pub(crate) fn first_result(
 }
 
 #[tactic(auto, unfolding(crate::specs::Plugins::plugin_of))]
-pub(crate) fn first_kinds(alloc: Global, first: &First) -> Result<Items<Kind>, NoMemory>
+pub fn first_kinds(alloc: Global, first: &First) -> Result<Items<Kind>, NoMemory>
     ensures { IfOk result (λ kinds. kinds ≡ (plugin_of first.now).kinds) }
 {
     match first {
@@ -96,7 +96,7 @@ pub(crate) fn first_kinds(alloc: Global, first: &First) -> Result<Items<Kind>, N
 
 /// The bridge that its link is under.
 #[tactic(auto, unfolding(crate::specs::Plugins::plugin_of))]
-pub(crate) fn bridge_of(first: &First) -> Option<&Text>
+pub fn bridge_of(first: &First) -> Option<&Text>
     ensures { option_copied result ≡ (plugin_of first.now).bridge }
 {
     match first {
@@ -107,7 +107,7 @@ pub(crate) fn bridge_of(first: &First) -> Option<&Text>
 
 /// The link of the host that its link is over.
 #[tactic(auto, unfolding(crate::specs::Plugins::plugin_of))]
-pub(crate) fn master_of(first: &First) -> Option<&Text>
+pub fn master_of(first: &First) -> Option<&Text>
     ensures { option_copied result ≡ (plugin_of first.now).master }
 {
     match first {
@@ -119,7 +119,7 @@ pub(crate) fn master_of(first: &First) -> Option<&Text>
 // ---- the chained plugins
 
 #[tactic(auto, unfolding(crate::specs::Plugins::chained_plugin_of))]
-pub(crate) fn takes_mappings(chained: &Chained) -> bool
+pub fn takes_mappings(chained: &Chained) -> bool
     ensures { result ≡ (chained_plugin_of chained.now).takes_mappings }
 {
     match chained {
@@ -130,7 +130,7 @@ pub(crate) fn takes_mappings(chained: &Chained) -> bool
 }
 
 #[tactic(auto, unfolding(crate::specs::Plugins::chained_plugin_of))]
-pub(crate) fn chained_calls(
+pub fn chained_calls(
     alloc: Global,
     chained: &Chained,
     att: &Att,
@@ -149,7 +149,7 @@ pub(crate) fn chained_calls(
 }
 
 #[tactic(auto, unfolding(crate::specs::Plugins::chained_plugin_of))]
-pub(crate) fn chained_result(
+pub fn chained_result(
     alloc: Global,
     chained: &Chained,
     prev: AddResult,
@@ -168,7 +168,7 @@ pub(crate) fn chained_result(
 }
 
 #[tactic(auto, unfolding(crate::specs::Plugins::chained_plugin_of))]
-pub(crate) fn chained_kinds(chained: &Chained) -> [Kind; 1]
+pub fn chained_kinds(chained: &Chained) -> [Kind; 1]
     ensures { result ≡ (chained_plugin_of chained.now).kinds }
 {
     match chained {

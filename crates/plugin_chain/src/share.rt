@@ -16,14 +16,14 @@ use std::marker::Model;
 /// Objects of one attachment, list by list. They are shared with the calls that make them, but for the links, which
 /// later calls change in place.
 #[derive(Drop)]
-pub(crate) struct Objects {
-    pub(crate) links: Vec<Link>,
-    pub(crate) addresses: Vec<RefCounted<AddrObj>>,
-    pub(crate) routes: Vec<RefCounted<RouteObj>>,
-    pub(crate) rules: Vec<RefCounted<Rule>>,
-    pub(crate) settings: Vec<RefCounted<Setting>>,
-    pub(crate) leases: Vec<RefCounted<Lease>>,
-    pub(crate) cached: Vec<CachedObj>,
+pub struct Objects {
+    pub links: Vec<Link>,
+    pub addresses: Vec<RefCounted<AddrObj>>,
+    pub routes: Vec<RefCounted<RouteObj>>,
+    pub rules: Vec<RefCounted<Rule>>,
+    pub settings: Vec<RefCounted<Setting>>,
+    pub leases: Vec<RefCounted<Lease>>,
+    pub cached: Vec<CachedObj>,
 }
 
 impl Model for Objects {
@@ -43,7 +43,7 @@ impl Model for Objects {
 }
 
 /// None of any kind. Takes no memory.
-pub(crate) fn no_objects(alloc: Global) -> Objects
+pub fn no_objects(alloc: Global) -> Objects
     ensures { result ≡ no_objects }
 {
     Objects {
@@ -128,7 +128,7 @@ impl Objects {
     }
 
     /// Takes what the calls make, one after another. Linear in the calls, where few of them set a link.
-    pub(crate) fn take_calls(&mut self, calls: Items<Call>) -> Result<(), NoMemory>
+    pub fn take_calls(&mut self, calls: Items<Call>) -> Result<(), NoMemory>
         ensures { OnOk result (self.new ≡ share_after_calls self.old calls) }
     {
         for call in calls.into_vec() {
@@ -138,12 +138,7 @@ impl Objects {
     }
 
     /// Takes the leases of the addresses, in place of the leases that were there.
-    pub(crate) fn take_leases(
-        &mut self,
-        alloc: Global,
-        att: &Att,
-        addrs: &[Addr],
-    ) -> Result<(), NoMemory>
+    pub fn take_leases(&mut self, alloc: Global, att: &Att, addrs: &[Addr]) -> Result<(), NoMemory>
         ensures { OnOk result (self.new ≡ record self.old { leases = map (lease_of att.now) addrs.now }) }
     {
         let mut leases = Vec::with_capacity(alloc, addrs.len())?;

@@ -5,7 +5,7 @@ ghost use Rattle.std.specs.Prelude.{◌≡◌, ◌∷◌, ◌++◌, ◌<◌, ◌
 ghost use Rattle.host_local.specs.Results.{ipam_result_of};
 ghost use Rattle.kernel_types.specs.declared.call.Call.TheVariants as call;
 ghost use Rattle.net_conf.specs.Sets.{most_sets};
-ghost use Rattle.cni_verbs.specs.Wanted as wanted;
+ghost use Rattle.plugin_chain.specs.Wanted as wanted;
 
 use crate::plugins::{
     calls_after, chained_calls, chained_kinds, chained_result, first_kinds, first_result, ipam_of,
@@ -28,7 +28,7 @@ fn push_all<T: Drop>(list: &mut Vec<T>, more: Items<T>) -> Result<(), NoMemory>
 // ---- addresses
 
 /// The range sets of the list, of each of which an ADD leases one address. Takes no memory.
-pub(crate) fn sets_of(list: &NetList) -> &[RangeSet]
+pub fn sets_of(list: &NetList) -> &[RangeSet]
     ensures all { result.now ≡ wanted.sets_of list.now }
     ensures few { length result.now ≤ most_sets }
 {
@@ -97,7 +97,7 @@ fn push_chained(
 
 /// The result of an ADD that was leased these addresses, the k-th of the k-th set: that of the last plugin.
 #[tactic(auto, unfolding(crate::specs::Wanted::result_of_add))]
-pub(crate) fn result_of_add(
+pub fn result_of_add(
     alloc: Global,
     list: &NetList,
     att: &NamedAtt,
@@ -135,17 +135,17 @@ fn cached_result(
 
 /// What the plugins of an ADD make after its last lease.
 #[derive(Drop)]
-pub(crate) struct PluginCalls {
+pub struct PluginCalls {
     /// The calls of the first plugin and those of each chained one.
-    pub(crate) calls: Items<Call>,
+    pub calls: Items<Call>,
     /// The result of the last plugin.
-    pub(crate) result: AddResult,
+    pub result: AddResult,
 }
 
 /// The calls that the plugins of an ADD make after its last lease, where it was leased these addresses: all but that of
 /// the cached result. Linear in the addresses, the routes, settings and plugins of the list, and the mappings.
 #[tactic(auto, unfolding(crate::specs::Wanted::result_of_add))]
-pub(crate) fn plugin_calls(
+pub fn plugin_calls(
     alloc: Global,
     list: &NetList,
     att: &NamedAtt,
@@ -179,16 +179,16 @@ pub(crate) fn plugin_calls(
 
 /// What an ADD makes after its last lease.
 #[derive(Drop)]
-pub(crate) struct Back {
+pub struct Back {
     /// The calls of the plugins, and the one that puts the cached result.
-    pub(crate) calls: Items<Call>,
+    pub calls: Items<Call>,
     /// The cached result, which holds the result of the last plugin.
-    pub(crate) cached: RefCounted<Cached>,
+    pub cached: RefCounted<Cached>,
 }
 
 /// The calls of an ADD after its last lease, where it was leased these addresses, and its cached result. As linear as
 /// [`plugin_calls`].
-pub(crate) fn back_calls(
+pub fn back_calls(
     alloc: Global,
     list: &NetList,
     att: &NamedAtt,

@@ -1,6 +1,6 @@
 use Rattle.std.proofs.Common.{◌≡◌, map, take}
-use Rattle.cni_verbs.specs.Answers.{call_text}
-use Rattle.cni_verbs.proofs.errors.call_texts.Given as goal
+use Rattle.cni_errors.specs.Answers.{call_text}
+use Rattle.cni_errors.proofs.errors.call_texts.Given as goal
 
 -- the calls so far have their texts
 abbrev pub invariant-loop-number : goal.invariant-loop-number

@@ -3,8 +3,8 @@ use Rattle.std.specs.Prelude.{is_some}
 use borrow.Author.Tests.{tests}
 use Rattle.std.proofs.lemmas.Iterator.Search.{all_from_yields_List}
 use Rattle.std.proofs.lemmas.Iterator.Splits.{YieldsList-from_str_split}
-use Rattle.cni_verbs.specs.CommandFields.{argument_of}
-use Rattle.cni_verbs.proofs.fields.all_arguments.Goals as goal
+use Rattle.cni_errors.specs.CommandFields.{argument_of}
+use Rattle.cni_errors.proofs.fields.all_arguments.Goals as goal
 
 pub returns : goal.returns
 returns c =

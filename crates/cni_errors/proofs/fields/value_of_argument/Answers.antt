@@ -3,9 +3,9 @@ use Rattle.std.specs.Option.{option_copied}
 use Rattle.std.proofs.lemmas.Str.Pattern.{split_once_first}
 use denote.Shadow.{shadow}
 use denote.Text.{Utf8}
-use Rattle.cni_verbs.specs.CommandFields.{value_of_argument}
-use Rattle.cni_verbs.proofs.Arguments.{value_is_first, value_is_later, value_is_last}
-use Rattle.cni_verbs.proofs.fields.value_of_argument.Goals as goal
+use Rattle.cni_errors.specs.CommandFields.{value_of_argument}
+use Rattle.cni_errors.proofs.Arguments.{value_is_first, value_is_later, value_is_last}
+use Rattle.cni_errors.proofs.fields.value_of_argument.Goals as goal
 
 pub returns-in-Some-value_if : goal.returns-in-Some-value_if
 unfolding value_of_argument

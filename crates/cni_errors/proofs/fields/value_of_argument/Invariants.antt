@@ -2,8 +2,8 @@ use Rattle.std.proofs.Common.{◌≡◌, length}
 use Rattle.std.specs.List.{slice_split}
 use denote.Shadow.{shadow}
 use denote.Text.{Utf8}
-use Rattle.cni_verbs.proofs.Arguments.{value_in, is_semicolon}
-use Rattle.cni_verbs.proofs.fields.value_of_argument.Given as goal
+use Rattle.cni_errors.proofs.Arguments.{value_in, is_semicolon}
+use Rattle.cni_errors.proofs.fields.value_of_argument.Given as goal
 
 -- the rest has the value that the whole has
 abbrev pub invariant-pieces : goal.invariant-pieces

@@ -1,6 +1,6 @@
 use Rattle.std.proofs.Common.{◌≡◌, drop}
-use Rattle.cni_verbs.specs.Wanted.{all_chained_results}
-use Rattle.cni_verbs.proofs.wanted.all_chained_results.Given as goal
+use Rattle.plugin_chain.specs.Wanted.{all_chained_results}
+use Rattle.plugin_chain.proofs.wanted.all_chained_results.Given as goal
 
 -- what the plugins that are left make of the result so far
 abbrev pub invariant-loop-plugin : goal.invariant-loop-plugin

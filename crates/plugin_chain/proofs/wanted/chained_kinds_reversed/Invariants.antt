@@ -1,6 +1,6 @@
 use Rattle.std.proofs.Common.{◌≡◌, drop}
-use Rattle.cni_verbs.specs.Wanted.{chained_kinds_reversed}
-use Rattle.cni_verbs.proofs.wanted.chained_kinds_reversed.Given as goal
+use Rattle.plugin_chain.specs.Wanted.{chained_kinds_reversed}
+use Rattle.plugin_chain.proofs.wanted.chained_kinds_reversed.Given as goal
 
 -- the kinds of the plugins that were passed, which are the last ones
 abbrev pub invariant-loop-place : goal.invariant-loop-place

@@ -1,6 +1,6 @@
 use Rattle.std.proofs.Common.{◌≡◌, ◌++◌, drop}
-use Rattle.cni_verbs.specs.Wanted.{all_chained_calls, all_chained_results}
-use Rattle.cni_verbs.proofs.wanted.push_chained.Given as goal
+use Rattle.plugin_chain.specs.Wanted.{all_chained_calls, all_chained_results}
+use Rattle.plugin_chain.proofs.wanted.push_chained.Given as goal
 
 -- what was called and what is left to call are the whole, and the result likewise
 abbrev pub invariant-loop-plugin : goal.invariant-loop-plugin
