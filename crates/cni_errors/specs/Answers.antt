@@ -1,5 +1,5 @@
--- What a verb that refuses answers (CNI specification, section 5, "Error"; codes from 100 on are this
--- project's own).
+-- The errors of refusals, and what a verb answers that has no result of its own (CNI specification, section 5, "Error";
+-- codes from 100 on are this project's own).
 use Rattle.std.specs.Prelude.{ℕ, Bool, List, [], ◌∷◌, ◌++◌, map, codes, if◌then◌else◌}
 use Rattle.std.specs.Fmt.{decimal}
 use Rattle.std.specs.List.{join_by}

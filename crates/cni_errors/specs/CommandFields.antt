@@ -1,7 +1,7 @@
 -- What a verb asks of its command's fields, before its first call (CNI specification, section 2, "Parameters"; error
 -- codes of section 5).
 use Rattle.std.specs.Prelude.{ℕ, Bool, true, false, not, ◌&&◌, ◌||◌, ◌==◌, nat_lt, List, [], ◌∷◌, length, find, filter_map, codes, Option, Some, None, option_map, is_some, if◌then◌else◌}
-use Rattle.std.specs.List.{list_any, list_all, slice_split}
+use Rattle.std.specs.List.{list_all, slice_split}
 use Rattle.std.specs.Option.{option_or}
 use Rattle.std.specs.Str.{byte, bytes_eq}
 use Rattle.cni_addr.specs.AddrText.{addr_of_text}

@@ -4,7 +4,6 @@ ghost use Rattle.std.specs.Prelude.{◌≡◌, ℕ, List, Some, None, IfOk};
 ghost use Rattle.kernel_types.specs.declared.call.Kind.{Kind};
 ghost use Rattle.cni_verbs.specs.Script.{IsOpen};
 ghost use Rattle.cni_verbs.specs.Endings.{answer_of_ending};
-ghost use Rattle.cni_errors.specs.Answers.{plain_answer};
 ghost use Rattle.cni_verbs.specs.Progress.{answer_in};
 ghost use Rattle.cni_verbs.specs.Phases.{KeepsOfList, state_in, state_outside};
 

@@ -14,7 +14,7 @@ use cni_addr::{Addr, Duplicate, Items, NoMemory, RangeSet, Text};
 use cni_result::{AddResult, Cached, PortMapping};
 use host_local::{given_of, ipam_result_of};
 use kernel_types::{Att, Call, Given, Kind, NamedAtt, RefCounted};
-use net_conf::{Chained, First, NetList};
+use net_conf::{Chained, NetList};
 use std::alloc::Global;
 
 fn push_all<T: Drop>(list: &mut Vec<T>, more: Items<T>) -> Result<(), NoMemory>
