@@ -46,7 +46,7 @@ fn push_if(alloc: Global, names: &mut Items<Text>, fault: bool, name: &str) -> R
     Ok(())
 }
 
-/// The environment variables of the fields that are wrong.
+/// The environment variables of the fields that are outside their grammar (CNI specification, section 2).
 pub fn variables_of(alloc: Global, wrong: WrongFields) -> Result<Items<Text>, NoMemory>
     ensures { IfOk result (λ names. names ≡ answers.variables_of wrong) }
 {

@@ -186,12 +186,14 @@ fn can_be_taken(raw: &RawMapping) -> bool
 
 // ---- the tests, in order
 
+/// Whether some field is outside its grammar. Takes no memory.
 pub fn any_wrong(wrong: WrongFields) -> bool
     ensures { result ≡ fields.any_wrong wrong }
 {
     wrong.container || wrong.netns || wrong.ifname || wrong.args
 }
 
+/// Each field is as its grammar wants it. Takes no memory.
 pub fn none_wrong() -> WrongFields
     ensures { result ≡ fields.none_wrong }
 {

@@ -1,4 +1,4 @@
-//! Which plugin does what the verbs ask: each configuration's own function.
+//! What one plugin does, by its configuration.
 
 ghost use Rattle.std.specs.Prelude.{◌≡◌, ◌<◌, length, IfOk};
 ghost use Rattle.std.specs.Option.{option_copied};
@@ -19,7 +19,7 @@ use std::alloc::Global;
 
 // ---- the first plugin
 
-/// What it asks of `host-local`, if it does.
+/// What it asks of `host-local`, if it does. Takes no memory.
 #[tactic(auto, unfolding(crate::specs::Plugins::plugin_of))]
 pub fn ipam_of(first: &First) -> Option<&HostLocalConf>
     ensures { option_copied result ≡ (plugin_of first.now).ipam }
@@ -49,6 +49,7 @@ pub fn calls_before(
     }
 }
 
+/// Its calls after the leases, with what was given of each range set.
 #[tactic(auto, unfolding(crate::specs::Plugins::plugin_of))]
 pub fn calls_after(
     alloc: Global,
@@ -66,6 +67,7 @@ pub fn calls_after(
     }
 }
 
+/// Its result, where `host-local` gave this one.
 #[tactic(auto, unfolding(crate::specs::Plugins::plugin_of))]
 pub fn first_result(
     alloc: Global,
@@ -83,6 +85,7 @@ pub fn first_result(
     }
 }
 
+/// The kinds of its objects that a DEL takes back.
 #[tactic(auto, unfolding(crate::specs::Plugins::plugin_of))]
 pub fn first_kinds(alloc: Global, first: &First) -> Result<Items<Kind>, NoMemory>
     ensures { IfOk result (λ kinds. kinds ≡ (plugin_of first.now).kinds) }
@@ -94,7 +97,7 @@ pub fn first_kinds(alloc: Global, first: &First) -> Result<Items<Kind>, NoMemory
     }
 }
 
-/// The bridge that its link is under.
+/// The bridge that its link is under. Takes no memory.
 #[tactic(auto, unfolding(crate::specs::Plugins::plugin_of))]
 pub fn bridge_of(first: &First) -> Option<&Text>
     ensures { option_copied result ≡ (plugin_of first.now).bridge }
@@ -105,7 +108,7 @@ pub fn bridge_of(first: &First) -> Option<&Text>
     }
 }
 
-/// The link of the host that its link is over.
+/// The link of the host that its link is over. Takes no memory.
 #[tactic(auto, unfolding(crate::specs::Plugins::plugin_of))]
 pub fn master_of(first: &First) -> Option<&Text>
     ensures { option_copied result ≡ (plugin_of first.now).master }
@@ -118,6 +121,7 @@ pub fn master_of(first: &First) -> Option<&Text>
 
 // ---- the chained plugins
 
+/// Whether it asks for port mappings (the capability `portMappings`). Takes no memory.
 #[tactic(auto, unfolding(crate::specs::Plugins::chained_plugin_of))]
 pub fn takes_mappings(chained: &Chained) -> bool
     ensures { result ≡ (chained_plugin_of chained.now).takes_mappings }
@@ -129,6 +133,7 @@ pub fn takes_mappings(chained: &Chained) -> bool
     }
 }
 
+/// Its calls, where the plugin before it gave the result `prev`.
 #[tactic(auto, unfolding(crate::specs::Plugins::chained_plugin_of))]
 pub fn chained_calls(
     alloc: Global,
@@ -148,6 +153,7 @@ pub fn chained_calls(
     }
 }
 
+/// Its result: `prev` with what it changes.
 #[tactic(auto, unfolding(crate::specs::Plugins::chained_plugin_of))]
 pub fn chained_result(
     alloc: Global,
@@ -167,6 +173,7 @@ pub fn chained_result(
     }
 }
 
+/// The kinds of its objects that a DEL takes back. Takes no memory.
 #[tactic(auto, unfolding(crate::specs::Plugins::chained_plugin_of))]
 pub fn chained_kinds(chained: &Chained) -> [Kind; 1]
     ensures { result ≡ (chained_plugin_of chained.now).kinds }
