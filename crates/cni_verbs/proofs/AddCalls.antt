@@ -18,10 +18,11 @@ use Rattle.pod_file.specs.declared.command.Command.{Command}
 use Rattle.pod_file.specs.declared.command.Verb.TheVariants as verbs
 use Rattle.plugin_base.specs.Calls.{is_plugin_call_of}
 use Rattle.cni_verbs.specs.AddCalls.{AddMakesItsCalls, AddMayBeGranted, AreGranted, added, calls_of_add, is_done, is_granted_by}
-use Rattle.cni_verbs.specs.CommandFields.{att_of, mappings_of, add_refusal}
+use Rattle.cni_errors.specs.CommandFields.{att_of, add_refusal}
+use Rattle.cni_verbs.specs.Mappings.{mappings_of}
 use Rattle.cni_verbs.specs.Script.{State, AtBegin, BeforeLeases, Leasing, AfterLeases, Finish, Calls, Finishes, before_of, back_of, after_leases, leasing, before_leases, advance, start_of, start_state, state_from, turn, unless_refused, leased_by, leases_in}
-use Rattle.cni_verbs.specs.Wanted.{sets_of}
-use Rattle.cni_verbs.proofs.OwnCalls.{own-before, own-back}
+use Rattle.plugin_chain.specs.Wanted.{sets_of}
+use Rattle.plugin_chain.proofs.OwnCalls.{own-before, own-back}
 
 -- ---- a run from a state
 

@@ -1,7 +1,7 @@
 -- Lists of questions that grow by one.
 use Rattle.std.proofs.Common.{◌≡◌, ℕ, ◌+◌, ◌<◌, List, [], ◌∷◌, ◌++◌, length, get_or, drop, scan, ap, sym, ◌∙◌, append_assoc}
 use Rattle.std.proofs.lemmas.List.{drop_more}
-use Rattle.cni_verbs.specs.declared.answer.Question.{Question}
+use Rattle.cni_errors.specs.declared.answer.Question.{Question}
 
 -- one more of what is meant is at the end
 pub pushed : {X : Type 0} (before after : List X) (x meant : X) → after ≡ before ++ x ∷ [] → x ≡ meant → after ≡ before ++ meant ∷ []

@@ -5,10 +5,10 @@ use Rattle.std.specs.Bool.{then_some}
 use Rattle.cni_result.specs.Versions.{is_before_1_1}
 use Rattle.cni_result.specs.declared.version.Version.{Version}
 use Rattle.cni_verbs.specs.Script.{old_ending, early_ending}
-use Rattle.cni_verbs.specs.declared.answer.Cause.TheVariants as causes
-use Rattle.cni_verbs.specs.declared.answer.Ending.{Ending}
-use Rattle.cni_verbs.specs.declared.answer.Ending.TheVariants.{Skipped, Refused}
-use Rattle.cni_verbs.specs.declared.answer.Skip.TheVariants as skips
+use Rattle.cni_errors.specs.declared.answer.Cause.TheVariants as causes
+use Rattle.cni_errors.specs.declared.answer.Ending.{Ending}
+use Rattle.cni_errors.specs.declared.answer.Ending.TheVariants.{Skipped, Refused}
+use Rattle.cni_errors.specs.declared.answer.Skip.TheVariants as skips
 
 -- the list is older than the verb
 abbrev pub too_old : Version → Ending

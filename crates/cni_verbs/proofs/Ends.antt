@@ -16,21 +16,22 @@ use Rattle.kernel_types.specs.declared.call.Reply.{Reply}
 use Rattle.plugin_base.specs.PluginCalls.{has_inner}
 use Rattle.plugin_base.specs.Plugins.{added_before}
 use Rattle.plugin_base.specs.Share.{Share, no_objects, share_after_calls}
-use Rattle.cni_verbs.specs.Plugins.{plugin_of}
+use Rattle.plugin_chain.specs.Plugins.{plugin_of}
 use Rattle.cni_verbs.specs.Questions.{check_questions}
-use Rattle.cni_verbs.specs.CommandFields.{att_of, mappings_of}
-use Rattle.cni_verbs.specs.Wanted.{sets_of, kinds_of, calls_after, calls_before, result_of_add, all_chained_calls, first_plugin_result, given_by_list, cached_of}
+use Rattle.cni_errors.specs.CommandFields.{att_of}
+use Rattle.cni_verbs.specs.Mappings.{mappings_of}
+use Rattle.plugin_chain.specs.Wanted.{sets_of, kinds_of, calls_after, calls_before, result_of_add, all_chained_calls, first_plugin_result, given_by_list, cached_of}
 use Rattle.cni_verbs.specs.Script.{State, Finish, IsOpen, before_of, back_of, finish_of}
 use Rattle.cni_verbs.specs.Script as script
 use Rattle.cni_verbs.specs.Phases.{KeepsOfList, KeepsResult, state_in, state_outside, state_by_phase}
-use Rattle.cni_verbs.specs.declared.answer.Ending.{Ending}
-use Rattle.cni_verbs.specs.declared.answer.Ending.TheVariants.{Added, Yes}
-use Rattle.cni_verbs.specs.declared.answer.Question.{Question}
+use Rattle.cni_errors.specs.declared.answer.Ending.{Ending}
+use Rattle.cni_errors.specs.declared.answer.Ending.TheVariants.{Added, Yes}
+use Rattle.cni_errors.specs.declared.answer.Question.{Question}
 use Rattle.cni_verbs.specs.declared.phase.Phase.{Phase}
 use Rattle.cni_verbs.specs.declared.phase.Phase.TheVariants as phases
 use Rattle.cni_verbs.proofs.CallsOrOver.{calls_or_over}
 use Rattle.cni_verbs.proofs.PhaseSteps.{left_of, opens}
-use Rattle.cni_verbs.proofs.PluginLaws.{first_laws}
+use Rattle.plugin_chain.proofs.PluginLaws.{first_laws}
 use Rattle.cni_verbs.proofs.QuestionCounts.{questions-left}
 
 -- what a phase's state is, where it is open or over

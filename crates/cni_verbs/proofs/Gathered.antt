@@ -12,11 +12,11 @@ use Rattle.kernel_types.specs.declared.call.Call.TheVariants.{CachePut}
 use Rattle.kernel_types.specs.Terms.{lease_of}
 use Rattle.plugin_base.specs.Share.{Share, no_objects, share_after_calls}
 use Rattle.plugin_base.proofs.CallLists.{share_after_calls-append}
-use Rattle.cni_verbs.specs.CommandFields.{att_of}
+use Rattle.cni_errors.specs.CommandFields.{att_of}
 use Rattle.cni_verbs.specs.Questions.{bridge_questions, share_questions, addresses_of_result, cached_share}
-use Rattle.cni_verbs.specs.Wanted.{calls_before, back_calls, cached_of}
-use Rattle.cni_verbs.specs.declared.answer.Question.{Question}
-use Rattle.cni_verbs.proofs.WantedShare.{makes-wanted}
+use Rattle.plugin_chain.specs.Wanted.{calls_before, back_calls, cached_of}
+use Rattle.cni_errors.specs.declared.answer.Question.{Question}
+use Rattle.plugin_chain.proofs.WantedShare.{makes-wanted}
 
 -- a cached result is none of the objects that a check asks for
 asked-without_cached : (s : Share) (calls : List Call) (att : Att) (cached : Cached)

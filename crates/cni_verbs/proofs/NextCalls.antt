@@ -8,14 +8,14 @@ use Rattle.pod_file.specs.declared.command.Command.{Command}
 use Rattle.kernel_types.specs.declared.call.Kind.{Kind}
 use Rattle.kernel_types.specs.declared.call.Call.{Call}
 use Rattle.kernel_types.specs.declared.call.Call.TheVariants.{Begin, LeaseNext, CacheGet}
-use Rattle.cni_verbs.specs.CommandFields.{att_of}
-use Rattle.cni_verbs.specs.Wanted.{sets_of, kinds_of, deletion}
+use Rattle.cni_errors.specs.CommandFields.{att_of}
+use Rattle.plugin_chain.specs.Wanted.{sets_of, kinds_of, deletion}
 use Rattle.cni_verbs.specs.Script as script
 use Rattle.cni_verbs.specs.Script.{State, next_call}
 use Rattle.cni_verbs.specs.Phases.{Stands, KeepsOfList, KeepsOfListBy, KeepsResult, IsPhaseOf, IsSameButPrepared, is_prepared, state_in, state_outside, state_by_phase}
 use Rattle.cni_verbs.specs.Progress.{answer_in}
-use Rattle.cni_verbs.specs.declared.answer.Ending.{Ending}
-use Rattle.cni_verbs.specs.declared.answer.Question.{Question}
+use Rattle.cni_errors.specs.declared.answer.Ending.{Ending}
+use Rattle.cni_errors.specs.declared.answer.Question.{Question}
 use Rattle.cni_verbs.specs.declared.phase.Phase.{Phase}
 use Rattle.cni_verbs.specs.declared.phase.Phase.TheVariants as phases
 use Rattle.cni_verbs.proofs.PhaseSteps.{left_of, left_or_none}

@@ -13,14 +13,14 @@ use Rattle.kernel_types.specs.declared.call.Kind.{Kind}
 use Rattle.kernel_types.specs.declared.call.Call.{Call}
 use Rattle.kernel_types.specs.declared.call.Reply.{Reply}
 use Rattle.kernel_types.specs.declared.call.Reply.TheVariants.{Leased}
-use Rattle.cni_verbs.specs.CommandFields.{att_of}
-use Rattle.cni_verbs.specs.Wanted.{sets_of, kinds_of, result_of_add}
+use Rattle.cni_errors.specs.CommandFields.{att_of}
+use Rattle.plugin_chain.specs.Wanted.{sets_of, kinds_of, result_of_add}
 use Rattle.cni_verbs.specs.Script as script
 use Rattle.cni_verbs.specs.Script.{State, advance, IsOpen}
 use Rattle.cni_verbs.specs.Phases.{Awaits, KeepsResult, Stands, IsPhaseOf, is_prepared, state_in}
-use Rattle.cni_verbs.specs.declared.answer.Ending.{Ending}
-use Rattle.cni_verbs.specs.declared.answer.Ending.TheVariants.{Refused}
-use Rattle.cni_verbs.specs.declared.answer.Question.{Question}
+use Rattle.cni_errors.specs.declared.answer.Ending.{Ending}
+use Rattle.cni_errors.specs.declared.answer.Ending.TheVariants.{Refused}
+use Rattle.cni_errors.specs.declared.answer.Question.{Question}
 use Rattle.cni_verbs.specs.declared.phase.Phase.{Phase}
 use Rattle.cni_verbs.specs.declared.phase.Phase.TheVariants as phases
 

@@ -15,10 +15,11 @@ use Rattle.kernel_types.specs.declared.rule.Rule.{Rule}
 use Rattle.pod_file.proofs.CommandFacts.{length-scan}
 use Rattle.plugin_base.specs.Share.{Share, no_objects}
 use Rattle.plugin_base.proofs.PluginCalls.{later-as_many}
-use Rattle.cni_verbs.specs.CommandFields.{att_of}
-use Rattle.cni_verbs.specs.Questions.{link_question, address_question, route_question, rule_question, rule_questions, setting_question, lease_question, share_questions, bridge_questions, cached_share, check_questions, pool_question, pool_questions}
-use Rattle.cni_verbs.specs.Wanted.{all_links_after, bridge_of, chained_calls, links_after, links_made}
-use Rattle.cni_verbs.proofs.PluginLaws.{chained_laws, first_laws}
+use Rattle.cni_errors.specs.CommandFields.{att_of}
+use Rattle.cni_errors.specs.ObjectQuestions.{link_question, address_question, route_question, rule_question, rule_questions, setting_question, lease_question}
+use Rattle.cni_verbs.specs.Questions.{share_questions, bridge_questions, cached_share, check_questions, pool_question, pool_questions}
+use Rattle.plugin_chain.specs.Wanted.{all_links_after, bridge_of, chained_calls, links_after, links_made}
+use Rattle.plugin_chain.proofs.PluginLaws.{chained_laws, first_laws}
 
 -- ---- links
 

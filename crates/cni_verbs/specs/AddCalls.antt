@@ -9,11 +9,12 @@ use Rattle.kernel_types.specs.declared.call.Reply.TheVariants.{Done}
 use Rattle.net_conf.specs.declared.list.NetList.{NetList}
 use Rattle.pod_file.specs.declared.command.Command.{Command}
 use Rattle.pod_file.specs.declared.command.Verb.TheVariants as verbs
-use Rattle.cni_verbs.specs.CommandFields.{att_of, mappings_of, add_refusal}
+use Rattle.cni_errors.specs.CommandFields.{att_of, add_refusal}
+use Rattle.cni_verbs.specs.Mappings.{mappings_of}
 use Rattle.cni_verbs.specs.Progress.{turn_by}
 use Rattle.cni_verbs.specs.Script.{Finish, Calls, Finishes, leased_by, leases_in}
-use Rattle.cni_verbs.specs.Wanted.{add_calls, sets_of}
-use Rattle.cni_verbs.specs.declared.answer.Ending.TheVariants.{Added}
+use Rattle.plugin_chain.specs.Wanted.{add_calls, sets_of}
+use Rattle.cni_errors.specs.declared.answer.Ending.TheVariants.{Added}
 
 -- ---- granted calls
 

@@ -1,9 +1,5 @@
--- What holds of every state of a script, and of every plugin.
+-- What holds of every state of a script.
 use Rattle.std.specs.Prelude.{◌≡◌, ◌⊎◌, Some, None}
-use Rattle.net_conf.specs.declared.chained.Chained.{Chained}
-use Rattle.net_conf.specs.declared.first.First.{First}
-use Rattle.plugin_base.specs.PluginLaws.{ChainedLaws, FirstLaws}
-use Rattle.cni_verbs.specs.Plugins.{chained_plugin_of, plugin_of}
 use Rattle.cni_verbs.specs.Script.{State, Finish, Calls, Finishes, IsOpen, turn, next_call, finish_of}
 use Rattle.kernel_types.specs.declared.call.Call.{Call}
 use Rattle.pod_file.specs.declared.command.Command.{Command}
@@ -27,10 +23,3 @@ pub record IsFinished (c : Command) (s : State) : Type 0 where
 -- exactly one of the two: the next call, the finish, whether it is open and the turn of the script say the same
 abbrev pub EachStateCallsOrIsOver : Type 0
 EachStateCallsOrIsOver = (c : Command) (s : State) → IsCalling c s ⊎ IsFinished c s
-
--- whatever its configuration, the plugin keeps what it owes
-abbrev pub FirstsKeepTheirLaws : Type 0
-FirstsKeepTheirLaws = (first : First) → FirstLaws (plugin_of first)
-
-abbrev pub ChainedKeepTheirLaws : Type 0
-ChainedKeepTheirLaws = (c : Chained) → ChainedLaws (chained_plugin_of c)

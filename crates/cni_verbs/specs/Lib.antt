@@ -1,13 +1,10 @@
 pub mod AddCalls
-pub mod Answers
-pub mod CommandFields
-pub mod ErrorKinds
+pub mod Endings
 pub mod Laws
+pub mod Mappings
 pub mod Phases
-pub mod Plugins
 pub mod Progress
 pub mod Questions
 pub mod Replies
 pub mod Script
 pub mod Sweep
-pub mod Wanted

@@ -5,9 +5,9 @@ use Rattle.pod_file.specs.declared.command.Command.{Command}
 use Rattle.pod_file.specs.declared.command.Verb.{Verb}
 use Rattle.pod_file.specs.declared.command.Verb.TheVariants as verbs
 use Rattle.kernel_types.specs.declared.call.Reply.{Reply}
-use Rattle.cni_verbs.specs.Answers.{answer_of, answer_outside}
+use Rattle.cni_verbs.specs.Endings.{answer_of, answer_outside}
 use Rattle.cni_verbs.specs.Script.{State, Turn, Finish, turn, finish_of, state_after, advance, outside_after, outside_advance}
-use Rattle.cni_verbs.specs.declared.answer.Answer.{Answer}
+use Rattle.cni_errors.specs.declared.answer.Answer.{Answer}
 
 -- a GC, whose run keeps more than a `Run` does
 abbrev pub is_gc : Verb → Bool

@@ -9,50 +9,17 @@ use Rattle.cni_result.specs.declared.result.AddResult.{AddResult}
 use Rattle.cni_result.specs.declared.result.Interface.{Interface}
 use Rattle.net_conf.specs.declared.list.NetList.{NetList}
 use Rattle.pod_file.specs.declared.command.Command.{Command}
-use Rattle.kernel_types.specs.declared.object.AddrObj.{AddrObj}
-use Rattle.kernel_types.specs.declared.object.Lease.{Lease}
-use Rattle.kernel_types.specs.declared.object.Link.{Link}
-use Rattle.kernel_types.specs.declared.object.RouteObj.{RouteObj}
-use Rattle.kernel_types.specs.declared.rule.Rule.{Rule}
-use Rattle.kernel_types.specs.declared.object.Setting.{Setting}
 use Rattle.kernel_types.specs.declared.call.Call.TheVariants.{HasObj, PoolFree}
-use Rattle.kernel_types.specs.declared.call.Object.{Object}
-use Rattle.kernel_types.specs.declared.call.Object.TheVariants as objects
-use Rattle.kernel_types.specs.declared.call.Probe.TheVariants.{Whole, BridgeAt, Master}
+use Rattle.kernel_types.specs.declared.call.Probe.TheVariants.{BridgeAt, Master}
 use Rattle.plugin_base.specs.Share.{Share}
-use Rattle.cni_verbs.specs.CommandFields.{att_of}
-use Rattle.cni_verbs.specs.Wanted.{bridge_of, master_of, sets_of, wanted}
-use Rattle.cni_verbs.specs.declared.answer.Cause.TheVariants.{NoFreeAddress, MasterAbsent, Missing}
-use Rattle.cni_verbs.specs.declared.answer.Missed.{Missed}
-use Rattle.cni_verbs.specs.declared.answer.Missed.TheVariants as missed
-use Rattle.cni_verbs.specs.declared.answer.Question.{Question}
+use Rattle.cni_errors.specs.ObjectQuestions.{link_question, address_question, route_question, rule_questions, setting_question, lease_question}
+use Rattle.cni_errors.specs.CommandFields.{att_of}
+use Rattle.plugin_chain.specs.Wanted.{bridge_of, master_of, sets_of, wanted}
+use Rattle.cni_errors.specs.declared.answer.Cause.TheVariants.{NoFreeAddress, MasterAbsent, Missing}
+use Rattle.cni_errors.specs.declared.answer.Missed.TheVariants as missed
+use Rattle.cni_errors.specs.declared.answer.Question.{Question}
 
 -- ---- CHECK: each object that the cached result names
-
-abbrev pub asks_for : Object → Missed → Question
-asks_for object what = record { call = HasObj (Whole object); lack = Missing what }
-
-abbrev pub link_question : Link → Question
-link_question l = asks_for (objects.Link l) (missed.Link l.ns l.name)
-
-abbrev pub address_question : AddrObj → Question
-address_question a = asks_for (objects.Address a) (missed.Address a.ns a.link a.cidr)
-
-abbrev pub route_question : RouteObj → Question
-route_question r = asks_for (objects.Route r) (missed.Route r.ns r.link r.dst)
-
--- rules have no names: they are named by their place, from 1
-abbrev pub rule_question : ℕ → Rule → Question
-rule_question number r = asks_for (objects.Rule r) (missed.Rule r.table r.chain number)
-
-abbrev pub rule_questions : ℕ → List Rule → List Question
-rule_questions number rules = scan (λ n rule. n + 1) rule_question number rules
-
-abbrev pub setting_question : Setting → Question
-setting_question s = asks_for (objects.Setting s) (missed.Setting s.ns s.key)
-
-abbrev pub lease_question : Lease → Question
-lease_question l = asks_for (objects.Lease l) (missed.Lease l.addr)
 
 abbrev pub share_questions : Share → List Question
 share_questions s =

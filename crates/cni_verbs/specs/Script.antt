@@ -19,16 +19,17 @@ use Rattle.kernel_types.specs.declared.rule.Table.{Table}
 use Rattle.kernel_types.specs.Replies.{is_fault}
 use Rattle.kernel_types.specs.declared.call.Reply.{Reply}
 use Rattle.kernel_types.specs.declared.call.Reply.TheVariants.{Done, NoNs, NoLink, Taken, Empty, Leased, Gone, Has, Entry, Fault}
-use Rattle.cni_verbs.specs.CommandFields.{att_of, mappings_of, add_refusal, del_refusal, netns_refusal, drop_refusal}
+use Rattle.cni_errors.specs.CommandFields.{att_of, add_refusal, del_refusal, netns_refusal, drop_refusal}
+use Rattle.cni_verbs.specs.Mappings.{mappings_of}
 use Rattle.cni_verbs.specs.Questions.{check_questions, status_questions}
 use Rattle.cni_verbs.specs.Sweep.{Gc, Job, Sweep, Work, start_work, step_call, work_after}
-use Rattle.cni_verbs.specs.Wanted.{sets_of, calls_before, back_calls, kinds_of, deletion}
-use Rattle.cni_verbs.specs.declared.answer.Cause.{Cause}
-use Rattle.cni_verbs.specs.declared.answer.Cause.TheVariants as causes
-use Rattle.cni_verbs.specs.declared.answer.Ending.{Ending}
-use Rattle.cni_verbs.specs.declared.answer.Ending.TheVariants.{Added, Yes, Skipped, Versions, Refused}
-use Rattle.cni_verbs.specs.declared.answer.Question.{Question}
-use Rattle.cni_verbs.specs.declared.answer.Skip.TheVariants as skips
+use Rattle.plugin_chain.specs.Wanted.{sets_of, calls_before, back_calls, kinds_of, deletion}
+use Rattle.cni_errors.specs.declared.answer.Cause.{Cause}
+use Rattle.cni_errors.specs.declared.answer.Cause.TheVariants as causes
+use Rattle.cni_errors.specs.declared.answer.Ending.{Ending}
+use Rattle.cni_errors.specs.declared.answer.Ending.TheVariants.{Added, Yes, Skipped, Versions, Refused}
+use Rattle.cni_errors.specs.declared.answer.Question.{Question}
+use Rattle.cni_errors.specs.declared.answer.Skip.TheVariants as skips
 
 -- What is left to do: Begin and all after it; the calls before the leases; sets to lease from; the calls after the
 -- leases; the cached result to read, ahead of the deletions; kinds to delete; the cached result to read, ahead of the

@@ -12,7 +12,7 @@ use Rattle.kernel_types.specs.declared.call.Kind.TheVariants as kinds
 use Rattle.kernel_types.specs.declared.call.Reply.{Reply}
 use Rattle.kernel_types.specs.declared.call.Reply.TheVariants.{Gone, Owners, Entry, Fault}
 use Rattle.pod_file.specs.declared.command.ValidAtt.{ValidAtt}
-use Rattle.cni_verbs.specs.Wanted.{deletion}
+use Rattle.plugin_chain.specs.Wanted.{deletion}
 
 -- ---- what is kept
 

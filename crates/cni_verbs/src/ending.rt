@@ -3,40 +3,21 @@
 ghost use Rattle.std.specs.Prelude.{◌≡◌, ℕ, List, Some, None, IfOk};
 ghost use Rattle.kernel_types.specs.declared.call.Kind.{Kind};
 ghost use Rattle.cni_verbs.specs.Script.{IsOpen};
-ghost use Rattle.cni_verbs.specs.Answers.{answer_of_ending, plain_answer};
+ghost use Rattle.cni_verbs.specs.Endings.{answer_of_ending};
 ghost use Rattle.cni_verbs.specs.Progress.{answer_in};
 ghost use Rattle.cni_verbs.specs.Phases.{KeepsOfList, state_in, state_outside};
 
-use crate::answer::{Answer, Ending};
-use crate::errors::refused;
-use crate::fields::named_att_of;
 use crate::over::{is_over, is_over_outside};
 use crate::phase::Phase;
-use crate::wanted::result_of_add;
 use cni_addr::{Addr, Duplicate, NoMemory, RefCounted};
+use cni_errors::fields::named_att_of;
+use cni_errors::{Answer, Ending, plain_answer};
 use cni_result::Version;
 use kernel_types::Kind;
 use net_conf::NetList;
+use plugin_chain::wanted::result_of_add;
 use pod_file::Command;
 use std::alloc::Global;
-
-/// The answer to an ending without a result of its own, in this version. `Added` has one, and is Yes here: a run of no
-/// network and a GC, which are answered by this alone, never end so.
-pub fn plain_answer(
-    alloc: Global,
-    version: Version,
-    command: &Command,
-    ending: &Ending,
-) -> Result<Answer, NoMemory>
-    ensures { IfOk result (λ answer. answer ≡ plain_answer version command.now ending.now) }
-{
-    match ending {
-        Ending::Added | Ending::Yes => Ok(Answer::Yes),
-        Ending::Skipped(skip) => Ok(Answer::Skipped(*skip)),
-        Ending::Versions => Ok(Answer::Versions(version)),
-        Ending::Refused(cause) => refused(alloc, version, command, cause),
-    }
-}
 
 // ---- a verb of a network
 
@@ -127,7 +108,7 @@ pub(crate) fn answer_in(
 // ---- a change from outside
 
 /// What the run of no network answers, where it is over.
-#[tactic(auto, unfolding(crate::specs::Answers::answer_outside, crate::specs::Script::finish_of))]
+#[tactic(auto, unfolding(crate::specs::Endings::answer_outside, crate::specs::Script::finish_of))]
 pub(crate) fn answer_outside(
     alloc: Global,
     command: &Command,

@@ -1,7 +1,7 @@
-//! What holds of every run, and of every plugin.
+//! What holds of every run.
 
 ghost use Rattle.cni_verbs.specs.AddCalls.{AddMakesItsCalls, AddMayBeGranted};
-ghost use Rattle.cni_verbs.specs.Laws.{ChainedKeepTheirLaws, EachStateCallsOrIsOver, FirstsKeepTheirLaws};
+ghost use Rattle.cni_verbs.specs.Laws.{EachStateCallsOrIsOver};
 
 /// In each state a run makes one call and is open, or it is over and finishes, as the script's turn says. So exactly
 /// one of [`Run::next`](crate::Run::next) and [`Run::answer`](crate::Run::answer) is None.
@@ -21,12 +21,4 @@ pub fn an_add_makes_its_calls()
 #[tactic(auto, using(crate::proofs::AddCalls::add_may_be_granted))]
 pub fn an_add_may_be_granted()
     ensures { AddMayBeGranted }
-{}
-
-/// Each plugin keeps what it owes (`plugin_base/specs/PluginLaws.antt`), the first and the chained ones, however they
-/// are configured.
-#[tactic(auto, using(crate::proofs::PluginLaws::chained_laws))]
-pub fn each_plugin_keeps_its_laws()
-    ensures firsts { FirstsKeepTheirLaws }
-    ensures chained { ChainedKeepTheirLaws }
 {}

@@ -1,14 +1,12 @@
 //! What a verb calls and what it answers.
 //!
-//! To the book above it promises definitions: what a verb asks of its command's fields (`specs/CommandFields.antt`),
-//! the calls of an ADD, the objects that it wants and its result (`specs/Wanted.antt`), the questions of a CHECK and of
-//! a STATUS (`specs/Questions.antt`), the next call or the end as a function of all replies so far
-//! (`specs/Script.antt`), and the errors (`specs/Answers.antt`), whose codes and titles every error of the program has
-//! from here (`specs/ErrorKinds.antt`). A [`Run`] follows the script one reply at a time and keeps no replies: it is
-//! seen as the list, the command and the script's state (`specs/Progress.antt`), its next call and its answer are the
-//! script's, and to take a reply takes no memory but for a copy of a text or a list that the reply holds: what takes
-//! more is made by `prepare`, once after each reply. A command of no network runs too: it is one change from outside. A
-//! GC's run is `gc_sweep::GcRun`.
+//! To the book above it promises definitions: the questions of a CHECK and of a STATUS (`specs/Questions.antt`), the
+//! mappings that reach plugins (`specs/Mappings.antt`), the next call or the end as a function of all replies so far
+//! (`specs/Script.antt`), and the answer of each end (`specs/Endings.antt`). A [`Run`] follows the script one reply at a
+//! time and keeps no replies: it is seen as the list, the command and the script's state (`specs/Progress.antt`), its
+//! next call and its answer are the script's, and to take a reply takes no memory but for a copy of a text or a list
+//! that the reply holds: what takes more is made by `prepare`, once after each reply. A command of no network runs too:
+//! it is one change from outside. A GC's run is `gc_sweep::GcRun`.
 //!
 //! ```text
 //! let mut run = Run::start(alloc, Some(&list), &add)?;
@@ -22,26 +20,16 @@
 #![tactic(auto)]
 
 mod advance;
-pub mod answer;
 mod ending;
-pub mod error_kind;
-mod errors;
-mod fields;
 pub mod laws;
-mod missed;
+pub mod mappings;
 mod next;
 mod over;
 mod phase;
-mod plugins;
 mod prepare;
-mod questions;
+pub mod questions;
 pub mod run;
-mod share;
 mod start;
-pub mod wanted;
 
-pub use answer::{Answer, Cause, Ending, Missed, Question, Skip, WrongFields};
-pub use ending::plain_answer;
-pub use error_kind::{ErrorKind, memory_error, message_of_field, plain_error, titled_error};
 pub use run::Run;
 pub use start::early_ending;

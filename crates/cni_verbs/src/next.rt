@@ -2,20 +2,21 @@
 
 ghost use Rattle.std.specs.Prelude.{◌≡◌, ℕ, ◌<◌, true, Some, length, slice_get, option_map, IfOk};
 ghost use Rattle.kernel_types.specs.declared.call.Call.TheVariants as call;
-ghost use Rattle.cni_verbs.specs.CommandFields.{att_of};
-ghost use Rattle.cni_verbs.specs.Wanted.{deletion, result_of_add, sets_of};
+ghost use Rattle.cni_errors.specs.CommandFields.{att_of};
+ghost use Rattle.plugin_chain.specs.Wanted.{deletion, result_of_add, sets_of};
 ghost use Rattle.cni_verbs.specs.Script.{before_of, back_of, next_call};
 ghost use Rattle.cni_verbs.specs.Phases.{KeepsOfList, is_prepared, state_in, state_outside};
 
-use crate::answer::Question;
-use crate::fields::{att_of, mappings_of, named_att_of};
+use crate::mappings::mappings_of;
 use crate::phase::Phase;
-use crate::plugins::calls_before;
-use crate::wanted::{Back, back_calls, deletion, sets_of};
 use cni_addr::{Addr, Duplicate, Items, NoMemory, RefCounted};
+use cni_errors::Question;
+use cni_errors::fields::{att_of, named_att_of};
 use host_local::lease_at;
 use kernel_types::{Call, Kind};
 use net_conf::NetList;
+use plugin_chain::plugins::calls_before;
+use plugin_chain::wanted::{Back, back_calls, deletion, sets_of};
 use pod_file::Command;
 use std::alloc::Global;
 

@@ -2,8 +2,8 @@
 
 ghost use Rattle.std.specs.Prelude.{◌≡◌};
 
-use crate::answer::{Cause, Ending, Question};
 use cni_addr::{Items, RefCounted};
+use cni_errors::{Cause, Ending, Question};
 use cni_result::Cached;
 use kernel_types::Call;
 

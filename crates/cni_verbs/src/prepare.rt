@@ -6,10 +6,10 @@ ghost use Rattle.cni_verbs.specs.Phases.{IsSameButPrepared, is_prepared};
 use crate::next::{back_of, before_of};
 use crate::phase::Phase;
 use crate::questions::check_questions;
-use crate::wanted::Back;
 use cni_addr::{Addr, Items, NoMemory, RefCounted};
 use kernel_types::Call;
 use net_conf::NetList;
+use plugin_chain::wanted::Back;
 use pod_file::Command;
 use std::alloc::Global;
 

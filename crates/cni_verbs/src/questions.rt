@@ -2,117 +2,25 @@
 
 ghost use Rattle.std.specs.Prelude.{◌≡◌, ◌+◌, ◌++◌, ◌≤◌, [], length, map, IfOk, OnOk};
 ghost use Rattle.kernel_types.specs.declared.call.Call.TheVariants as calls;
+ghost use Rattle.cni_errors.specs.ObjectQuestions.{rule_questions};
 ghost use Rattle.cni_verbs.specs.Questions as asked;
 ghost use Rattle.net_conf.specs.Sets.{most_sets};
 ghost use Rattle.std.specs.Option.{option_copied};
 
-use crate::answer::{Cause, Missed, Question};
-use crate::fields::named_att_of;
-use crate::plugins::{bridge_of, calls_before, master_of};
-use crate::share::{Objects, no_objects};
-use crate::wanted::{plugin_calls, sets_of};
 use cni_addr::{Addr, Duplicate, Items, Mac, NoMemory, RangeSet, RefCounted, Text};
+use cni_errors::fields::named_att_of;
+use cni_errors::object_questions::{Checked, rule_question};
+use cni_errors::{Cause, Missed, Question};
 use cni_result::{AddResult, Cached, Interface};
-use kernel_types::{AddrObj, Call, Lease, Link, Object, Probe, RouteObj, Rule, Setting};
+use kernel_types::{Call, Probe, Rule};
 use net_conf::NetList;
+use plugin_chain::plugins::{bridge_of, calls_before, master_of};
+use plugin_chain::share::{Objects, no_objects};
+use plugin_chain::wanted::{plugin_calls, sets_of};
 use pod_file::Command;
 use std::alloc::Global;
 
 // ---- the objects of an attachment
-
-/// An object that a check asks for by itself.
-trait Checked: Drop {
-    ghost use Rattle.std.specs.Prelude.{◌≡◌, IfOk};
-    ghost use Rattle.cni_verbs.specs.declared.answer.Question.{Question};
-
-    ghost question: { Self → Question };
-
-    /// Whether it is there as it is, and what is missed otherwise.
-    fn ask(self, alloc: Global) -> Result<Question, NoMemory>
-        ensures { IfOk result (λ q. q ≡ question self) };
-}
-
-fn asks_for(alloc: Global, object: Object, missed: Missed) -> Result<Question, NoMemory>
-    ensures { IfOk result (λ q. q ≡ asked.asks_for object missed) }
-{
-    let probe = Probe::Whole(object);
-    Ok(Question {
-        call: RefCounted::of(alloc, Call::HasObj { probe })?,
-        lack: Cause::Missing(RefCounted::of(alloc, missed)?),
-    })
-}
-
-impl Checked for Link {
-    ghost use Rattle.cni_verbs.specs.Questions.{link_question};
-
-    ghost question = { link_question };
-
-    fn ask(self, alloc: Global) -> Result<Question, NoMemory> {
-        let missed = Missed::Link {
-            ns: self.ns.copy()?,
-            name: self.name.copy()?,
-        };
-        asks_for(alloc, Object::Link(RefCounted::of(alloc, self)?), missed)
-    }
-}
-
-impl Checked for RefCounted<AddrObj> {
-    ghost use Rattle.cni_verbs.specs.Questions.{address_question};
-
-    ghost question = { address_question };
-
-    fn ask(self, alloc: Global) -> Result<Question, NoMemory> {
-        let address = self.get();
-        let missed = Missed::Address {
-            ns: address.ns.copy()?,
-            link: address.link.copy()?,
-            cidr: address.cidr,
-        };
-        asks_for(alloc, Object::Address(self), missed)
-    }
-}
-
-impl Checked for RefCounted<RouteObj> {
-    ghost use Rattle.cni_verbs.specs.Questions.{route_question};
-
-    ghost question = { route_question };
-
-    fn ask(self, alloc: Global) -> Result<Question, NoMemory> {
-        let route = self.get();
-        let missed = Missed::Route {
-            ns: route.ns.copy()?,
-            link: route.link.copy()?,
-            dst: route.dst,
-        };
-        asks_for(alloc, Object::Route(self), missed)
-    }
-}
-
-impl Checked for RefCounted<Setting> {
-    ghost use Rattle.cni_verbs.specs.Questions.{setting_question};
-
-    ghost question = { setting_question };
-
-    fn ask(self, alloc: Global) -> Result<Question, NoMemory> {
-        let setting = self.get();
-        let missed = Missed::Setting {
-            ns: setting.ns.copy()?,
-            key: setting.key.copy()?,
-        };
-        asks_for(alloc, Object::Setting(self), missed)
-    }
-}
-
-impl Checked for RefCounted<Lease> {
-    ghost use Rattle.cni_verbs.specs.Questions.{lease_question};
-
-    ghost question = { lease_question };
-
-    fn ask(self, alloc: Global) -> Result<Question, NoMemory> {
-        let missed = Missed::Lease(self.get().addr);
-        asks_for(alloc, Object::Lease(self), missed)
-    }
-}
 
 fn ask_each<T: Checked>(questions: &mut Vec<Question>, objects: Vec<T>) -> Result<(), NoMemory>
     ensures { OnOk result (questions.new.items ≡ questions.old.items ++ map T.question objects.items) }
@@ -125,19 +33,8 @@ fn ask_each<T: Checked>(questions: &mut Vec<Question>, objects: Vec<T>) -> Resul
     Ok(())
 }
 
-fn rule_question(alloc: Global, rule: &RefCounted<Rule>, number: u64) -> Result<Question, NoMemory>
-    ensures { IfOk result (λ q. q ≡ asked.rule_question number rule.now) }
-{
-    let missed = Missed::Rule {
-        table: rule.get().table,
-        chain: rule.get().chain,
-        number,
-    };
-    asks_for(alloc, Object::Rule(rule.copy()?), missed)
-}
-
 fn ask_rules(questions: &mut Vec<Question>, rules: &[RefCounted<Rule>]) -> Result<(), NoMemory>
-    ensures { OnOk result (questions.new.items ≡ questions.old.items ++ asked.rule_questions 1 rules.now) }
+    ensures { OnOk result (questions.new.items ≡ questions.old.items ++ rule_questions 1 rules.now) }
 {
     let alloc = *questions.allocator();
     for (place, rule) in rules.iter().enumerate() {
@@ -222,7 +119,8 @@ fn ask_bridge(
 
 // ---- CHECK
 
-fn addresses_of_result(alloc: Global, added: &AddResult) -> Result<Vec<Addr>, NoMemory>
+/// The addresses of a result, in order.
+pub fn addresses_of_result(alloc: Global, added: &AddResult) -> Result<Vec<Addr>, NoMemory>
     ensures { IfOk result (λ addrs. addrs.items ≡ asked.addresses_of_result added.now) }
 {
     Ok(

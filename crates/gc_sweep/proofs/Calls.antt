@@ -37,7 +37,7 @@ use Rattle.pod_file.specs.declared.command.ValidAtt.{ValidAtt}
 use Rattle.cni_verbs.specs.Replies.{host_after, reply_to}
 use Rattle.cni_verbs.specs.Script.{call_of_work, gc_of}
 use Rattle.cni_verbs.specs.Sweep.{Gc, Step, AskCached, Delete, Sweep, Job, is_valid, step_call, job_of, after_step, work_after}
-use Rattle.cni_verbs.specs.Wanted.{deletion, kinds_of}
+use Rattle.plugin_chain.specs.Wanted.{deletion, kinds_of}
 use Rattle.gc_sweep.specs.Bound.{stale_owners, all_tags, objects_by, GcBound}
 use Rattle.gc_sweep.specs.Keep.{goes, IsWithin}
 use Rattle.gc_sweep.specs.Trace.{Made, host_on}

@@ -22,7 +22,7 @@ use Rattle.pod_file.specs.declared.command.ValidAtt.{ValidAtt}
 use Rattle.cni_verbs.specs.Replies.{host_after, reply_to}
 use Rattle.cni_verbs.specs.Script.{call_of_work}
 use Rattle.cni_verbs.specs.Sweep.{Gc, Step, AskCached, Delete, Sweep, Job, step_call, job_of, after_step, work_after, all_sweeps}
-use Rattle.cni_verbs.specs.Wanted.{deletion}
+use Rattle.plugin_chain.specs.Wanted.{deletion}
 use Rattle.gc_sweep.specs.Keep.{stays, goes}
 use Rattle.gc_sweep.specs.Trace.{Made, is_about, blames, is_blamed}
 use Rattle.kernel_types.specs.Codes.{kind_eq}

@@ -21,7 +21,7 @@ use Rattle.kernel_types.proofs.Deletes.{IsSound-rule_del, IsSound-setting_del, I
 use Rattle.kernel_types.proofs.DropsOwn.{TouchesOwn-RemovesOwn, RemovesOwn-rule_del, RemovesOwn-setting_del, RemovesOwn-lease_del, RemovesOwn-cache_del, RemovesOwn-link_del}
 use Rattle.kernel_types.proofs.ListLemmas.{without_first-none, list_any-find_none, list_any-map, passes-find}
 use Rattle.kernel_types.proofs.Removal.{IsSound-link_del, goes_with-itself}
-use Rattle.cni_verbs.specs.Wanted.{deletion}
+use Rattle.plugin_chain.specs.Wanted.{deletion}
 use Rattle.gc_sweep.specs.Keep.{IsWithin}
 use Rattle.gc_sweep.proofs.Lists.{any-found, count_found, count_without_first}
 use Rattle.gc_sweep.proofs.Removes.{within_own}

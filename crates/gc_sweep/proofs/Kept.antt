@@ -22,7 +22,7 @@ use Rattle.kernel_types.specs.declared.call.Kind.{Kind}
 use Rattle.kernel_types.specs.declared.call.Kind.TheVariants.{Links, Rules, Settings, Leases, Cached}
 use Rattle.cni_verbs.specs.Sweep.{Gc}
 use Rattle.gc_sweep.specs.Keep.{stays, keep, IsWithin}
-use Rattle.cni_verbs.specs.Wanted.{deletion}
+use Rattle.plugin_chain.specs.Wanted.{deletion}
 use Rattle.gc_sweep.proofs.Lists.{drops-map}
 use Rattle.gc_sweep.proofs.Owners.{is_stale, own_goes}
 use Rattle.gc_sweep.proofs.Deletions.{deletes}

@@ -26,7 +26,7 @@ use Rattle.net_conf.specs.declared.list.NetList.{NetList}
 use Rattle.pod_file.specs.declared.command.Command.{Command}
 use Rattle.cni_verbs.specs.Script.{gc_of, faults_after, swept}
 use Rattle.cni_verbs.specs.Sweep.{Gc, Job, Sweep}
-use Rattle.cni_verbs.specs.declared.answer.Ending.TheVariants.{Yes}
+use Rattle.cni_errors.specs.declared.answer.Ending.TheVariants.{Yes}
 use Rattle.gc_sweep.specs.Keep.{stays, keep, IsWithin}
 use Rattle.gc_sweep.specs.Sweep.{IsCollected, is_excused, AreExcused, Bounds, YesKeeps, AlwaysBounded, OverExcused, fault_numbers, FaultsNamed}
 use Rattle.gc_sweep.specs.Trace.{Made, host_on, host_from, is_blamed, Ends, IsRun}

@@ -12,17 +12,18 @@ use Rattle.pod_file.specs.declared.command.Verb.TheVariants as verbs
 use Rattle.kernel_types.specs.declared.call.Kind.{Kind}
 use Rattle.kernel_types.specs.declared.call.Reply.{Reply}
 use Rattle.kernel_types.specs.Replies.{is_fault}
-use Rattle.cni_verbs.specs.Answers.{answer_of, plain_answer}
+use Rattle.cni_verbs.specs.Endings.{answer_of}
+use Rattle.cni_errors.specs.Answers.{plain_answer}
 use Rattle.cni_verbs.specs.Progress.{Progress, is_gc, advanced, answer_in}
 use Rattle.cni_verbs.specs.Script.{State, Collecting, Over, IsOpen, collecting, early_ending, start_state, start_of, advance, next_call, call_of_work, finish_of, finish_of_work, gc_of, faults_after, has_no_work, swept, unless_ended}
 use Rattle.cni_verbs.specs.Sweep.{Job, Sweep, Work, start_work, work_after}
-use Rattle.cni_verbs.specs.Wanted.{kinds_of}
-use Rattle.cni_verbs.specs.declared.answer.Cause.{Cause}
-use Rattle.cni_verbs.specs.declared.answer.Cause.TheVariants as causes
-use Rattle.cni_verbs.specs.declared.answer.Ending.{Ending}
-use Rattle.cni_verbs.specs.declared.answer.Ending.TheVariants as endings
-use Rattle.cni_verbs.specs.declared.answer.Skip.{Skip}
-use Rattle.cni_verbs.specs.declared.answer.Skip.TheVariants as skips
+use Rattle.plugin_chain.specs.Wanted.{kinds_of}
+use Rattle.cni_errors.specs.declared.answer.Cause.{Cause}
+use Rattle.cni_errors.specs.declared.answer.Cause.TheVariants as causes
+use Rattle.cni_errors.specs.declared.answer.Ending.{Ending}
+use Rattle.cni_errors.specs.declared.answer.Ending.TheVariants as endings
+use Rattle.cni_errors.specs.declared.answer.Skip.{Skip}
+use Rattle.cni_errors.specs.declared.answer.Skip.TheVariants as skips
 use Rattle.cni_verbs.proofs.EarlyEndings.{early_ending-cases}
 use Rattle.gc_sweep.specs.Sweep.{is_early}
 use Rattle.gc_sweep.specs.View.{HasTaken, IsInRange, IsPlace, ending_in, progress_of, work_of, jobs_left, sweeps_after}

@@ -7,8 +7,8 @@ use Rattle.net_conf.specs.declared.list.NetList.{NetList}
 use Rattle.pod_file.specs.declared.command.Command.{Command}
 use Rattle.cni_verbs.specs.Script.{State, Collecting, Over, Finish, start_state, state_from, advance, next_call, finish_of, finish_of_work, gc_of, swept, unless_ended}
 use Rattle.cni_verbs.specs.Sweep.{Gc, Job, Sweep, start_work}
-use Rattle.cni_verbs.specs.declared.answer.Ending.{Ending}
-use Rattle.cni_verbs.specs.declared.answer.Ending.TheVariants.{Yes}
+use Rattle.cni_errors.specs.declared.answer.Ending.{Ending}
+use Rattle.cni_errors.specs.declared.answer.Ending.TheVariants.{Yes}
 use Rattle.cni_verbs.proofs.EarlyEndings.{early_ending-cases}
 use Rattle.gc_sweep.specs.Sweep.{IsCollected, is_early}
 use Rattle.gc_sweep.specs.Trace.{Made, host_on, IsRunFrom, IsRun, Ends, replies}

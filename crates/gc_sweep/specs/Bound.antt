@@ -11,7 +11,7 @@ use Rattle.net_conf.specs.declared.list.NetList.{NetList}
 use Rattle.pod_file.specs.declared.command.Command.{Command}
 use Rattle.pod_file.specs.declared.command.ValidAtt.{ValidAtt}
 use Rattle.cni_verbs.specs.Sweep.{is_valid}
-use Rattle.cni_verbs.specs.Wanted.{kinds_of}
+use Rattle.plugin_chain.specs.Wanted.{kinds_of}
 use Rattle.gc_sweep.specs.Keep.{goes}
 use Rattle.gc_sweep.specs.Trace.{Made, IsRun}
 use Rattle.cni_verbs.specs.Progress.{is_gc}

@@ -13,8 +13,8 @@ use Rattle.net_conf.specs.declared.list.NetList.{NetList}
 use Rattle.pod_file.specs.declared.command.Command.{Command}
 use Rattle.pod_file.specs.declared.command.ValidAtt.{ValidAtt}
 use Rattle.cni_verbs.specs.Script.{early_ending, swept}
-use Rattle.cni_verbs.specs.declared.answer.Ending.{Ending}
-use Rattle.cni_verbs.specs.declared.answer.Ending.TheVariants.{Yes}
+use Rattle.cni_errors.specs.declared.answer.Ending.{Ending}
+use Rattle.cni_errors.specs.declared.answer.Ending.TheVariants.{Yes}
 use Rattle.gc_sweep.specs.Keep.{stays, keep, IsWithin}
 use Rattle.gc_sweep.specs.Trace.{Made, IsRun, Ends, host_from, is_blamed}
 use Rattle.cni_verbs.specs.Progress.{is_gc}

@@ -15,7 +15,7 @@ use Rattle.net_conf.specs.declared.list.NetList.{NetList}
 use Rattle.pod_file.specs.declared.command.Command.{Command}
 use Rattle.cni_verbs.specs.Replies.{host_after, reply_to}
 use Rattle.cni_verbs.specs.Script.{State, start_state, advance, next_call, state_after, finish_of}
-use Rattle.cni_verbs.specs.declared.answer.Ending.{Ending}
+use Rattle.cni_errors.specs.declared.answer.Ending.{Ending}
 
 -- a call that the GC made, and its reply
 pub record Made : Type 0 where

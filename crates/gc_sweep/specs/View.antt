@@ -11,8 +11,8 @@ use Rattle.pod_file.specs.declared.command.ValidAtt.{ValidAtt}
 use Rattle.cni_verbs.specs.Progress.{Progress}
 use Rattle.cni_verbs.specs.Script.{State, Finish, collecting, finish_of}
 use Rattle.cni_verbs.specs.Sweep.{Step, AskCached, Delete, Sweep, Job, Work, first_sweep, kind_sweep, all_sweeps, job_of, after_step, work_after}
-use Rattle.cni_verbs.specs.Wanted.{kinds_of}
-use Rattle.cni_verbs.specs.declared.answer.Ending.{Ending}
+use Rattle.plugin_chain.specs.Wanted.{kinds_of}
+use Rattle.cni_errors.specs.declared.answer.Ending.{Ending}
 use Rattle.gc_sweep.specs.declared.place.Stage.{Stage}
 use Rattle.gc_sweep.specs.declared.place.Stage.TheVariants.{Start, First, Of}
 use Rattle.gc_sweep.specs.declared.place.OwnerStep.{OwnerStep}

@@ -11,8 +11,8 @@ ghost use Rattle.gc_sweep.specs.View.{HasTaken, IsPlace, jobs_left, step_of, ste
 
 use crate::valid::ValidIndex;
 use cni_addr::{Duplicate, Items, NoMemory, RefCounted, Text};
-use cni_verbs::wanted::deletion;
 use kernel_types::{Att, Call, Kind, Reply};
+use plugin_chain::wanted::deletion;
 use std::alloc::Global;
 
 /// The sweep at hand: none yet, that of the cached results, or that of a kind.

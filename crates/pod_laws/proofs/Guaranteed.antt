@@ -1,8 +1,8 @@
 -- Every legal history is guaranteed.
 use Rattle.std.proofs.Common.{◌≡◌, ℕ, true, List, ◌++◌, Some, slice_get, refl, ◌∙◌, ap, subst, inl, inr}
 use Rattle.std.proofs.lemmas.Bool.{cases_Bool}
-use Rattle.cni_verbs.specs.declared.answer.Answer.{Answer}
-use Rattle.cni_verbs.specs.declared.answer.Answer.TheVariants as answers
+use Rattle.cni_errors.specs.declared.answer.Answer.{Answer}
+use Rattle.cni_errors.specs.declared.answer.Answer.TheVariants as answers
 use Rattle.net_conf.specs.declared.list.NetList.{NetList}
 use Rattle.pod_file.specs.Commands.{is_of_network}
 use Rattle.pod_file.specs.declared.command.Command.{Command}

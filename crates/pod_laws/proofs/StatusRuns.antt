@@ -20,11 +20,11 @@ use Rattle.kernel_types.proofs.Replies.{IsReplyOf-apply}
 use Rattle.kernel_types.specs.declared.object.Host.{Host}
 use Rattle.cni_verbs.specs.Questions.{master_questions, pool_questions, status_questions}
 use Rattle.cni_verbs.specs.Script.{State, Asking, Over, Calls, advance, asking, at_question, start_of, turn, old_ending, unless_ended}
-use Rattle.cni_verbs.specs.Wanted.{master_of, sets_of}
-use Rattle.cni_verbs.specs.declared.answer.Cause.TheVariants as causes
-use Rattle.cni_verbs.specs.declared.answer.Ending.{Ending}
-use Rattle.cni_verbs.specs.declared.answer.Ending.TheVariants.{Refused}
-use Rattle.cni_verbs.specs.declared.answer.Question.{Question}
+use Rattle.plugin_chain.specs.Wanted.{master_of, sets_of}
+use Rattle.cni_errors.specs.declared.answer.Cause.TheVariants as causes
+use Rattle.cni_errors.specs.declared.answer.Ending.{Ending}
+use Rattle.cni_errors.specs.declared.answer.Ending.TheVariants.{Refused}
+use Rattle.cni_errors.specs.declared.answer.Question.{Question}
 use Rattle.cni_verbs.proofs.EarlyEndings.{old_ending-cases, too_old}
 use Rattle.pod_workers.specs.World.{entry_of, host_of, reply_to}
 use Rattle.pod_workers.specs.declared.plan.Entry.{Entry}

@@ -3,10 +3,11 @@ use Rattle.std.specs.Prelude.{◌≡◌, ℕ, true, Some, slice_get}
 use Rattle.cni_addr.specs.Equal.{addr_eq}
 use Rattle.cni_addr.specs.Lists.{distinct}
 use Rattle.cni_result.specs.declared.result.AddResult.{AddResult}
-use Rattle.cni_verbs.specs.CommandFields.{att_of, mappings_of}
+use Rattle.cni_errors.specs.CommandFields.{att_of}
+use Rattle.cni_verbs.specs.Mappings.{mappings_of}
 use Rattle.cni_verbs.specs.Script.{leases_in}
-use Rattle.cni_verbs.specs.Wanted.{result_of_add, sets_of, wanted}
-use Rattle.cni_verbs.specs.declared.answer.Answer.TheVariants as answers
+use Rattle.plugin_chain.specs.Wanted.{result_of_add, sets_of, wanted}
+use Rattle.cni_errors.specs.declared.answer.Answer.TheVariants as answers
 use Rattle.host_local.specs.Laws.{AreCandidates}
 use Rattle.net_conf.specs.declared.list.NetList.{NetList}
 use Rattle.pod_file.specs.declared.command.Command.{Command}

@@ -4,9 +4,10 @@ use Rattle.std.specs.List.{AllByRecursion}
 use Rattle.std.specs.Option.{option_or}
 use Rattle.cni_addr.specs.declared.address.Addr.{Addr}
 use Rattle.cni_verbs.specs.AddCalls.{is_done}
-use Rattle.cni_verbs.specs.CommandFields.{att_of, mappings_of}
+use Rattle.cni_errors.specs.CommandFields.{att_of}
+use Rattle.cni_verbs.specs.Mappings.{mappings_of}
 use Rattle.cni_verbs.specs.Script.{leases_in}
-use Rattle.cni_verbs.specs.Wanted.{back_calls, sets_links, links_made, wanted}
+use Rattle.plugin_chain.specs.Wanted.{back_calls, sets_links, links_made, wanted}
 use Rattle.kernel_types.specs.Equal.{att_eq}
 use Rattle.cni_addr.specs.Lists.{IsAmong}
 use Rattle.kernel_types.specs.declared.object.Att.{Att}

@@ -2,13 +2,13 @@
 use Rattle.std.specs.Prelude.{◌≡◌, ◌&&◌, Bool, MatchBool, List, []}
 use Rattle.std.specs.List.{list_all}
 use Rattle.cni_result.specs.Versions.{is_before_1_1}
-use Rattle.cni_verbs.specs.Answers.{code_of}
+use Rattle.cni_errors.specs.Answers.{code_of}
 use Rattle.cni_verbs.specs.Questions.{status_questions}
-use Rattle.cni_verbs.specs.Wanted.{master_of, sets_of}
-use Rattle.cni_verbs.specs.declared.answer.Cause.{Cause}
-use Rattle.cni_verbs.specs.declared.answer.Cause.TheVariants as causes
-use Rattle.cni_verbs.specs.declared.answer.Ending.{Ending}
-use Rattle.cni_verbs.specs.declared.answer.Ending.TheVariants.{Refused}
+use Rattle.plugin_chain.specs.Wanted.{master_of, sets_of}
+use Rattle.cni_errors.specs.declared.answer.Cause.{Cause}
+use Rattle.cni_errors.specs.declared.answer.Cause.TheVariants as causes
+use Rattle.cni_errors.specs.declared.answer.Ending.{Ending}
+use Rattle.cni_errors.specs.declared.answer.Ending.TheVariants.{Refused}
 use Rattle.ip_pool.specs.Pool.{has_free_of}
 use Rattle.kernel_types.specs.Apply.Calls.{has_master, leased_addresses}
 use Rattle.kernel_types.specs.declared.object.Host.{Host}

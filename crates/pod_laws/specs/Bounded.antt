@@ -1,9 +1,9 @@
 -- How many calls a run makes at most.
 use Rattle.std.specs.Prelude.{◌≡◌, ◌≢◌, ℕ, ◌+◌, ◌*◌, ◌≤◌, false, List, [], ◌∷◌, ◌++◌, length, Some, slice_get}
 use Rattle.cni_result.specs.declared.cached.Cached.{Cached}
-use Rattle.cni_verbs.specs.CommandFields.{att_of}
+use Rattle.cni_errors.specs.CommandFields.{att_of}
 use Rattle.cni_verbs.specs.Questions.{cached_share}
-use Rattle.cni_verbs.specs.Wanted.{kinds_of, sets_of}
+use Rattle.plugin_chain.specs.Wanted.{kinds_of, sets_of}
 use Rattle.kernel_types.specs.declared.call.Reply.TheVariants.{Entry as Found}
 use Rattle.net_conf.specs.declared.list.NetList.{NetList}
 use Rattle.plugin_base.specs.Share.{Share}

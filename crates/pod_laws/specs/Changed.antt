@@ -1,9 +1,9 @@
 -- What a VERSION is answered (CNI specification, section 3, "Version"), and what a change from outside is.
 use Rattle.std.specs.Prelude.{◌≡◌, false, List, [], ◌∷◌}
-use Rattle.cni_verbs.specs.Answers.{outside_by}
+use Rattle.cni_verbs.specs.Endings.{outside_by}
 use Rattle.cni_verbs.specs.Script.{State, Over, Changing, changed, outside_start}
-use Rattle.cni_verbs.specs.declared.answer.Answer.{Answer}
-use Rattle.cni_verbs.specs.declared.answer.Ending.TheVariants.{Versions}
+use Rattle.cni_errors.specs.declared.answer.Answer.{Answer}
+use Rattle.cni_errors.specs.declared.answer.Ending.TheVariants.{Versions}
 use Rattle.pod_file.specs.declared.command.Command.{Command}
 use Rattle.pod_file.specs.declared.command.Verb.{Verb}
 use Rattle.pod_file.specs.declared.command.Verb.TheVariants as verbs

@@ -4,15 +4,15 @@ use Rattle.std.specs.List.{list_any, list_all}
 use Rattle.cni_addr.specs.declared.mac.Mac.{Mac}
 use Rattle.cni_result.specs.declared.cached.Cached.{Cached}
 use Rattle.cni_result.specs.declared.result.Interface.{Interface}
-use Rattle.cni_verbs.specs.CommandFields.{att_of, del_refusal}
+use Rattle.cni_errors.specs.CommandFields.{att_of, del_refusal}
 use Rattle.cni_verbs.specs.Questions.{cached_share, check_questions}
-use Rattle.cni_verbs.specs.Wanted.{bridge_of}
-use Rattle.cni_verbs.specs.declared.answer.Cause.{Cause}
-use Rattle.cni_verbs.specs.declared.answer.Cause.TheVariants as causes
-use Rattle.cni_verbs.specs.declared.answer.Ending.{Ending}
-use Rattle.cni_verbs.specs.declared.answer.Ending.TheVariants.{Skipped, Refused}
-use Rattle.cni_verbs.specs.declared.answer.Missed.{Missed}
-use Rattle.cni_verbs.specs.declared.answer.Skip.TheVariants as skips
+use Rattle.plugin_chain.specs.Wanted.{bridge_of}
+use Rattle.cni_errors.specs.declared.answer.Cause.{Cause}
+use Rattle.cni_errors.specs.declared.answer.Cause.TheVariants as causes
+use Rattle.cni_errors.specs.declared.answer.Ending.{Ending}
+use Rattle.cni_errors.specs.declared.answer.Ending.TheVariants.{Skipped, Refused}
+use Rattle.cni_errors.specs.declared.answer.Missed.{Missed}
+use Rattle.cni_errors.specs.declared.answer.Skip.TheVariants as skips
 use Rattle.kernel_types.specs.Apply.Calls.{has_object}
 use Rattle.kernel_types.specs.Equal.{link_eq, addr_obj_eq, route_eq, rule_eq, setting_eq, lease_eq}
 use Rattle.kernel_types.specs.Terms.{cached_in}

@@ -1,10 +1,10 @@
 -- What a DEL leaves (CNI specification, section 3, "Deleting an attachment").
 use Rattle.std.specs.Prelude.{◌≡◌, ◌+◌, ◌⊎◌, false, List, [], ◌∷◌, ◌++◌, length, None}
-use Rattle.cni_verbs.specs.CommandFields.{att_of, del_refusal}
-use Rattle.cni_verbs.specs.declared.answer.Answer.{Answer}
-use Rattle.cni_verbs.specs.declared.answer.Answer.TheVariants as answers
-use Rattle.cni_verbs.specs.declared.answer.Cause.{Cause}
-use Rattle.cni_verbs.specs.declared.answer.Cause.TheVariants as causes
+use Rattle.cni_errors.specs.CommandFields.{att_of, del_refusal}
+use Rattle.cni_errors.specs.declared.answer.Answer.{Answer}
+use Rattle.cni_errors.specs.declared.answer.Answer.TheVariants as answers
+use Rattle.cni_errors.specs.declared.answer.Cause.{Cause}
+use Rattle.cni_errors.specs.declared.answer.Cause.TheVariants as causes
 use Rattle.kernel_types.specs.Isolation.{RemovesOwn}
 use Rattle.kernel_types.specs.declared.object.Att.{Att}
 use Rattle.kernel_types.specs.declared.object.Host.{Host}

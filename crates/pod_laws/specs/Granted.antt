@@ -1,10 +1,10 @@
 -- What a kernel grants of questions, and that asking changes nothing (CNI specification, section 3, "Checking
 -- attachment" and "Status").
 use Rattle.std.specs.Prelude.{◌≡◌, Bool, true, false, List}
-use Rattle.cni_verbs.specs.declared.answer.Cause.{Cause}
-use Rattle.cni_verbs.specs.declared.answer.Ending.{Ending}
-use Rattle.cni_verbs.specs.declared.answer.Ending.TheVariants.{Refused}
-use Rattle.cni_verbs.specs.declared.answer.Question.{Question}
+use Rattle.cni_errors.specs.declared.answer.Cause.{Cause}
+use Rattle.cni_errors.specs.declared.answer.Ending.{Ending}
+use Rattle.cni_errors.specs.declared.answer.Ending.TheVariants.{Refused}
+use Rattle.cni_errors.specs.declared.answer.Question.{Question}
 use Rattle.kernel_types.specs.Apply.{apply}
 use Rattle.kernel_types.specs.declared.object.Host.{Host}
 use Rattle.kernel_types.specs.declared.call.Reply.{Reply}

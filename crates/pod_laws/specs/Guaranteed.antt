@@ -1,11 +1,11 @@
 -- What is guaranteed of a plan that is carried out, however its commands are interleaved, stopped, meet faults or are
 -- refused memory: at every moment, and of every answer of an ADD, a DEL, a CHECK and a GC.
 use Rattle.std.specs.Prelude.{◌≡◌, ℕ, true, List, [], ◌++◌}
-use Rattle.cni_verbs.specs.Answers.{answer_of_ending}
-use Rattle.cni_verbs.specs.CommandFields.{del_refusal}
-use Rattle.cni_verbs.specs.declared.answer.Answer.{Answer}
-use Rattle.cni_verbs.specs.declared.answer.Answer.TheVariants as answers
-use Rattle.cni_verbs.specs.declared.answer.Ending.{Ending}
+use Rattle.cni_verbs.specs.Endings.{answer_of_ending}
+use Rattle.cni_errors.specs.CommandFields.{del_refusal}
+use Rattle.cni_errors.specs.declared.answer.Answer.{Answer}
+use Rattle.cni_errors.specs.declared.answer.Answer.TheVariants as answers
+use Rattle.cni_errors.specs.declared.answer.Ending.{Ending}
 use Rattle.kernel_types.specs.Sound.{IsSound, NoAddressTwice}
 use Rattle.kernel_types.specs.declared.object.Att.{Att}
 use Rattle.net_conf.specs.declared.list.NetList.{NetList}

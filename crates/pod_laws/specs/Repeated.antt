@@ -1,8 +1,8 @@
 -- What is gone stays gone, and a DEL that is repeated changes nothing (CNI specification, section 2, "DEL").
 use Rattle.std.specs.Prelude.{◌≡◌, ℕ, ◌+◌, Bool, true, false, ◌||◌, not, List, [], ◌∷◌, ◌++◌, Some, slice_get}
 use Rattle.std.specs.List.{list_all, list_any}
-use Rattle.cni_verbs.specs.CommandFields.{att_of}
-use Rattle.cni_verbs.specs.declared.answer.Answer.TheVariants as answers
+use Rattle.cni_errors.specs.CommandFields.{att_of}
+use Rattle.cni_errors.specs.declared.answer.Answer.TheVariants as answers
 use Rattle.kernel_types.specs.declared.object.Att.{Att}
 use Rattle.pod_file.specs.declared.command.Verb.TheVariants as verbs
 use Rattle.pod_workers.specs.Legal.{Legal}

@@ -6,10 +6,10 @@ use Rattle.cni_json.proofs.Building.{members_have_float-put}
 use Rattle.cni_result.proofs.ResultLemmas.{result_is_whole, error_is_whole}
 use Rattle.cni_result.proofs.WholeNumbers.{puts_are_whole}
 use Rattle.cni_result.specs.declared.version.Version.{Version}
-use Rattle.cni_verbs.specs.declared.answer.Answer.{Answer}
-use Rattle.cni_verbs.specs.declared.answer.Answer.TheVariants.{Added, Yes, Skipped, Versions, Refused, OutOfMemory, Stopped}
+use Rattle.cni_errors.specs.declared.answer.Answer.{Answer}
+use Rattle.cni_errors.specs.declared.answer.Answer.TheVariants.{Added, Yes, Skipped, Versions, Refused, OutOfMemory, Stopped}
 use Rattle.pod_file.specs.declared.command.Command.{Command}
-use Rattle.cni_verbs.specs.ErrorKinds.{memory_error}
+use Rattle.cni_errors.specs.ErrorKinds.{memory_error}
 use Rattle.pod_text.specs.Lines.{versions_data, put_answer, answer_data}
 use Rattle.pod_text.specs.Summary.{summary_data}
 use Rattle.pod_workers.specs.World.{World}

@@ -8,11 +8,11 @@ use Rattle.cni_json.specs.Members.{text_data, number_data, list_data, ◌▷◌}
 use Rattle.cni_result.specs.Results.{version_data, result_data, error_data}
 use Rattle.cni_result.specs.declared.version.Version.{Version}
 use Rattle.cni_result.specs.Versions.{known_versions}
-use Rattle.cni_verbs.specs.ErrorKinds.{memory_error}
-use Rattle.cni_verbs.specs.declared.answer.Answer.{Answer}
-use Rattle.cni_verbs.specs.declared.answer.Answer.TheVariants.{Added, Yes, Skipped, Versions, Refused, OutOfMemory, Stopped}
-use Rattle.cni_verbs.specs.declared.answer.Skip.{Skip}
-use Rattle.cni_verbs.specs.declared.answer.Skip.TheVariants as skips
+use Rattle.cni_errors.specs.ErrorKinds.{memory_error}
+use Rattle.cni_errors.specs.declared.answer.Answer.{Answer}
+use Rattle.cni_errors.specs.declared.answer.Answer.TheVariants.{Added, Yes, Skipped, Versions, Refused, OutOfMemory, Stopped}
+use Rattle.cni_errors.specs.declared.answer.Skip.{Skip}
+use Rattle.cni_errors.specs.declared.answer.Skip.TheVariants as skips
 use Rattle.kernel_text.specs.Dump.{dump_of}
 use Rattle.kernel_text.specs.Replies.{trace_data}
 use Rattle.net_conf.specs.List.{disable_check_key, disable_gc_key}

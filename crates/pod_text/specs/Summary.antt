@@ -4,8 +4,8 @@ use Rattle.std.specs.List.{count_by}
 use Rattle.serde_json.specs.Data.{Data, object, no_members, put}
 use Rattle.cni_json.specs.Json.{line_of}
 use Rattle.cni_json.specs.Members.{number_data, ◌▷◌}
-use Rattle.cni_verbs.specs.declared.answer.Answer.{Answer}
-use Rattle.cni_verbs.specs.declared.answer.Answer.TheVariants.{Added, Yes, Skipped, Versions}
+use Rattle.cni_errors.specs.declared.answer.Answer.{Answer}
+use Rattle.cni_errors.specs.declared.answer.Answer.TheVariants.{Added, Yes, Skipped, Versions}
 use Rattle.pod_workers.specs.Plans.{commands_of}
 use Rattle.pod_workers.specs.World.{World, host_of}
 

@@ -7,9 +7,9 @@ ghost use Rattle.cni_json.specs.Members.{members_of};
 ghost use Rattle.pod_text.specs.Lines.{skip_text, versions_data, put_answer, answer_data};
 
 use cni_addr::NoMemory;
+use cni_errors::{Answer, Skip, memory_error};
 use cni_json::JsonObject;
 use cni_result::{Version, error_value, to_value};
-use cni_verbs::{Answer, Skip, memory_error};
 use net_conf::{DISABLE_CHECK_KEY, DISABLE_GC_KEY};
 use pod_file::{Command, verb_text};
 use serde_json::Value;

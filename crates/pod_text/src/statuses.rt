@@ -4,7 +4,7 @@ ghost use Rattle.std.specs.Prelude.{◌≡◌};
 ghost use Rattle.std.specs.List.{list_any};
 ghost use Rattle.pod_text.specs.Statuses.{is_out_of_memory, is_failure, status_of};
 
-use cni_verbs::Answer;
+use cni_errors::Answer;
 use kernel_model::Kernel;
 use pod_workers::Book;
 

@@ -9,8 +9,8 @@ ghost use Rattle.pod_workers.specs.Plans.{commands_of};
 ghost use Rattle.pod_workers.specs.World.{host_of};
 
 use cni_addr::NoMemory;
+use cni_errors::Answer;
 use cni_json::JsonObject;
-use cni_verbs::Answer;
 use kernel_model::Kernel;
 use kernel_text::push_line;
 use pod_workers::{Book, legal_worlds_meet_each_clause};

@@ -16,8 +16,8 @@ use Rattle.pod_workers.specs.declared.plan.Next.{Next}
 use Rattle.pod_workers.specs.declared.plan.Next.TheVariants as next
 use Rattle.pod_workers.specs.declared.plan.Plan.{Plan}
 use Rattle.pod_workers.proofs.Elements.{at_number-is}
-use Rattle.cni_verbs.specs.declared.answer.Answer.{Answer}
-use Rattle.cni_verbs.specs.declared.answer.Answer.TheVariants.{OutOfMemory}
+use Rattle.cni_errors.specs.declared.answer.Answer.{Answer}
+use Rattle.cni_errors.specs.declared.answer.Answer.TheVariants.{OutOfMemory}
 use Rattle.pod_threads.specs.Counted.{entries_of_round, is_current}
 use Rattle.pod_threads.proofs.Counting.{count-all, count-append}
 use Rattle.pod_workers.proofs.Rounds.{is_in_round}

@@ -28,11 +28,11 @@ use Rattle.plugin_base.proofs.KeyLists.{list_all-append}
 use Rattle.plugin_base.proofs.PluginCalls.{interface-kinds}
 use Rattle.host_local.specs.Conf.{range_sets_of}
 use Rattle.host_local.specs.Leases.{lease_calls_from, lease_calls_of}
-use Rattle.cni_verbs.specs.Wanted.{back_calls, bridge_of, calls_after, calls_before, chained_calls, chained_kinds, chained_kinds_reversed, first_kinds, ipam_of, kinds_of, sets_of, wanted}
-use Rattle.cni_verbs.proofs.BackCalls.{PassesChained, passes-back}
-use Rattle.cni_verbs.proofs.OwnCalls.{own-back, own-before}
-use Rattle.cni_verbs.proofs.PluginLaws.{chained_laws, first_laws}
-use Rattle.cni_verbs.proofs.WantedShare.{adds-links, makes-wanted, share_with_leases}
+use Rattle.plugin_chain.specs.Wanted.{back_calls, bridge_of, calls_after, calls_before, chained_calls, chained_kinds, chained_kinds_reversed, first_kinds, ipam_of, kinds_of, sets_of, wanted}
+use Rattle.plugin_chain.proofs.BackCalls.{PassesChained, passes-back}
+use Rattle.plugin_chain.proofs.OwnCalls.{own-back, own-before}
+use Rattle.plugin_chain.proofs.PluginLaws.{chained_laws, first_laws}
+use Rattle.plugin_chain.proofs.WantedShare.{adds-links, makes-wanted, share_with_leases}
 use Rattle.pod_workers.specs.AddCalls.{AddCallsMakeTheWanted, only_leases}
 use Rattle.pod_workers.proofs.Each.{each-append}
 use Rattle.pod_workers.proofs.PluginCalls.{AllOfPlugins, of_plugins-back, of_plugins-before}

@@ -11,9 +11,10 @@ use Rattle.kernel_types.specs.declared.call.Call.TheVariants.{HasObj, PoolFree}
 use Rattle.net_conf.specs.declared.list.NetList.{NetList}
 use Rattle.pod_file.specs.declared.command.Command.{Command}
 use Rattle.plugin_base.specs.Share.{Share}
-use Rattle.cni_verbs.specs.Questions.{address_question, bridge_by_mac, bridge_questions, cached_share, check_questions, first_interface, lease_question, link_question, master_questions, pool_questions, route_question, rule_questions, setting_question, share_questions, status_questions}
-use Rattle.cni_verbs.specs.Wanted.{bridge_of, master_of, sets_of}
-use Rattle.cni_verbs.specs.declared.answer.Question.{Question}
+use Rattle.cni_errors.specs.ObjectQuestions.{address_question, lease_question, link_question, route_question, rule_questions, setting_question}
+use Rattle.cni_verbs.specs.Questions.{bridge_by_mac, bridge_questions, cached_share, check_questions, first_interface, master_questions, pool_questions, share_questions, status_questions}
+use Rattle.plugin_chain.specs.Wanted.{bridge_of, master_of, sets_of}
+use Rattle.cni_errors.specs.declared.answer.Question.{Question}
 use Rattle.pod_workers.proofs.Each.{each-append, each-map}
 use Rattle.pod_workers.proofs.Elements.{slice_get-middle}
 

@@ -9,7 +9,7 @@ use Rattle.cni_verbs.specs.Questions.{check_questions}
 use Rattle.cni_verbs.specs.Script.{State, AtBegin, BeforeLeases, Leasing, AfterLeases, ReadingCache, Deleting, FindingEntry, Asking, Changing, Collecting, Over, before_of}
 use Rattle.cni_verbs.specs.Sweep.{Work}
 use Rattle.gc_sweep.proofs.Weights.{jobs_weight, sweeps_weight}
-use Rattle.cni_verbs.specs.Wanted.{kinds_of, sets_of}
+use Rattle.plugin_chain.specs.Wanted.{kinds_of, sets_of}
 use Rattle.pod_workers.specs.CallCounts.{deletions_of}
 
 -- ---- the calls that are left

@@ -28,7 +28,7 @@ use Rattle.kernel_types.specs.declared.call.Reply.TheVariants.{Fault, Gone}
 use Rattle.plugin_base.proofs.KeyLists.{length-each_key_once}
 use Rattle.cni_verbs.specs.Script.{call_of_work}
 use Rattle.cni_verbs.specs.Sweep.{Gc, Job, AskCached, Delete, Step, Sweep, after_step, is_valid, job_of, step_call, work_after}
-use Rattle.cni_verbs.specs.Wanted.{deletion}
+use Rattle.plugin_chain.specs.Wanted.{deletion}
 use Rattle.gc_sweep.proofs.Calls.{jobs_weight-after, jobs_weight-map}
 use Rattle.gc_sweep.proofs.Lists.{fewer_filter, length-found, length-without_first}
 use Rattle.gc_sweep.proofs.Weights.{jobs_weight, sweeps_weight}

@@ -22,12 +22,12 @@ use Rattle.net_conf.specs.Sets.{one_if}
 use Rattle.pod_file.specs.declared.command.Command.{Command}
 use Rattle.plugin_base.specs.Calls.{is_plugin_call_of}
 use Rattle.plugin_base.specs.Share.{Share, share_of}
-use Rattle.cni_verbs.specs.CommandFields.{att_of}
+use Rattle.cni_errors.specs.CommandFields.{att_of}
 use Rattle.cni_verbs.specs.Questions.{check_questions}
 use Rattle.cni_verbs.specs.Script.{State, AtBegin, BeforeLeases, Leasing, AfterLeases, ReadingCache, Deleting, FindingEntry, Asking, Changing, Collecting, Over, Calls, turn, advance, at_begin, at_cache, at_call_after, at_call_before, at_deletion, at_entry, at_lease, at_question, after_leases, leasing, before_leases, deleting, asking, checking, back_of, before_of}
-use Rattle.cni_verbs.specs.Wanted.{deletion, kinds_of, sets_of}
-use Rattle.cni_verbs.specs.declared.answer.Ending.{Ending}
-use Rattle.cni_verbs.specs.declared.answer.Question.{Question}
+use Rattle.plugin_chain.specs.Wanted.{deletion, kinds_of, sets_of}
+use Rattle.cni_errors.specs.declared.answer.Ending.{Ending}
+use Rattle.cni_errors.specs.declared.answer.Question.{Question}
 use Rattle.pod_workers.specs.CallCounts.{AddsInAtMost, deletions_of}
 use Rattle.pod_workers.proofs.CallsLeft.{calls_left, making, most_after, questions_by}
 use Rattle.pod_workers.proofs.Deletable.{begin-none, call-more, deletion-falls, lease-more}

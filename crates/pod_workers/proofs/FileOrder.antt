@@ -1,7 +1,7 @@
 -- A step of the first open command in file order keeps the file's order.
 use Rattle.std.proofs.Common.{◌≡◌, ℕ, ◌+◌, ◌≤◌, false, List, [], ◌∷◌, ◌++◌, refl, ◌∙◌, ap, inl, inr, arith}
 use Rattle.std.proofs.lemmas.Bool.{cases_lt}
-use Rattle.cni_verbs.specs.declared.answer.Answer.{Answer}
+use Rattle.cni_errors.specs.declared.answer.Answer.{Answer}
 use Rattle.pod_workers.specs.Facts.{IsEntryOf}
 use Rattle.pod_workers.specs.Legal.{Legal}
 use Rattle.pod_workers.specs.Order.{AreInFileOrder, IsInFileOrder, EarlierAreAnswered}

@@ -17,12 +17,13 @@ use Rattle.net_conf.specs.declared.chained.Chained.{Chained}
 use Rattle.net_conf.specs.declared.list.NetList.{NetList}
 use Rattle.pod_file.proofs.CommandFacts.{length-scan}
 use Rattle.pod_file.specs.declared.command.Command.{Command}
-use Rattle.cni_verbs.proofs.GivenAddresses.{chained-ips, first-addresses}
-use Rattle.cni_verbs.proofs.PluginLaws.{chained_laws, first_laws}
-use Rattle.cni_verbs.specs.CommandFields.{att_of, mappings_of}
-use Rattle.cni_verbs.specs.Plugins.{plugin_of}
+use Rattle.plugin_chain.proofs.GivenAddresses.{chained-ips, first-addresses}
+use Rattle.plugin_chain.proofs.PluginLaws.{chained_laws, first_laws}
+use Rattle.cni_errors.specs.CommandFields.{att_of}
+use Rattle.cni_verbs.specs.Mappings.{mappings_of}
+use Rattle.plugin_chain.specs.Plugins.{plugin_of}
 use Rattle.cni_verbs.specs.Script.{back_of, before_of}
-use Rattle.cni_verbs.specs.Wanted.{add_calls, all_chained_calls, back_calls, cached_of, calls_after, chained_calls, chained_result, first_plugin_result, given_by_list, ipam_of, sets_of}
+use Rattle.plugin_chain.specs.Wanted.{add_calls, all_chained_calls, back_calls, cached_of, calls_after, chained_calls, chained_result, first_plugin_result, given_by_list, ipam_of, sets_of}
 use Rattle.pod_workers.specs.CallCounts.{AddsInAtMost, most_calls, most_of_chained}
 use Rattle.pod_workers.proofs.CallsLeft.{most_after}
 

@@ -20,13 +20,13 @@ use Rattle.kernel_types.specs.declared.call.Change.TheVariants.{DropLink}
 use Rattle.kernel_types.specs.declared.rule.Table.{Table}
 use Rattle.kernel_types.specs.declared.call.Reply.{Reply}
 use Rattle.kernel_types.proofs.Cases.{none-option_or}
-use Rattle.cni_verbs.specs.CommandFields.{att_of, add_refusal, any_wrong, wrong_for_add, drop_refusal, netns_refusal, none_wrong, refusal_by}
+use Rattle.cni_errors.specs.CommandFields.{att_of, add_refusal, any_wrong, wrong_for_add, drop_refusal, netns_refusal, none_wrong, refusal_by}
 use Rattle.cni_verbs.specs.Questions.{check_questions, status_questions}
 use Rattle.cni_verbs.proofs.AfterReplies.{after_replies-keeps}
 use Rattle.cni_verbs.specs.Script.{State, AtBegin, BeforeLeases, Leasing, AfterLeases, ReadingCache, Deleting, FindingEntry, Asking, Changing, Collecting, Over, before_of, back_of, after_leases, leasing, before_leases, asking, state_after, flush_by, outside_of, outside_start, outside_advance, outside_after}
-use Rattle.cni_verbs.specs.Wanted.{sets_of}
-use Rattle.cni_verbs.specs.declared.answer.Question.{Question}
-use Rattle.cni_verbs.specs.declared.answer.WrongFields.{WrongFields}
+use Rattle.plugin_chain.specs.Wanted.{sets_of}
+use Rattle.cni_errors.specs.declared.answer.Question.{Question}
+use Rattle.cni_errors.specs.declared.answer.WrongFields.{WrongFields}
 use Rattle.pod_workers.proofs.Asked.{AreQuestionsOf, check-asks, status-asks}
 use Rattle.pod_workers.proofs.PluginCalls.{AllOfPlugins, of_plugins-back, of_plugins-before}
 use Rattle.pod_workers.proofs.Replies.{StaysTrue, by-unless, true-after}

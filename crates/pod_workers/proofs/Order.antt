@@ -6,8 +6,8 @@ use Rattle.std.proofs.lemmas.Option.{same_Some, none-some, slice_get_within, sli
 use Rattle.std.proofs.lemmas.Bool.{cases_Bool, cases_order}
 use Rattle.std.proofs.lemmas.Bool.Decides.{eqb_tells}
 use Rattle.std.proofs.lemmas.Slice.Eq.{bytes_eq-Decides}
-use Rattle.cni_verbs.specs.declared.answer.Answer.{Answer}
-use Rattle.cni_verbs.specs.declared.answer.Answer.TheVariants.{OutOfMemory}
+use Rattle.cni_errors.specs.declared.answer.Answer.{Answer}
+use Rattle.cni_errors.specs.declared.answer.Answer.TheVariants.{OutOfMemory}
 use Rattle.pod_file.specs.Rounds.{is_exclusive}
 use Rattle.pod_workers.specs.Facts.{EachWaits, IsUntouched, LaterAreUntouched, PastAreAnswered}
 use Rattle.pod_workers.specs.Legal.{Legal, IsBegun, starts, steps, refused_memory, turns}

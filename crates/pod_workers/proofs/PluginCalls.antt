@@ -17,10 +17,10 @@ use Rattle.kernel_types.specs.declared.call.Call.{Call}
 use Rattle.kernel_types.specs.declared.call.Call.TheVariants.{VethAdd, MacvlanAdd, AddrAdd, RouteAdd, RuleAppend, SettingSet, LeaseNext, PoolFree, NsChange, Outside}
 use Rattle.plugin_base.specs.Calls.{IsWellFormedCall, is_plugin_call_of}
 use Rattle.plugin_base.specs.PluginCalls.{is_later_call}
-use Rattle.cni_verbs.proofs.BackCalls.{PassesChained, passes-back}
-use Rattle.cni_verbs.proofs.OwnCalls.{own-back}
-use Rattle.cni_verbs.proofs.PluginLaws.{chained_laws, first_laws}
-use Rattle.cni_verbs.specs.Wanted.{back_calls, calls_after, calls_before, chained_calls}
+use Rattle.plugin_chain.proofs.BackCalls.{PassesChained, passes-back}
+use Rattle.plugin_chain.proofs.OwnCalls.{own-back}
+use Rattle.plugin_chain.proofs.PluginLaws.{chained_laws, first_laws}
+use Rattle.plugin_chain.specs.Wanted.{back_calls, calls_after, calls_before, chained_calls}
 use Rattle.pod_workers.proofs.Each.{each-both}
 
 -- ---- one call

@@ -3,8 +3,8 @@ use Rattle.std.proofs.Common.{◌≡◌, ◌≢◌, ℕ, ◌+◌, ◌≤◌, Boo
 use Rattle.std.proofs.lemmas.List.{append-nil, append_assoc}
 use Rattle.std.proofs.lemmas.Option.{same_Some, none-some, slice_get_within}
 use Rattle.std.proofs.lemmas.Bool.Decides.{eqb_tells}
-use Rattle.cni_verbs.specs.declared.answer.Answer.{Answer}
-use Rattle.cni_verbs.specs.declared.answer.Answer.TheVariants.{OutOfMemory}
+use Rattle.cni_errors.specs.declared.answer.Answer.{Answer}
+use Rattle.cni_errors.specs.declared.answer.Answer.TheVariants.{OutOfMemory}
 use Rattle.kernel_types.specs.declared.call.Call.{Call}
 use Rattle.pod_workers.specs.Extends.{KeepsAnswers}
 use Rattle.pod_workers.specs.Facts.{HasPrefix, IsMadeAt, IsOpenAfter, IsAnsweredAt}

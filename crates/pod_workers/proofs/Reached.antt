@@ -3,7 +3,7 @@ use Rattle.std.proofs.Common.{◌≡◌, ◌≢◌, ℕ, zero, suc, ◌+◌, ◌
 use Rattle.std.proofs.lemmas.Option.{same_Some, none-some, slice_get_within}
 use Rattle.std.proofs.lemmas.Bool.Decides.{eqb_tells}
 use Rattle.std.proofs.lemmas.List.{length_push}
-use Rattle.cni_verbs.specs.declared.answer.Answer.{Answer}
+use Rattle.cni_errors.specs.declared.answer.Answer.{Answer}
 use Rattle.pod_workers.specs.Facts.{IsEntryOf, IsUntouched, AreOfOneContainer, IsLegalByClauses}
 use Rattle.pod_workers.specs.Legal.{Legal, IsBegun, starts}
 use Rattle.pod_workers.specs.Plans.{Placed, commands_of}

@@ -13,18 +13,18 @@ use Rattle.kernel_types.specs.declared.call.Kind.{Kind}
 use Rattle.kernel_types.specs.declared.call.Call.{Call}
 use Rattle.kernel_types.specs.declared.call.Reply.{Reply}
 use Rattle.kernel_types.specs.declared.call.Reply.TheVariants.{Done, Leased, Gone, Has, Entry, Fault}
-use Rattle.cni_verbs.specs.CommandFields.{add_refusal, del_refusal}
+use Rattle.cni_errors.specs.CommandFields.{add_refusal, del_refusal}
 use Rattle.cni_verbs.specs.Questions.{check_questions, status_questions}
 use Rattle.cni_verbs.proofs.AfterReplies.{after_replies-keeps}
 use Rattle.cni_verbs.proofs.EarlyEndings.{early_ending-cases, old_ending-cases}
 use Rattle.cni_verbs.specs.Script.{State, AtBegin, BeforeLeases, Leasing, AfterLeases, ReadingCache, Deleting, FindingEntry, Asking, Changing, Collecting, Over, before_of, after_leases, leasing, before_leases, deleting, asking, gc_of, faulted, at_begin, at_call_before, at_lease, at_call_after, at_cache, at_deletion, checking, at_entry, at_question, changed, advance, unless_refused, unless_ended, old_ending, early_ending, start_of, start_state, state_from, state_after}
 use Rattle.cni_verbs.specs.Sweep.{Work, start_work}
-use Rattle.cni_verbs.specs.Wanted.{kinds_of}
-use Rattle.cni_verbs.specs.declared.answer.Cause.{Cause}
-use Rattle.cni_verbs.specs.declared.answer.Ending.{Ending}
-use Rattle.cni_verbs.specs.declared.answer.Ending.TheVariants.{Yes, Skipped, Versions, Refused}
-use Rattle.cni_verbs.specs.declared.answer.Question.{Question}
-use Rattle.cni_verbs.specs.declared.answer.Skip.TheVariants as skips
+use Rattle.plugin_chain.specs.Wanted.{kinds_of}
+use Rattle.cni_errors.specs.declared.answer.Cause.{Cause}
+use Rattle.cni_errors.specs.declared.answer.Ending.{Ending}
+use Rattle.cni_errors.specs.declared.answer.Ending.TheVariants.{Yes, Skipped, Versions, Refused}
+use Rattle.cni_errors.specs.declared.answer.Question.{Question}
+use Rattle.cni_errors.specs.declared.answer.Skip.TheVariants as skips
 
 -- ---- one reply
 

@@ -37,13 +37,13 @@ use Rattle.kernel_types.specs.declared.call.Kind.TheVariants as kinds
 use Rattle.kernel_types.specs.declared.call.Reply.{Reply}
 use Rattle.kernel_types.specs.declared.call.Reply.TheVariants.{Leased}
 use Rattle.plugin_base.specs.Calls.{IsWellFormedCall, is_plugin_call_of}
-use Rattle.cni_verbs.specs.CommandFields.{att_of}
-use Rattle.cni_verbs.specs.declared.answer.Answer.{Answer}
-use Rattle.cni_verbs.specs.declared.answer.Answer.TheVariants.{Stopped}
+use Rattle.cni_errors.specs.CommandFields.{att_of}
+use Rattle.cni_errors.specs.declared.answer.Answer.{Answer}
+use Rattle.cni_errors.specs.declared.answer.Answer.TheVariants.{Stopped}
 use Rattle.cni_verbs.specs.Script.{State, AtBegin, BeforeLeases, Leasing, AfterLeases, ReadingCache, Deleting, FindingEntry, Asking, Changing, Collecting, Over, Turn, Calls, Finishes, turn, turn_of_work, state_after, outside_after}
 use Rattle.cni_verbs.specs.Sweep.{Job, Step, Sweep, AskCached, Delete, step_call}
 use Rattle.cni_verbs.specs.Progress.{turn_by}
-use Rattle.cni_verbs.specs.Wanted.{sets_of, deletion}
+use Rattle.plugin_chain.specs.Wanted.{sets_of, deletion}
 use Rattle.pod_workers.specs.Lasts.{AreLastsOfSets, IsLastOfSet}
 use Rattle.pod_workers.specs.Legal.{Legal, IsBegun, starts, steps, refused_memory, turns}
 use Rattle.pod_file.specs.Commands.{is_of_network}

@@ -2,12 +2,12 @@
 use Rattle.std.proofs.Common.{◌≡◌, ℕ, ◌+◌, ◌≤◌, ◌⊎◌, List, [], ◌∷◌, ◌++◌, length, Option, Some, None, slice_get, refl, sym, ◌∙◌, ap, subst, arith, inl, inr}
 use Rattle.std.proofs.lemmas.List.{append-nil, append_assoc, length_push}
 use Rattle.cni_addr.specs.declared.address.Addr.{Addr}
-use Rattle.cni_verbs.specs.Answers.{answer_of, answer_of_ending, answer_outside, outside_by}
+use Rattle.cni_verbs.specs.Endings.{answer_of, answer_of_ending, answer_outside, outside_by}
 use Rattle.cni_verbs.specs.Progress.{answer_by}
 use Rattle.cni_verbs.specs.Script.{Finish}
-use Rattle.cni_verbs.specs.declared.answer.Answer.TheVariants.{OutOfMemory, Stopped}
-use Rattle.cni_verbs.specs.declared.answer.Ending.{Ending}
-use Rattle.cni_verbs.specs.declared.answer.Ending.TheVariants.{Added, Yes, Skipped, Versions, Refused}
+use Rattle.cni_errors.specs.declared.answer.Answer.TheVariants.{OutOfMemory, Stopped}
+use Rattle.cni_errors.specs.declared.answer.Ending.{Ending}
+use Rattle.cni_errors.specs.declared.answer.Ending.TheVariants.{Added, Yes, Skipped, Versions, Refused}
 use Rattle.net_conf.specs.declared.list.NetList.{NetList}
 use Rattle.pod_file.specs.declared.command.Command.{Command}
 use Rattle.pod_workers.specs.Facts.{EachStopIsCounted, EntryIsInRound, IsEntryOf, IsStopped, IsWithinStop, Stops}

@@ -18,8 +18,8 @@ use Rattle.pod_file.specs.WellFormed.{AreWellFormedRounds, IsWellFormedPods}
 use Rattle.pod_file.specs.declared.command.Command.{Command}
 use Rattle.pod_workers.specs.Plans.{IsWellFormed, Placed, commands_of, in_round, placed_from}
 use Rattle.pod_workers.specs.declared.plan.Plan.{Plan}
-use Rattle.cni_verbs.specs.Wanted.{ipam_of, sets_of}
-use Rattle.cni_verbs.proofs.PluginLaws.{formed_ipam}
+use Rattle.plugin_chain.specs.Wanted.{ipam_of, sets_of}
+use Rattle.plugin_chain.proofs.PluginLaws.{formed_ipam}
 use Rattle.pod_workers.proofs.Alone.{AreAlone, are_alone}
 
 -- the ranges of each set share no address

@@ -10,7 +10,7 @@ use Rattle.net_conf.specs.WellFormed.{IsWellFormedList}
 use Rattle.net_conf.specs.declared.list.NetList.{NetList}
 use Rattle.plugin_base.specs.Calls.{IsWellFormedCall, is_call_of, is_of_kinds, is_plugin_call_of}
 use Rattle.plugin_base.specs.Share.{Share, no_objects, share_after_calls}
-use Rattle.cni_verbs.specs.Wanted.{add_calls, back_calls, calls_before, kinds_of, wanted}
+use Rattle.plugin_chain.specs.Wanted.{add_calls, back_calls, calls_before, kinds_of, wanted}
 
 -- those of the plugins: all but the Begin and the leases
 abbrev pub calls_of_plugins : NetList → Att → List ℕ → List PortMapping → List Addr → List Call

@@ -9,10 +9,10 @@ use Rattle.net_conf.specs.declared.list.NetList.{NetList}
 use Rattle.pod_file.specs.declared.command.Command.{Command}
 use Rattle.plugin_base.specs.Share.{Share}
 use Rattle.cni_verbs.specs.AddCalls.{calls_of_add}
-use Rattle.cni_verbs.specs.CommandFields.{mappings_of}
-use Rattle.cni_verbs.specs.Plugins.{chained_plugin_of, plugin_of}
+use Rattle.cni_verbs.specs.Mappings.{mappings_of}
+use Rattle.plugin_chain.specs.Plugins.{chained_plugin_of, plugin_of}
 use Rattle.cni_verbs.specs.Script.{before_of}
-use Rattle.cni_verbs.specs.Wanted.{sets_of}
+use Rattle.plugin_chain.specs.Wanted.{sets_of}
 
 -- ---- deletions
 

@@ -1,7 +1,7 @@
 -- One world goes on from another.
 use Rattle.std.specs.Prelude.{◌≡◌, ℕ, true, List, ◌++◌, Option, Some, slice_get}
 use Rattle.std.specs.List.{All}
-use Rattle.cni_verbs.specs.declared.answer.Answer.{Answer}
+use Rattle.cni_errors.specs.declared.answer.Answer.{Answer}
 use Rattle.pod_workers.specs.Legal.{Legal}
 use Rattle.pod_workers.specs.World.{World, EachCommand, IsRoundOver, is_of_round, next_round}
 use Rattle.pod_workers.specs.declared.plan.Entry.{Entry}

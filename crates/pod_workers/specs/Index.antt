@@ -2,7 +2,7 @@
 -- functions.
 use Rattle.std.specs.Prelude.{◌≡◌, ℕ, ◌+◌, ◌<◌, ◌≤◌, ◌==◌, ◌&&◌, Bool, true, false, List, Option, Some, None, is_some, length, option_and_then, slice_get}
 use Rattle.std.specs.Option.{option_flatten, option_map_or}
-use Rattle.cni_verbs.specs.declared.answer.Answer.{Answer}
+use Rattle.cni_errors.specs.declared.answer.Answer.{Answer}
 use Rattle.pod_file.specs.declared.command.Command.{Command}
 use Rattle.pod_workers.specs.Plans.{Placed, IsOf}
 use Rattle.pod_workers.specs.World.{at_number, last_entry}

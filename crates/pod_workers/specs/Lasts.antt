@@ -2,7 +2,7 @@
 use Rattle.std.specs.Prelude.{◌≡◌, true, List, Some, slice_get}
 use Rattle.std.specs.List.{AllByRecursion}
 use Rattle.cni_addr.specs.declared.range.RangeSet.{RangeSet}
-use Rattle.cni_verbs.specs.Wanted.{sets_of}
+use Rattle.plugin_chain.specs.Wanted.{sets_of}
 use Rattle.ip_pool.specs.NextAddress.{is_candidate}
 use Rattle.kernel_types.specs.declared.object.Last.{Last}
 use Rattle.net_conf.specs.declared.list.NetList.{NetList}

@@ -1,6 +1,6 @@
 -- The worlds that allowed steps can reach.
 use Rattle.std.specs.Prelude.{◌≡◌, ℕ, ◌<◌, length}
-use Rattle.cni_verbs.specs.declared.answer.Answer.TheVariants.{OutOfMemory}
+use Rattle.cni_errors.specs.declared.answer.Answer.TheVariants.{OutOfMemory}
 use Rattle.pod_workers.specs.Plans.{Placed, IsWellFormed}
 use Rattle.pod_workers.specs.World.{World, IsReady, IsRoundOver, answered, begun, next_round, stepped}
 

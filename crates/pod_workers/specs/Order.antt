@@ -1,6 +1,6 @@
 -- Worlds in which commands go in the order of the file, as on one thread, and what is true of them.
 use Rattle.std.specs.Prelude.{◌≡◌, ◌≢◌, ℕ, ◌<◌, ◌≤◌, List, length, Some, slice_get}
-use Rattle.cni_verbs.specs.declared.answer.Answer.TheVariants.{OutOfMemory}
+use Rattle.cni_errors.specs.declared.answer.Answer.TheVariants.{OutOfMemory}
 use Rattle.pod_workers.specs.Extends.{Appends}
 use Rattle.pod_workers.specs.Facts.{EachTwo, EachIsDoneBefore}
 use Rattle.pod_workers.specs.Legal.{Legal}

@@ -5,8 +5,8 @@ use Rattle.std.specs.Option.{option_flatten, option_map_or}
 use Rattle.cni_verbs.specs.Progress.{turn_by, answer_by}
 pub use Rattle.cni_verbs.specs.Replies.{reply_to}
 use Rattle.cni_verbs.specs.Script.{Turn, Calls, Finishes}
-use Rattle.cni_verbs.specs.declared.answer.Answer.{Answer}
-use Rattle.cni_verbs.specs.declared.answer.Answer.TheVariants.{OutOfMemory, Stopped}
+use Rattle.cni_errors.specs.declared.answer.Answer.{Answer}
+use Rattle.cni_errors.specs.declared.answer.Answer.TheVariants.{OutOfMemory, Stopped}
 use Rattle.gc_sweep.specs.Trace.{Made, host_from, host_on}
 use Rattle.kernel_types.specs.declared.object.Host.{Host}
 use Rattle.kernel_types.specs.declared.call.Call.{Call}

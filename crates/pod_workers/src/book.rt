@@ -16,7 +16,7 @@ use crate::slots::{blanks, put_at, take_at};
 use crate::step::{Stepped, step_command};
 use crate::task::Task;
 use cni_addr::NoMemory;
-use cni_verbs::Answer;
+use cni_errors::Answer;
 use kernel_model::Kernel;
 use kernel_types::Host;
 use pod_file::Command;

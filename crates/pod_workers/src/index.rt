@@ -7,7 +7,7 @@ ghost use Rattle.pod_workers.specs.Index.{AreBefore, IsIndex, command_at_place, 
 ghost use Rattle.pod_workers.specs.Plans.{Placed, in_round, placed_from};
 
 use cni_addr::{Duplicate, Items, NoMemory, Text};
-use cni_verbs::Answer;
+use cni_errors::Answer;
 use pod_file::Command;
 use std::alloc::Global;
 use std::collections::HashMap;

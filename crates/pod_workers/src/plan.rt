@@ -1,7 +1,7 @@
 //! What is to be done, and one entry of what was done.
 
 use cni_addr::{Items, RefCounted};
-use cni_verbs::Answer;
+use cni_errors::Answer;
 use kernel_types::{Call, Reply};
 use net_conf::NetList;
 use pod_file::Pods;

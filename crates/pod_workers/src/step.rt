@@ -13,7 +13,7 @@ use crate::join::list_in;
 use crate::plan::{Entry, Next};
 use crate::task::Task;
 use cni_addr::{NoMemory, RefCounted};
-use cni_verbs::Answer;
+use cni_errors::Answer;
 use kernel_model::Kernel;
 use kernel_types::{Call, Reply};
 use net_conf::NetList;

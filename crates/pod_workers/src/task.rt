@@ -11,7 +11,8 @@ ghost use Rattle.pod_workers.specs.World.{is_faulty};
 
 use crate::faults::Faults;
 use cni_addr::{NoMemory, RefCounted};
-use cni_verbs::{Answer, Run};
+use cni_errors::Answer;
+use cni_verbs::Run;
 use gc_sweep::GcRun;
 use kernel_types::{Call, Reply};
 use net_conf::NetList;

@@ -2,9 +2,9 @@
 -- own.
 use Rattle.std.specs.Prelude.{ℕ, List, [], ◌++◌, codes, decimal, slice_index_or}
 use Rattle.cni_result.specs.declared.error.CniError.{CniError}
-use Rattle.cni_verbs.specs.ErrorKinds.{message_about, message_of_field, plain_error, titled_error, memory_error}
-use Rattle.cni_verbs.specs.declared.error_kind.ErrorKind.{ErrorKind}
-use Rattle.cni_verbs.specs.declared.error_kind.ErrorKind.TheVariants as kinds
+use Rattle.cni_errors.specs.ErrorKinds.{message_about, message_of_field, plain_error, titled_error, memory_error}
+use Rattle.cni_errors.specs.declared.error_kind.ErrorKind.{ErrorKind}
+use Rattle.cni_errors.specs.declared.error_kind.ErrorKind.TheVariants as kinds
 use Rattle.net_conf.specs.declared.error.ConfError.{ConfError}
 use Rattle.net_conf.specs.declared.error.ConfError.TheVariants as conf
 use Rattle.pod_file.specs.declared.error.PodError.{PodError}

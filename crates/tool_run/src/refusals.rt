@@ -5,8 +5,8 @@ ghost use Rattle.tool_run.specs.Refusals as refusals;
 ghost use Rattle.tool_run.specs.Refusals.{error_about, blamed_file, list_error, plan_error, pods_error};
 
 use cni_addr::{NoMemory, Text};
+use cni_errors::{ErrorKind, memory_error, message_of_field, plain_error, titled_error};
 use cni_result::CniError;
-use cni_verbs::{ErrorKind, memory_error, message_of_field, plain_error, titled_error};
 use net_conf::ConfError;
 use pod_file::PodError;
 use pod_workers::PlanError;

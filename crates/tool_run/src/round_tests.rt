@@ -3,8 +3,8 @@
 use crate::kernel::{FromHost, NodeKernel, begin};
 use crate::tests::{LIST, plan_of};
 use cni_addr::NoMemory;
+use cni_errors::Answer;
 use cni_result::CniError;
-use cni_verbs::Answer;
 use kernel_model::{Host, Kernel};
 use pod_workers::Book;
 use std::alloc::Global;

@@ -24,11 +24,12 @@ use Rattle.kernel_types.specs.Terms.{lease_of}
 use Rattle.plugin_base.specs.Share.{Share, share_of, no_objects, share_after_call, share_after_calls}
 use Rattle.plugin_base.proofs.CallLists.{share_after_calls-append}
 use Rattle.plugin_base.proofs.OwnCalls.{share-own, share-begin, share-lease}
-use Rattle.cni_verbs.specs.CommandFields.{att_of, mappings_of}
+use Rattle.cni_errors.specs.CommandFields.{att_of}
+use Rattle.cni_verbs.specs.Mappings.{mappings_of}
 use Rattle.cni_verbs.specs.Script.{State, AtBegin, BeforeLeases, Leasing, AfterLeases, ReadingCache, Deleting, FindingEntry, Asking, Changing, Collecting, Over, Calls, before_of, back_of, after_leases, leasing, before_leases, deleting, faulted, at_begin, at_call_before, at_lease, at_call_after, at_cache, at_deletion, advance, turn, leased_by, leases_in}
-use Rattle.cni_verbs.specs.Wanted.{sets_of, calls_before, kinds_of, wanted}
-use Rattle.cni_verbs.specs.declared.answer.Ending.{Ending}
-use Rattle.cni_verbs.specs.declared.answer.Ending.TheVariants.{Added, Yes, Skipped, Versions, Refused}
+use Rattle.plugin_chain.specs.Wanted.{sets_of, calls_before, kinds_of, wanted}
+use Rattle.cni_errors.specs.declared.answer.Ending.{Ending}
+use Rattle.cni_errors.specs.declared.answer.Ending.TheVariants.{Added, Yes, Skipped, Versions, Refused}
 use Rattle.pod_workers.specs.World.{entry_of, host_of, after_entry, reply_to}
 use Rattle.pod_workers.specs.declared.plan.Entry.{Entry}
 use Rattle.pod_workers.proofs.OfPlugins.{LeftAreOfPlugins}
@@ -38,7 +39,7 @@ use Rattle.pod_laws.specs.Moments.{own_entries}
 use Rattle.pod_laws.proofs.Histories.Entries.{replies_in}
 use Rattle.pod_laws.proofs.Histories.States.{IsAside, IsNoResult, aside-advance, by-aside, by-start, faulted-no_result}
 use Rattle.pod_laws.proofs.Histories.Runs.{AfterEntry, IsRunFact, StartsWith, own-state}
-use Rattle.cni_verbs.proofs.WantedShare.{adds-links, makes-wanted, share_with_leases}
+use Rattle.plugin_chain.proofs.WantedShare.{adds-links, makes-wanted, share_with_leases}
 
 -- the addresses that these entries leased, in order
 abbrev pub leased_in : List Entry → List Addr

@@ -37,11 +37,11 @@ use Rattle.kernel_types.specs.declared.call.Reply.TheVariants.{Done, Taken}
 use Rattle.gc_sweep.proofs.Lists.{any-found}
 use Rattle.plugin_base.specs.Calls.{is_call_of}
 use Rattle.plugin_base.specs.PluginCalls.{ensures_bridge, is_ensured}
-use Rattle.cni_verbs.specs.CommandFields.{att_of}
+use Rattle.cni_errors.specs.CommandFields.{att_of}
 use Rattle.cni_verbs.specs.Script.{State, AtBegin, BeforeLeases, Leasing, AfterLeases, ReadingCache, Deleting, FindingEntry, Asking, Changing, Collecting, Over, Calls, before_of, back_of, after_leases, leasing, before_leases, deleting, at_call_before, advance, turn}
-use Rattle.cni_verbs.specs.Wanted.{bridge_of, calls_before, deletion, kinds_of, sets_of}
-use Rattle.cni_verbs.proofs.PluginLaws.{first_laws}
-use Rattle.cni_verbs.specs.declared.answer.Ending.{Ending}
+use Rattle.plugin_chain.specs.Wanted.{bridge_of, calls_before, deletion, kinds_of, sets_of}
+use Rattle.plugin_chain.proofs.PluginLaws.{first_laws}
+use Rattle.cni_errors.specs.declared.answer.Ending.{Ending}
 use Rattle.pod_workers.specs.Legal.{Legal}
 use Rattle.pod_workers.specs.Plans.{Placed, commands_of, list_for}
 use Rattle.pod_workers.specs.World.{World, after, entry_of, host_of, after_entry, replies_of, reply_to}

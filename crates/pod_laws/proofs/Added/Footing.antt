@@ -29,9 +29,9 @@ use Rattle.plugin_base.specs.Calls.{is_plugin_call_of}
 use Rattle.plugin_base.specs.PluginCalls.{bridge_for, is_none_or, lies_on, makes_interface, stands_on}
 use Rattle.plugin_base.proofs.PluginCalls.{interface-lies}
 use Rattle.plugin_base.specs.Share.{Share, share_of, share_after_call, share_after_calls}
-use Rattle.cni_verbs.specs.Wanted.{back_calls, bridge_of, calls_after, calls_before, chained_calls, links_made}
-use Rattle.cni_verbs.proofs.BackCalls.{PassesChained, passes-back}
-use Rattle.cni_verbs.proofs.PluginLaws.{chained_laws, first_laws}
+use Rattle.plugin_chain.specs.Wanted.{back_calls, bridge_of, calls_after, calls_before, chained_calls, links_made}
+use Rattle.plugin_chain.proofs.BackCalls.{PassesChained, passes-back}
+use Rattle.plugin_chain.proofs.PluginLaws.{chained_laws, first_laws}
 use Rattle.pod_laws.proofs.Tests.{any-filtered}
 
 -- ---- what a call stands on

@@ -23,15 +23,16 @@ use Rattle.kernel_types.proofs.ListLemmas.{list_all-weaker}
 use Rattle.plugin_base.specs.PluginCalls.{makes_interface}
 use Rattle.plugin_base.specs.Share.{Share, share_of, no_objects, share_after_call, share_after_calls}
 use Rattle.plugin_base.proofs.CallLists.{share_after_calls-append}
-use Rattle.cni_verbs.specs.CommandFields.{att_of, mappings_of}
+use Rattle.cni_errors.specs.CommandFields.{att_of}
+use Rattle.cni_verbs.specs.Mappings.{mappings_of}
 use Rattle.cni_verbs.specs.Script.{before_of, back_of}
-use Rattle.cni_verbs.specs.Wanted.{bridge_of, calls_before, links_made}
+use Rattle.plugin_chain.specs.Wanted.{bridge_of, calls_before, links_made}
 use Rattle.pod_laws.specs.Apart.{GrowsAtEnd}
 use Rattle.pod_laws.specs.AskedFor.{AreAmong, links_after_part, AreLinksOf, AreAskedFor}
 use Rattle.pod_laws.proofs.Added.Achieved.{with_leases, wanted_by, no_leases}
 use Rattle.pod_laws.proofs.Shares.Removes.{OnlyRemoves}
-use Rattle.cni_verbs.proofs.PluginLaws.{first_laws}
-use Rattle.cni_verbs.proofs.WantedShare.{adds-links, makes-wanted}
+use Rattle.plugin_chain.proofs.PluginLaws.{first_laws}
+use Rattle.plugin_chain.proofs.WantedShare.{adds-links, makes-wanted}
 
 -- ---- lists
 

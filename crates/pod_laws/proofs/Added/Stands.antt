@@ -25,11 +25,12 @@ use Rattle.kernel_types.specs.declared.call.Reply.TheVariants.{NoLink}
 use Rattle.plugin_base.specs.Calls.{is_plugin_call_of}
 use Rattle.plugin_base.specs.PluginCalls.{bridge_for, ensures_bridge, is_ensured_first, is_none_or, lies_on, stands_on}
 use Rattle.plugin_base.specs.Share.{Share, share_of}
-use Rattle.cni_verbs.specs.CommandFields.{att_of, mappings_of}
+use Rattle.cni_errors.specs.CommandFields.{att_of}
+use Rattle.cni_verbs.specs.Mappings.{mappings_of}
 use Rattle.cni_verbs.specs.Script.{State, AtBegin, BeforeLeases, Leasing, AfterLeases, ReadingCache, Deleting, FindingEntry, Asking, Changing, Collecting, Over, Calls, turn}
-use Rattle.cni_verbs.specs.Wanted.{back_calls, bridge_of, calls_after, calls_before, chained_calls, deletion, links_made}
-use Rattle.cni_verbs.proofs.BackCalls.{PassesChained, passes-back}
-use Rattle.cni_verbs.proofs.PluginLaws.{chained_laws, first_laws}
+use Rattle.plugin_chain.specs.Wanted.{back_calls, bridge_of, calls_after, calls_before, chained_calls, deletion, links_made}
+use Rattle.plugin_chain.proofs.BackCalls.{PassesChained, passes-back}
+use Rattle.plugin_chain.proofs.PluginLaws.{chained_laws, first_laws}
 use Rattle.pod_workers.specs.Plans.{Placed}
 use Rattle.pod_workers.specs.World.{World, host_of}
 use Rattle.pod_workers.specs.declared.plan.Entry.{Entry}

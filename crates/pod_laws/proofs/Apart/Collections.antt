@@ -23,7 +23,7 @@ use Rattle.kernel_types.specs.declared.call.Reply.TheVariants.{Gone, Entry as Ke
 use Rattle.plugin_base.specs.Share.{Share}
 use Rattle.cni_verbs.specs.Script.{State, Collecting, Over, Calls, gc_of, advance, start_of, turn, turn_of_work}
 use Rattle.cni_verbs.specs.Sweep.{Job, Step, AskCached, Delete, Sweep, after_job, job_of, start_work, step_call, work_after}
-use Rattle.cni_verbs.specs.Wanted.{deletion}
+use Rattle.plugin_chain.specs.Wanted.{deletion}
 use Rattle.pod_file.specs.Commands.{is_of_network}
 use Rattle.gc_sweep.specs.Keep.{stays}
 use Rattle.gc_sweep.specs.Bound.{stale_owners}

@@ -24,16 +24,17 @@ use Rattle.plugin_base.specs.PluginCalls.{at_most_one, changes_links, set_links_
 use Rattle.plugin_base.specs.Share.{Share, no_objects, share_after_call, share_after_calls}
 use Rattle.plugin_base.proofs.CallLists.{share_after_calls-append}
 use Rattle.plugin_base.proofs.PluginCalls.{at_most-none}
-use Rattle.cni_verbs.specs.CommandFields.{att_of, mappings_of}
-use Rattle.cni_verbs.specs.Wanted.{calls_after, chained_calls, all_chained_calls, chained_result, back_calls, given_by_list, first_plugin_result, cached_of, sets_links, links_made, wanted}
-use Rattle.cni_verbs.proofs.PluginLaws.{chained_laws, first_laws, one_setter}
+use Rattle.cni_errors.specs.CommandFields.{att_of}
+use Rattle.cni_verbs.specs.Mappings.{mappings_of}
+use Rattle.plugin_chain.specs.Wanted.{calls_after, chained_calls, all_chained_calls, chained_result, back_calls, given_by_list, first_plugin_result, cached_of, sets_links, links_made, wanted}
+use Rattle.plugin_chain.proofs.PluginLaws.{chained_laws, first_laws, one_setter}
 use Rattle.pod_workers.specs.Plans.{IsWellFormed, list_for, list_named}
 use Rattle.pod_workers.specs.declared.plan.Plan.{Plan}
 use Rattle.pod_workers.proofs.Sound.{fine, if-listed, list_for-found}
 use Rattle.pod_laws.specs.AskedFor.{AreAmong, links_after_part, EachLinkIsWanted, LinksAreMadeOrWanted}
 use Rattle.pod_laws.proofs.Added.Achieved.{with_leases}
 use Rattle.pod_laws.proofs.Added.Prefixes.{links-calls, links_made-leased}
-use Rattle.cni_verbs.proofs.WantedShare.{makes-wanted}
+use Rattle.plugin_chain.proofs.WantedShare.{makes-wanted}
 
 -- ---- calls that change links
 

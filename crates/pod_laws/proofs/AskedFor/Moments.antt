@@ -25,9 +25,9 @@ use Rattle.plugin_base.proofs.OtherCalls.{share-other}
 use Rattle.plugin_base.proofs.Refusals.{refused-same, refused-lease}
 use Rattle.pod_file.specs.declared.command.Command.{Command}
 use Rattle.cni_verbs.specs.AddCalls.{is_done}
-use Rattle.cni_verbs.specs.CommandFields.{att_of}
+use Rattle.cni_errors.specs.CommandFields.{att_of}
 use Rattle.cni_verbs.specs.Script.{State, AtBegin, BeforeLeases, Leasing, AfterLeases, ReadingCache, Deleting, FindingEntry, Asking, Changing, Collecting, Over, Calls, before_of, back_of, turn, leases_in}
-use Rattle.cni_verbs.specs.Wanted.{deletion}
+use Rattle.plugin_chain.specs.Wanted.{deletion}
 use Rattle.pod_workers.specs.Plans.{Placed}
 use Rattle.pod_workers.specs.World.{World, after, done, entry_of, host_of, after_entry, replies_of, reply_to}
 use Rattle.pod_workers.specs.declared.plan.Entry.{Entry}

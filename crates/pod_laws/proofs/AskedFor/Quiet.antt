@@ -19,7 +19,7 @@ use Rattle.kernel_types.specs.declared.call.Change.TheVariants.{DropLink, Flush}
 use Rattle.kernel_types.specs.declared.call.Reply.{Reply}
 use Rattle.kernel_types.specs.declared.call.Reply.TheVariants.{Done, NoNs, NoLink, Taken, Empty, Leased, Gone, Has, Owners, Entry as Kept, Fault}
 use Rattle.cni_verbs.specs.Script.{leases_in}
-use Rattle.cni_verbs.specs.Wanted.{deletion}
+use Rattle.plugin_chain.specs.Wanted.{deletion}
 use Rattle.pod_workers.specs.World.{reply_to}
 use Rattle.pod_laws.proofs.Refused.Causes.{IsPluginReply}
 use Rattle.pod_laws.proofs.Histories.States.{is_question}

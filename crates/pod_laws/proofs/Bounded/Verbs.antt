@@ -15,14 +15,14 @@ use Rattle.cni_verbs.proofs.QuestionCounts.{length-pools, length-share}
 use Rattle.kernel_types.specs.declared.call.Reply.{Reply}
 use Rattle.kernel_types.specs.declared.call.Reply.TheVariants.{Entry as Found}
 use Rattle.plugin_base.specs.Share.{Share}
-use Rattle.cni_verbs.specs.CommandFields.{add_refusal, att_of, del_refusal}
+use Rattle.cni_errors.specs.CommandFields.{add_refusal, att_of, del_refusal}
 use Rattle.cni_verbs.specs.Questions.{bridge_by_mac, bridge_questions, cached_share, check_questions, first_interface, master_questions, pool_questions, share_questions, status_questions}
 use Rattle.cni_verbs.specs.Script.{State, AtBegin, ReadingCache, FindingEntry, Over, advance, asking, at_entry, checking, start_of, start_state}
-use Rattle.cni_verbs.specs.Wanted.{bridge_of, kinds_of, master_of, sets_of}
-use Rattle.cni_verbs.specs.declared.answer.Ending.{Ending}
-use Rattle.cni_verbs.specs.declared.answer.Ending.TheVariants.{Yes, Skipped, Refused}
-use Rattle.cni_verbs.specs.declared.answer.Question.{Question}
-use Rattle.cni_verbs.specs.declared.answer.Skip.TheVariants as skips
+use Rattle.plugin_chain.specs.Wanted.{bridge_of, kinds_of, master_of, sets_of}
+use Rattle.cni_errors.specs.declared.answer.Ending.{Ending}
+use Rattle.cni_errors.specs.declared.answer.Ending.TheVariants.{Yes, Skipped, Refused}
+use Rattle.cni_errors.specs.declared.answer.Question.{Question}
+use Rattle.cni_errors.specs.declared.answer.Skip.TheVariants as skips
 use Rattle.pod_workers.specs.CallCounts.{deletions_of, most_calls}
 use Rattle.pod_workers.proofs.CallsLeft.{calls_left}
 use Rattle.pod_workers.specs.Legal.{Legal}

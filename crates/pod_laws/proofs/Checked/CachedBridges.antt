@@ -12,10 +12,11 @@ use Rattle.cni_addr.specs.declared.address.Addr.{Addr}
 use Rattle.cni_result.specs.declared.cached.Cached.{Cached}
 use Rattle.cni_result.specs.declared.result.AddResult.{AddResult}
 use Rattle.cni_result.specs.declared.result.Interface.{Interface}
-use Rattle.cni_verbs.specs.CommandFields.{att_of, mappings_of}
+use Rattle.cni_errors.specs.CommandFields.{att_of}
+use Rattle.cni_verbs.specs.Mappings.{mappings_of}
 use Rattle.cni_verbs.specs.Script.{State, AtBegin, BeforeLeases, Leasing, AfterLeases, ReadingCache, Deleting, FindingEntry, Asking, Changing, Collecting, Over, Calls, leases_in, turn}
-use Rattle.cni_verbs.specs.Wanted.{all_chained_results, bridge_of, cached_of, calls_before, chained_result, deletion, result_of_add}
-use Rattle.cni_verbs.proofs.PluginLaws.{chained_laws, first_laws}
+use Rattle.plugin_chain.specs.Wanted.{all_chained_results, bridge_of, cached_of, calls_before, chained_result, deletion, result_of_add}
+use Rattle.plugin_chain.proofs.PluginLaws.{chained_laws, first_laws}
 use Rattle.kernel_types.specs.Allowed.{IsAllowed}
 use Rattle.kernel_types.specs.Apply.{apply}
 use Rattle.kernel_types.specs.Apply.Calls.{goes_with, goes_with_ns, has_peer_in, master_is_bridge_or_none, without_link}

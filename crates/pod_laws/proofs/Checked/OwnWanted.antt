@@ -15,7 +15,7 @@ use Rattle.plugin_base.specs.Calls.{is_call_of}
 use Rattle.plugin_base.specs.Share.{Share, share_after_call, share_after_calls}
 use Rattle.plugin_base.proofs.KeyLists.{list_all-append, list_all-every, list_all-mapped}
 use Rattle.plugin_base.proofs.OwnCalls.{set_link-tag}
-use Rattle.cni_verbs.specs.Wanted.{add_calls, wanted}
+use Rattle.plugin_chain.specs.Wanted.{add_calls, wanted}
 use Rattle.pod_workers.specs.AddCalls.{only_leases}
 use Rattle.pod_workers.proofs.AddCalls.{make_the_wanted}
 

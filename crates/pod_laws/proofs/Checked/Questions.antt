@@ -27,13 +27,14 @@ use Rattle.kernel_types.specs.declared.object.Lease.{Lease}
 use Rattle.kernel_types.specs.declared.object.CachedObj.{CachedObj}
 use Rattle.kernel_types.specs.declared.object.Tag.{Tag}
 use Rattle.plugin_base.specs.Share.{Share}
-use Rattle.cni_verbs.specs.CommandFields.{att_of}
-use Rattle.cni_verbs.specs.Questions.{addresses_of_result, link_question, address_question, route_question, rule_questions, setting_question, lease_question, share_questions, bridge_by_mac, first_interface, bridge_questions, cached_share, check_questions}
-use Rattle.cni_verbs.specs.Wanted.{bridge_of}
-use Rattle.cni_verbs.specs.declared.answer.Cause.TheVariants.{Missing}
-use Rattle.cni_verbs.specs.declared.answer.Missed.{Missed}
-use Rattle.cni_verbs.specs.declared.answer.Missed.TheVariants as missed
-use Rattle.cni_verbs.specs.declared.answer.Question.{Question}
+use Rattle.cni_errors.specs.CommandFields.{att_of}
+use Rattle.cni_verbs.specs.Questions.{addresses_of_result, share_questions, bridge_by_mac, first_interface, bridge_questions, cached_share, check_questions}
+use Rattle.cni_errors.specs.ObjectQuestions.{link_question, address_question, route_question, rule_questions, setting_question, lease_question}
+use Rattle.plugin_chain.specs.Wanted.{bridge_of}
+use Rattle.cni_errors.specs.declared.answer.Cause.TheVariants.{Missing}
+use Rattle.cni_errors.specs.declared.answer.Missed.{Missed}
+use Rattle.cni_errors.specs.declared.answer.Missed.TheVariants as missed
+use Rattle.cni_errors.specs.declared.answer.Question.{Question}
 use Rattle.pod_laws.specs.Checked.{are_in, has_bridge_by, has_bridge_for, has_first_bridge, has_objects_of, holds_cached}
 use Rattle.pod_laws.specs.Granted.{grants}
 use Rattle.pod_laws.proofs.Questions.Asking.{tells}

@@ -15,15 +15,15 @@ use Rattle.kernel_types.proofs.Replies.{IsReplyOf-apply}
 use Rattle.kernel_types.specs.declared.object.Host.{Host}
 use Rattle.kernel_types.specs.declared.call.Call.TheVariants.{CacheGet}
 use Rattle.kernel_types.specs.declared.call.Reply.TheVariants.{Fault}
-use Rattle.cni_verbs.specs.CommandFields.{att_of, del_refusal}
+use Rattle.cni_errors.specs.CommandFields.{att_of, del_refusal}
 use Rattle.cni_verbs.specs.Questions.{check_questions}
 use Rattle.cni_verbs.specs.Script.{State, FindingEntry, Asking, Over, Calls, advance, asking, at_entry, at_question, checking, start_of, turn, unless_refused}
-use Rattle.cni_verbs.specs.declared.answer.Cause.{Cause}
-use Rattle.cni_verbs.specs.declared.answer.Cause.TheVariants as causes
-use Rattle.cni_verbs.specs.declared.answer.Ending.{Ending}
-use Rattle.cni_verbs.specs.declared.answer.Ending.TheVariants.{Skipped, Refused}
-use Rattle.cni_verbs.specs.declared.answer.Question.{Question}
-use Rattle.cni_verbs.specs.declared.answer.Skip.TheVariants as skips
+use Rattle.cni_errors.specs.declared.answer.Cause.{Cause}
+use Rattle.cni_errors.specs.declared.answer.Cause.TheVariants as causes
+use Rattle.cni_errors.specs.declared.answer.Ending.{Ending}
+use Rattle.cni_errors.specs.declared.answer.Ending.TheVariants.{Skipped, Refused}
+use Rattle.cni_errors.specs.declared.answer.Question.{Question}
+use Rattle.cni_errors.specs.declared.answer.Skip.TheVariants as skips
 use Rattle.pod_workers.specs.World.{entry_of, host_of, reply_to}
 use Rattle.pod_workers.specs.declared.plan.Entry.{Entry}
 use Rattle.pod_laws.specs.Checked.{EndsByEntry, EndsByList, EndsCheck, IsMissing, WasChecked, holds_cached}

@@ -14,9 +14,9 @@ use Rattle.cni_addr.specs.Lists.{distinct}
 use Rattle.cni_addr.specs.declared.mac.Mac.{Mac}
 use Rattle.cni_result.specs.declared.cached.Cached.{Cached}
 use Rattle.cni_result.specs.declared.result.Interface.{Interface}
-use Rattle.cni_verbs.specs.CommandFields.{att_of}
+use Rattle.cni_errors.specs.CommandFields.{att_of}
 use Rattle.cni_verbs.specs.Questions.{addresses_of_result, cached_share}
-use Rattle.cni_verbs.specs.Wanted.{bridge_of}
+use Rattle.plugin_chain.specs.Wanted.{bridge_of}
 use Rattle.kernel_types.specs.Apply.Calls.{has_object}
 use Rattle.kernel_types.specs.Equal.{addr_obj_eq, lease_eq, link_eq, route_eq, rule_eq, setting_eq, tag_eq}
 use Rattle.kernel_types.specs.Sound.{IsSound}

@@ -13,11 +13,11 @@ use Rattle.kernel_types.specs.declared.object.Host.{Host}
 use Rattle.kernel_types.specs.declared.call.Reply.{Reply}
 use Rattle.cni_verbs.specs.Script.{State, Collecting, Over, advance, finish_of, gc_of, faults_after, next_call, start_of, start_state, state_after, state_from, swept, early_ending, unless_ended}
 use Rattle.cni_verbs.specs.Sweep.{Work, start_work, work_after}
-use Rattle.cni_verbs.specs.declared.answer.Answer.{Answer}
-use Rattle.cni_verbs.specs.declared.answer.Cause.TheVariants as causes
-use Rattle.cni_verbs.specs.declared.answer.Ending.{Ending}
-use Rattle.cni_verbs.specs.declared.answer.Ending.TheVariants.{Yes, Skipped, Refused}
-use Rattle.cni_verbs.specs.declared.answer.Skip.TheVariants as skips
+use Rattle.cni_errors.specs.declared.answer.Answer.{Answer}
+use Rattle.cni_errors.specs.declared.answer.Cause.TheVariants as causes
+use Rattle.cni_errors.specs.declared.answer.Ending.{Ending}
+use Rattle.cni_errors.specs.declared.answer.Ending.TheVariants.{Yes, Skipped, Refused}
+use Rattle.cni_errors.specs.declared.answer.Skip.TheVariants as skips
 use Rattle.cni_verbs.proofs.EarlyEndings.{early_ending-cases, too_old}
 use Rattle.gc_sweep.specs.Bound.{most_of_collection}
 use Rattle.gc_sweep.specs.Keep.{keep}

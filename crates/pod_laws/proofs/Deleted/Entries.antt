@@ -20,9 +20,9 @@ use Rattle.kernel_types.specs.declared.call.Call.{Call}
 use Rattle.kernel_types.specs.declared.call.Call.TheVariants.{CacheGet}
 use Rattle.plugin_base.specs.Share.{Share, share_of, no_objects}
 use Rattle.plugin_base.proofs.Deletions.{empty_none}
-use Rattle.cni_verbs.specs.CommandFields.{att_of}
+use Rattle.cni_errors.specs.CommandFields.{att_of}
 use Rattle.cni_verbs.specs.Script.{State, AtBegin, BeforeLeases, Leasing, AfterLeases, ReadingCache, Deleting, Over, Calls, turn}
-use Rattle.cni_verbs.specs.Wanted.{deletion}
+use Rattle.plugin_chain.specs.Wanted.{deletion}
 use Rattle.gc_sweep.proofs.Lists.{any-found}
 use Rattle.pod_file.specs.Commands.{is_of_network}
 use Rattle.pod_workers.specs.World.{host_of}

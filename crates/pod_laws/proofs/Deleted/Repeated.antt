@@ -26,10 +26,10 @@ use Rattle.plugin_base.specs.Calls.{is_call_of}
 use Rattle.plugin_base.specs.Share.{Share, share_of, no_objects}
 use Rattle.plugin_base.proofs.Refusals.{refused-same, refused-lease}
 use Rattle.cni_verbs.specs.AddCalls.{is_done}
-use Rattle.cni_verbs.specs.CommandFields.{att_of}
+use Rattle.cni_errors.specs.CommandFields.{att_of}
 use Rattle.cni_verbs.specs.Script.{State, AtBegin, BeforeLeases, Leasing, AfterLeases, ReadingCache, Deleting, FindingEntry, Asking, Changing, Collecting, Over, Calls, turn}
-use Rattle.cni_verbs.specs.Wanted.{deletion}
-use Rattle.cni_verbs.specs.declared.answer.Answer.TheVariants as answers
+use Rattle.plugin_chain.specs.Wanted.{deletion}
+use Rattle.cni_errors.specs.declared.answer.Answer.TheVariants as answers
 use Rattle.pod_workers.specs.Legal.{Legal}
 use Rattle.pod_workers.specs.Plans.{Placed, commands_of}
 use Rattle.pod_workers.specs.World.{World, entry_of, host_of, after_entry}

@@ -4,9 +4,9 @@ use Rattle.std.proofs.lemmas.Bool.{both_ways}
 use Rattle.cni_addr.specs.declared.address.Addr.{Addr}
 use Rattle.pod_file.specs.declared.command.Command.{Command}
 use Rattle.net_conf.specs.declared.list.NetList.{NetList}
-use Rattle.cni_verbs.specs.declared.answer.Answer.{Answer}
-use Rattle.cni_verbs.specs.declared.answer.Ending.{Ending}
-use Rattle.cni_verbs.specs.Answers.{answer_of, answer_of_ending}
+use Rattle.cni_errors.specs.declared.answer.Answer.{Answer}
+use Rattle.cni_errors.specs.declared.answer.Ending.{Ending}
+use Rattle.cni_verbs.specs.Endings.{answer_of, answer_of_ending}
 use Rattle.cni_verbs.specs.Script.{State, Collecting, Over}
 use Rattle.cni_verbs.specs.Sweep.{Work}
 use Rattle.pod_workers.specs.Legal.{Legal}

@@ -3,12 +3,12 @@ use Rattle.std.proofs.Common.{◌≡◌, ℕ, List, [], ◌∷◌, Some, refl, s
 use Rattle.net_conf.specs.declared.list.NetList.{NetList}
 use Rattle.kernel_types.specs.declared.call.Call.{Call}
 use Rattle.pod_file.specs.declared.command.Command.{Command}
-use Rattle.cni_verbs.specs.Answers.{answer_of}
+use Rattle.cni_verbs.specs.Endings.{answer_of}
 use Rattle.cni_verbs.specs.Progress.{turn_by, answer_by}
 use Rattle.cni_verbs.specs.Script.{State, AtBegin, BeforeLeases, Leasing, AfterLeases, ReadingCache, Deleting, FindingEntry, Asking, Changing, Collecting, Over, Calls, Finishes, Finish, turn, turn_of_work, finish_of_work, state_after, swept}
 use Rattle.cni_verbs.specs.Sweep.{Job, Sweep, Work}
-use Rattle.cni_verbs.specs.declared.answer.Answer.{Answer}
-use Rattle.cni_verbs.specs.declared.answer.Ending.{Ending}
+use Rattle.cni_errors.specs.declared.answer.Answer.{Answer}
+use Rattle.cni_errors.specs.declared.answer.Ending.{Ending}
 use Rattle.cni_addr.specs.declared.address.Addr.{Addr}
 use Rattle.pod_workers.specs.Facts.{IsScripts}
 use Rattle.pod_workers.specs.Legal.{Legal}

@@ -20,16 +20,18 @@ use Rattle.kernel_types.specs.declared.call.Call.{Call}
 use Rattle.kernel_types.specs.declared.call.Reply.{Reply}
 use Rattle.kernel_types.specs.declared.object.Host.{Host}
 use Rattle.plugin_base.specs.Share.{Share, share_of}
-use Rattle.cni_verbs.specs.Answers.{answer_of, error_of}
-use Rattle.cni_verbs.specs.CommandFields.{att_of, mappings_of}
+use Rattle.cni_verbs.specs.Endings.{answer_of}
+use Rattle.cni_errors.specs.Answers.{error_of}
+use Rattle.cni_errors.specs.CommandFields.{att_of}
+use Rattle.cni_verbs.specs.Mappings.{mappings_of}
 use Rattle.cni_verbs.specs.Script.{State, Collecting, Over, leases_in}
 use Rattle.cni_verbs.specs.Sweep.{Work}
-use Rattle.cni_verbs.specs.Wanted.{result_of_add, sets_of, wanted}
-use Rattle.cni_verbs.specs.declared.answer.Answer.{Answer}
-use Rattle.cni_verbs.specs.declared.answer.Answer.TheVariants as answers
-use Rattle.cni_verbs.specs.declared.answer.Cause.{Cause}
-use Rattle.cni_verbs.specs.declared.answer.Ending.{Ending}
-use Rattle.cni_verbs.specs.declared.answer.Ending.TheVariants.{Added, Yes, Skipped, Versions, Refused}
+use Rattle.plugin_chain.specs.Wanted.{result_of_add, sets_of, wanted}
+use Rattle.cni_errors.specs.declared.answer.Answer.{Answer}
+use Rattle.cni_errors.specs.declared.answer.Answer.TheVariants as answers
+use Rattle.cni_errors.specs.declared.answer.Cause.{Cause}
+use Rattle.cni_errors.specs.declared.answer.Ending.{Ending}
+use Rattle.cni_errors.specs.declared.answer.Ending.TheVariants.{Added, Yes, Skipped, Versions, Refused}
 use Rattle.pod_workers.specs.Legal.{Legal}
 use Rattle.pod_workers.specs.Plans.{Placed, commands_of, list_for}
 use Rattle.pod_workers.specs.World.{World, own_replies}

@@ -18,15 +18,15 @@ use Rattle.kernel_types.specs.declared.call.Call.{Call}
 use Rattle.kernel_types.specs.declared.call.Call.TheVariants.{HasObj, CacheGet, OwnersOf, PoolFree}
 use Rattle.kernel_types.specs.declared.call.Reply.{Reply}
 use Rattle.kernel_types.specs.declared.call.Reply.TheVariants.{Gone}
-use Rattle.cni_verbs.specs.CommandFields.{att_of, del_refusal, add_refusal}
+use Rattle.cni_errors.specs.CommandFields.{att_of, del_refusal, add_refusal}
 use Rattle.cni_verbs.specs.Questions.{check_questions, status_questions}
 use Rattle.cni_verbs.specs.Script.{State, AtBegin, BeforeLeases, Leasing, AfterLeases, ReadingCache, Deleting, FindingEntry, Asking, Changing, Collecting, Over, before_of, back_of, after_leases, leasing, before_leases, asking, gc_of, changed, faulted, swept, advance, start_of, state_after}
 use Rattle.cni_verbs.specs.Sweep.{Work, start_work}
-use Rattle.cni_verbs.specs.Wanted.{sets_of, kinds_of}
-use Rattle.cni_verbs.specs.declared.answer.Ending.{Ending}
-use Rattle.cni_verbs.specs.declared.answer.Ending.TheVariants.{Added, Yes, Skipped, Versions, Refused}
-use Rattle.cni_verbs.specs.declared.answer.Question.{Question}
-use Rattle.cni_verbs.specs.declared.answer.Skip.TheVariants as skips
+use Rattle.plugin_chain.specs.Wanted.{sets_of, kinds_of}
+use Rattle.cni_errors.specs.declared.answer.Ending.{Ending}
+use Rattle.cni_errors.specs.declared.answer.Ending.TheVariants.{Added, Yes, Skipped, Versions, Refused}
+use Rattle.cni_errors.specs.declared.answer.Question.{Question}
+use Rattle.cni_errors.specs.declared.answer.Skip.TheVariants as skips
 use Rattle.pod_workers.proofs.AddCalls.{of_kinds-before, of_kinds-back}
 
 -- ---- questions

@@ -18,10 +18,10 @@ use Rattle.kernel_types.specs.declared.call.Kind.TheVariants as kinds
 use Rattle.plugin_base.specs.Calls.{is_call_of}
 use Rattle.plugin_base.specs.Share.{share_of}
 use Rattle.plugin_base.proofs.OtherCalls.{share-other, call-plugin}
-use Rattle.cni_verbs.specs.CommandFields.{att_of}
+use Rattle.cni_errors.specs.CommandFields.{att_of}
 use Rattle.cni_verbs.specs.Script.{State, AtBegin, BeforeLeases, Leasing, AfterLeases, ReadingCache, Deleting, FindingEntry, Asking, Changing, Collecting, Over, Calls, turn, turn_of_work}
 use Rattle.cni_verbs.specs.Sweep.{Job, Step, AskCached, Delete, Sweep, step_call}
-use Rattle.cni_verbs.specs.Wanted.{deletion}
+use Rattle.plugin_chain.specs.Wanted.{deletion}
 use Rattle.pod_file.specs.Commands.{is_of_network, is_exclusive_verb}
 use Rattle.pod_workers.specs.Plans.{Placed, commands_of}
 use Rattle.pod_workers.specs.World.{World, after_entry, host_of, own_replies, entry_of}

@@ -8,11 +8,11 @@ use Rattle.std.proofs.lemmas.Bool.{both_ways}
 use Rattle.cni_addr.specs.declared.address.Addr.{Addr}
 use Rattle.pod_file.specs.declared.command.Command.{Command}
 use Rattle.kernel_types.specs.declared.call.Call.{Call}
-use Rattle.cni_verbs.specs.Answers.{answer_outside, outside_by}
+use Rattle.cni_verbs.specs.Endings.{answer_outside, outside_by}
 use Rattle.cni_verbs.specs.Progress.{answer_by, turn_by}
 use Rattle.cni_verbs.specs.Script.{State, Changing, Over, Calls, Finishes, Finish, changed, outside_advance, outside_after, outside_start, turn}
-use Rattle.cni_verbs.specs.declared.answer.Answer.{Answer}
-use Rattle.cni_verbs.specs.declared.answer.Ending.{Ending}
+use Rattle.cni_errors.specs.declared.answer.Answer.{Answer}
+use Rattle.cni_errors.specs.declared.answer.Ending.{Ending}
 use Rattle.pod_workers.specs.Facts.{IsScripts}
 use Rattle.pod_workers.specs.Legal.{Legal}
 use Rattle.pod_file.specs.Commands.{is_of_network}

@@ -7,8 +7,8 @@ use Rattle.pod_file.specs.declared.command.Verb.TheVariants as verbs
 use Rattle.plugin_base.specs.Share.{Share}
 use Rattle.cni_addr.specs.declared.address.Addr.{Addr}
 use Rattle.cni_verbs.specs.Script.{State, Over, start_of, turn}
-use Rattle.cni_verbs.specs.declared.answer.Ending.{Ending}
-use Rattle.cni_verbs.specs.declared.answer.Ending.TheVariants.{Versions}
+use Rattle.cni_errors.specs.declared.answer.Ending.{Ending}
+use Rattle.cni_errors.specs.declared.answer.Ending.TheVariants.{Versions}
 use Rattle.pod_workers.specs.declared.plan.Entry.{Entry}
 use Rattle.pod_laws.specs.Changed.{VersionsAreTheLists}
 use Rattle.pod_laws.specs.Moments.{own_entries}

@@ -11,10 +11,10 @@ use Rattle.kernel_types.specs.declared.call.Call.TheVariants.{HasObj, PoolFree}
 use Rattle.kernel_types.specs.declared.call.Reply.TheVariants.{Has}
 use Rattle.kernel_types.proofs.ListLemmas.{list_all-push, list_any-append_none, list_any-append_right}
 use Rattle.cni_verbs.specs.Script.{State, Asking, Over, asking, at_question}
-use Rattle.cni_verbs.specs.declared.answer.Cause.{Cause}
-use Rattle.cni_verbs.specs.declared.answer.Ending.{Ending}
-use Rattle.cni_verbs.specs.declared.answer.Ending.TheVariants.{Added, Yes, Skipped, Versions, Refused}
-use Rattle.cni_verbs.specs.declared.answer.Question.{Question}
+use Rattle.cni_errors.specs.declared.answer.Cause.{Cause}
+use Rattle.cni_errors.specs.declared.answer.Ending.{Ending}
+use Rattle.cni_errors.specs.declared.answer.Ending.TheVariants.{Added, Yes, Skipped, Versions, Refused}
+use Rattle.cni_errors.specs.declared.answer.Question.{Question}
 use Rattle.pod_workers.specs.declared.plan.Entry.{Entry}
 use Rattle.pod_laws.specs.Answers.{EndsByTest}
 use Rattle.pod_laws.specs.Granted.{EndsByDenied, IsFirstDenied, grants, is_yes}

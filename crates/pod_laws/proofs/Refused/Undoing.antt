@@ -26,12 +26,12 @@ use Rattle.kernel_types.specs.declared.call.Reply.TheVariants.{Done, NoLink, Lea
 use Rattle.plugin_base.specs.Calls.{is_plugin_call_of}
 use Rattle.plugin_base.specs.Share.{Share, share_of, no_objects}
 use Rattle.plugin_base.proofs.Deletions.{gone-none, gone-links, no-links}
-use Rattle.cni_verbs.specs.CommandFields.{att_of, add_refusal, del_refusal}
+use Rattle.cni_errors.specs.CommandFields.{att_of, add_refusal, del_refusal}
 use Rattle.cni_verbs.specs.Script.{State, AtBegin, BeforeLeases, Leasing, AfterLeases, ReadingCache, Deleting, FindingEntry, Asking, Changing, Collecting, Over, Calls, before_of, back_of, after_leases, leasing, before_leases, deleting, faulted, cause_of, at_begin, at_call_before, at_lease, at_call_after, at_cache, at_deletion, advance, unless_refused, start_of, turn}
-use Rattle.cni_verbs.specs.Wanted.{sets_of, kinds_of, deletion}
-use Rattle.cni_verbs.specs.declared.answer.Cause.{Cause}
-use Rattle.cni_verbs.specs.declared.answer.Ending.{Ending}
-use Rattle.cni_verbs.specs.declared.answer.Ending.TheVariants.{Added, Yes, Skipped, Versions, Refused}
+use Rattle.plugin_chain.specs.Wanted.{sets_of, kinds_of, deletion}
+use Rattle.cni_errors.specs.declared.answer.Cause.{Cause}
+use Rattle.cni_errors.specs.declared.answer.Ending.{Ending}
+use Rattle.cni_errors.specs.declared.answer.Ending.TheVariants.{Added, Yes, Skipped, Versions, Refused}
 use Rattle.pod_workers.specs.World.{entry_of, host_of, after_entry, reply_to}
 use Rattle.pod_workers.specs.declared.plan.Entry.{Entry}
 use Rattle.pod_workers.proofs.OfPlugins.{LeftAreOfPlugins}

@@ -26,9 +26,9 @@ use Rattle.plugin_base.specs.Share.{share_of, no_objects}
 use Rattle.plugin_base.proofs.OtherCalls.{share-other}
 use Rattle.plugin_base.proofs.OwnCalls.{share-own, share-lease}
 use Rattle.plugin_base.proofs.Refusals.{refused-same, refused-lease}
-use Rattle.cni_verbs.specs.CommandFields.{att_of}
+use Rattle.cni_errors.specs.CommandFields.{att_of}
 use Rattle.cni_verbs.specs.Script.{State, AtBegin, BeforeLeases, Leasing, AfterLeases, ReadingCache, Deleting, FindingEntry, Asking, Changing, Collecting, Over, Calls, turn, state_after}
-use Rattle.cni_verbs.specs.Wanted.{kinds_of, deletion}
+use Rattle.plugin_chain.specs.Wanted.{kinds_of, deletion}
 use Rattle.pod_file.specs.WellFormed.{IsOpening}
 use Rattle.pod_workers.specs.Legal.{Legal}
 use Rattle.pod_file.specs.Commands.{is_of_network}

@@ -1,8 +1,8 @@
 use Rattle.std.proofs.Common.{◌∙◌, Some, ap}
 use Rattle.cni_result.specs.declared.cached.Cached.{Cached}
-use Rattle.cni_verbs.specs.Answers.{answer_of}
+use Rattle.cni_verbs.specs.Endings.{answer_of}
 use Rattle.cni_verbs.specs.Progress as progress
-use Rattle.cni_verbs.specs.declared.answer.Answer.TheVariants as answers
+use Rattle.cni_errors.specs.declared.answer.Answer.TheVariants as answers
 use Rattle.cni_verbs.proofs.Ends.{added-answer, early-open, after-finish, deleting-finish, asking-finish, over-finish}
 use Rattle.cni_verbs.proofs.NextCalls.{ok_some_by}
 use Rattle.cni_verbs.proofs.ending.answer_at_end.Goals as goal

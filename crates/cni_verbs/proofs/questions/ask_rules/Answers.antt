@@ -1,5 +1,5 @@
 use Rattle.std.proofs.Common.{◌+◌}
-use Rattle.cni_verbs.specs.Questions.{rule_question}
+use Rattle.cni_errors.specs.ObjectQuestions.{rule_question}
 use Rattle.cni_verbs.proofs.Asked.{numbered_more}
 use Rattle.cni_verbs.proofs.questions.ask_rules.Goals as goal
 

@@ -1,5 +1,5 @@
 use Rattle.std.proofs.Common.{◌≡◌, ◌+◌, ◌++◌, drop}
-use Rattle.cni_verbs.specs.Questions.{rule_questions}
+use Rattle.cni_errors.specs.ObjectQuestions.{rule_questions}
 use Rattle.cni_verbs.proofs.questions.ask_rules.Given as goal
 
 -- what was asked and what is left are the whole

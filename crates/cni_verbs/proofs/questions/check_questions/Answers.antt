@@ -1,6 +1,6 @@
 use Rattle.std.proofs.Common.{◌∙◌}
 use Rattle.cni_verbs.specs.Questions.{check_questions, cached_share}
-use Rattle.cni_verbs.specs.Wanted.{bridge_of}
+use Rattle.plugin_chain.specs.Wanted.{bridge_of}
 use Rattle.cni_verbs.proofs.Gathered.{checked}
 use Rattle.cni_verbs.proofs.questions.check_questions.Goals as goal
 

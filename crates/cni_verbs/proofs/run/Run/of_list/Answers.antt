@@ -1,6 +1,6 @@
 use Rattle.std.proofs.Common.{◌∙◌, [], Some, sym, ap}
 use Rattle.cni_verbs.specs.Progress.{progress}
-use Rattle.cni_verbs.specs.Wanted.{kinds_of}
+use Rattle.plugin_chain.specs.Wanted.{kinds_of}
 use Rattle.cni_verbs.proofs.NextCalls.{starts_for}
 use Rattle.cni_verbs.proofs.run.Run.of_list.Goals as goal
 

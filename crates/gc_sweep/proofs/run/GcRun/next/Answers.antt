@@ -1,6 +1,6 @@
 use Rattle.std.proofs.Common.{◌∙◌, ap, sym}
 use Rattle.net_conf.specs.declared.list.NetList.{NetList}
-use Rattle.cni_verbs.specs.Wanted.{kinds_of}
+use Rattle.plugin_chain.specs.Wanted.{kinds_of}
 use Rattle.cni_verbs.proofs.NextCalls.{ok_by}
 use Rattle.gc_sweep.specs.Sweep.{is_early}
 use Rattle.gc_sweep.specs.View.{work_of}

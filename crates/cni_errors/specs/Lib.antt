@@ -1,0 +1,4 @@
+pub mod Answers
+pub mod CommandFields
+pub mod ErrorKinds
+pub mod ObjectQuestions

@@ -1,7 +1,0 @@
-use Rattle.std.proofs.Common.{◌≡◌, map, take}
-use Rattle.cni_verbs.specs.Answers.{call_text}
-use Rattle.cni_verbs.proofs.errors.call_texts.Given as goal
-
--- the calls so far have their texts
-abbrev pub invariant-loop-number : goal.invariant-loop-number
-invariant-loop-number l = l.texts.items ≡ map call_text (take l.number-index l.numbers)

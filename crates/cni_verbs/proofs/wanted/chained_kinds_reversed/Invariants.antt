@@ -1,7 +1,0 @@
-use Rattle.std.proofs.Common.{◌≡◌, drop}
-use Rattle.cni_verbs.specs.Wanted.{chained_kinds_reversed}
-use Rattle.cni_verbs.proofs.wanted.chained_kinds_reversed.Given as goal
-
--- the kinds of the plugins that were passed, which are the last ones
-abbrev pub invariant-loop-place : goal.invariant-loop-place
-invariant-loop-place l = l.kinds.items ≡ chained_kinds_reversed (drop l.place l.chained)

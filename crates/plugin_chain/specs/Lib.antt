@@ -1,0 +1,3 @@
+pub mod Laws
+pub mod Plugins
+pub mod Wanted
