@@ -12,20 +12,34 @@ use crate::error::{PodError, wrong, wrong_member};
 use crate::indexed::Names;
 use crate::links::links;
 use cni_addr::{Items, Text};
-use cni_json::{Field, Value, field_list, field_object};
+use cni_json::{Field, Value, field_list, member};
 use kernel_types::terms::is_host_ns;
 use kernel_types::{Host, opening_with};
 use std::alloc::Global;
 
-/// The opening, an empty host where there is none.
+/// The host that an opening is, an object with lists `namespaces` and `links`, each absent where it is empty. Null is a
+/// host with nothing, and a value of another kind has the path `opening`. The names of namespaces differ, none is empty,
+/// and each link is in a namespace that is named, or in the host's own; what is wrong there has the path of its list, or
+/// of the list's member, as `opening.links[2]`.
+#[tactic(auto, using(cni_json::proofs::Steps::steps), unfolding(crate::specs::Opening::opening_of))]
+pub fn read_opening(alloc: Global, value: &Value) -> Result<Host, PodError>
+    ensures { Gives is_out_of_memory result (defined.opening_of (view value.now)) }
+{
+    match value {
+        Value::Null => Ok(opening_with(alloc, &[], Items::new(alloc))?),
+        Value::Object(_) => opening_members(alloc, value),
+        _ => Err(wrong(alloc, "opening")),
+    }
+}
+
+/// The opening of a file.
 #[tactic(auto, using(cni_json::proofs::Steps::steps), unfolding(crate::specs::Opening::opening_at))]
 pub(crate) fn opening(alloc: Global, top: &Value) -> Result<Host, PodError>
     ensures { Gives is_out_of_memory result (defined.opening_at (view top.now)) }
 {
-    match field_object(top, "opening") {
-        Field::Absent => Ok(opening_with(alloc, &[], Items::new(alloc))?),
-        Field::WrongKind => Err(wrong(alloc, "opening")),
-        Field::Here(members) => opening_members(alloc, members),
+    match member(top, "opening") {
+        Some(value) => read_opening(alloc, value),
+        None => read_opening(alloc, &Value::Null),
     }
 }
 
