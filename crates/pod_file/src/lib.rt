@@ -6,6 +6,9 @@
 //! that is read is well formed ([`pod_file_laws`]): its opening is a sound host, and its commands are numbered from 1
 //! in file order.
 //!
+//! Pieces are read by themselves where another file or a request has them: an opening ([`read_opening`]), and the
+//! [`fields`] of a command at any [`Place`], which names what is wrong.
+//!
 //! ```text
 //! let pods = read_pods(alloc, b"{\"rounds\":[[{\"verb\":\"DEL\",\"network\":\"pods\",\"container\":\"c1\"}]]}")?;
 //! pods.rounds.as_slice().len()                           // 1; the command's number is 1, its interface name eth0
@@ -24,6 +27,7 @@ mod indexed;
 pub mod laws;
 mod links;
 mod mappings;
+mod name;
 mod opening;
 mod place;
 pub mod pods;
