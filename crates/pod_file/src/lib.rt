@@ -7,7 +7,7 @@
 //! in file order.
 //!
 //! Pieces are read by themselves where another file or a request has them: an opening ([`read_opening`]), and the
-//! [`fields`] of a command at any [`Place`], which names what is wrong.
+//! [`fields`] of a command at any [`Place`], which names what is wrong. [`Faults`] tells which calls are to fail.
 //!
 //! ```text
 //! let pods = read_pods(alloc, b"{\"rounds\":[[{\"verb\":\"DEL\",\"network\":\"pods\",\"container\":\"c1\"}]]}")?;
@@ -20,6 +20,7 @@ pub mod command;
 mod commands;
 mod copies;
 mod error;
+mod faults;
 pub mod fields;
 mod generated_list;
 pub mod generator;
@@ -36,6 +37,7 @@ mod rounds;
 
 pub use command::{Command, RawMapping, ValidAtt, Verb, verb_named, verb_text};
 pub use error::PodError;
+pub use faults::Faults;
 pub use generator::{Generated, generate};
 pub use laws::{generator_laws, pod_file_laws};
 pub use opening::read_opening;

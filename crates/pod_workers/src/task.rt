@@ -9,13 +9,12 @@ ghost use Rattle.kernel_types.specs.Replies.{holds_text_or_list, is_fault};
 ghost use Rattle.pod_workers.specs.Tasks.{AreFaultsOf, view_of};
 ghost use Rattle.pod_workers.specs.World.{is_faulty};
 
-use crate::faults::Faults;
 use cni_addr::NoMemory;
 use cni_verbs::{Answer, Run};
 use gc_sweep::GcRun;
 use kernel_types::{Call, RefCounted, Reply};
 use net_conf::NetList;
-use pod_file::{Command, Verb};
+use pod_file::{Command, Faults, Verb};
 use std::alloc::Global;
 use std::marker::Model;
 
