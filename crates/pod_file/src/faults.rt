@@ -26,8 +26,8 @@ impl Model for Faults {
 }
 
 impl Faults {
-    /// The faults of these numbers, from 1, in any order. It takes n log n steps for n numbers, and no memory where there
-    /// are none.
+    /// The faults of these numbers, from 1, in any order. It takes n log n steps for n numbers, and no memory where
+    /// there are none.
     pub fn of(alloc: Global, numbers: &[u32]) -> Result<Faults, NoMemory>
         ensures { IfOk result (λ faults. (made : ℕ) → are_after made faults
             ≡ list_any (λ k. k == made + 1) numbers.now) }

@@ -54,7 +54,8 @@ pub(crate) fn inner_text(
     }
 }
 
-/// A text in the value of the command's key `outer`, or of the command itself where `outer` is the key. It must be there.
+/// A text in the value of the command's key `outer`, or of the command itself where `outer` is the key. It must be
+/// there.
 #[tactic(auto, using(cni_json::proofs::Steps::steps), unfolding(crate::specs::Members::needed_text_at))]
 pub fn needed_text(
     alloc: Global,

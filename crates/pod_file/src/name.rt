@@ -6,8 +6,8 @@ use cni_addr::Text;
 use std::cmp::Ordering;
 use std::marker::Model;
 
-/// A name in the order of its bytes. Whoever writes a file chooses its names, and could choose many of one hash, so they
-/// are looked up by their order.
+/// A name in the order of its bytes. Whoever writes a file chooses its names, and could choose many of one hash, so
+/// they are looked up by their order.
 #[derive(Drop)]
 pub(crate) struct Name {
     text: Text,

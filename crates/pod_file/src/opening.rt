@@ -18,10 +18,11 @@ use kernel_types::terms::is_host_ns;
 use kernel_types::{Host, opening_with};
 use std::alloc::Global;
 
-/// The host that an opening is, an object with lists `namespaces` and `links`, each absent where it is empty. Null is a
-/// host with nothing, and a value of another kind has the path `opening`. The names of namespaces differ, none is empty,
-/// and each link is in a namespace that is named, or in the host's own; what is wrong there has the path of its list, or
-/// of the list's member, as `opening.links[2]`.
+/// The host that an opening is: an object whose lists `namespaces` and `links` may each be absent, or null, which is a
+/// host with nothing. A value of another kind is wrong by the path `opening`, a list of another kind by its own, as
+/// `opening.links`. A member is wrong by its place, as `opening.links[2]`: a namespace whose name is empty or was there
+/// before, and a link that is no object of its form, that is in no namespace of these and not in the host's own, or
+/// whose name was there before.
 #[tactic(auto, using(cni_json::proofs::Steps::steps), unfolding(crate::specs::Opening::opening_of))]
 pub fn read_opening(alloc: Global, value: &Value) -> Result<Host, PodError>
     ensures { Gives is_out_of_memory result (defined.opening_of (view value.now)) }
