@@ -1,6 +1,6 @@
 -- What the rounds of a pod file keep that are read.
 use Rattle.std.proofs.Common.{◌≡◌, ℕ, zero, suc, ◌+◌, ◌≤◌, Bool, true, false, not, List, [], ◌∷◌, ◌++◌, length, codes, Option, Some, None, Ok, Err, refl, sym, ap, ap₂, ◌∙◌, subst, arith}
-use Rattle.std.specs.Prelude.{◌||◌, if◌then◌else◌, nat_le, is_some, IfSome, All, scan, slice_get, ok_or, option_map}
+use Rattle.std.specs.Prelude.{◌||◌, if◌then◌else◌, nat_le, is_some, All, scan, slice_get, ok_or, option_map}
 use Rattle.std.specs.List.{list_any}
 use Rattle.std.proofs.lemmas.Bool.Decides.{nat_tests}
 use Rattle.std.proofs.lemmas.List.{length-append}
@@ -19,11 +19,12 @@ use Rattle.pod_file.specs.Commands.{verb_at, needs_table, texts_at, table_of, ta
 use Rattle.pod_file.specs.Members.{list_at, mappings_at, valid_at}
 use Rattle.pod_file.specs.Refusals.{wrong, wrong_key, command_path}
 use Rattle.pod_file.specs.Rounds.{command_in, round_at, rounds_of, rounds_at, in_file_order, is_exclusive, is_alone, each_alone, numbered, round_numbered, all_numbered}
-use Rattle.pod_file.specs.WellFormed.{IsCallNumber, IsWellFormedCommand, IsWellFormedRound}
+use Rattle.pod_file.specs.WellFormed.{IsCallNumber, IsStop, IsWellFormedCommand, IsWellFormedRound}
 use Rattle.pod_file.specs.declared.command.Command.{Command}
 use Rattle.pod_file.specs.declared.command.Verb.{Verb}
 use Rattle.pod_file.specs.declared.error.PodError.{PodError}
-use Rattle.pod_file.specs.declared.place.CommandPlace.{CommandPlace}
+use Rattle.pod_file.specs.declared.place.Place.{Place}
+use Rattle.pod_file.specs.declared.place.Place.TheVariants.{InRound}
 
 -- ---- one command
 
@@ -39,42 +40,38 @@ no_table-ok : (needed : Bool) (e : PodError) (table : Option Table) → (if need
 no_table-ok true e table is holds = cc
 no_table-ok false e table is holds = cc
 
-table_of-ok : (place : CommandPlace) (verb : Verb) (f : Field (List ℕ)) (table : Option Table) → table_of place verb f ≡ Ok table → HasTable verb table
+table_of-ok : (place : Place) (verb : Verb) (f : Field (List ℕ)) (table : Option Table) → table_of place verb f ≡ Ok table → HasTable verb table
 table_of-ok place verb Absent table is = no_table-ok (needs_table verb) _ table is
 table_of-ok place verb WrongKind table is = cc
 table_of-ok place verb (Here text) table is = table_or-ok (table_named text) _ verb table is
 
-table_at-ok : (place : CommandPlace) (verb : Verb) (d : Data) (table : Option Table) → table_at place verb d ≡ Ok table → HasTable verb table
+table_at-ok : (place : Place) (verb : Verb) (d : Data) (table : Option Table) → table_at place verb d ≡ Ok table → HasTable verb table
 unfolding table_at
 table_at-ok place verb d table is = table_of-ok place verb (text_field (codes "table") d) table is
 
--- a number of 32 bits, if any
-abbrev IsStop : Option ℕ → Type 0
-IsStop stop = IfSome stop (λ n. has_32_bits n ≡ true)
-
-stop_of-ok : (place : CommandPlace) (f : Field ℕ) (stop : Option ℕ) → ((n : ℕ) → f ≡ Here n → has_32_bits n ≡ true) → stop_of place f ≡ Ok stop → IsStop stop
+stop_of-ok : (place : Place) (f : Field ℕ) (stop : Option ℕ) → ((n : ℕ) → f ≡ Here n → has_32_bits n ≡ true) → stop_of place f ≡ Ok stop → IsStop stop
 stop_of-ok place Absent stop fits is = subst IsStop (ok_same is) tt
 stop_of-ok place WrongKind stop fits is = cc
 stop_of-ok place (Here n) stop fits is = subst IsStop (ok_same is) (fits n refl)
 
-stop_at-ok : (place : CommandPlace) (d : Data) (stop : Option ℕ) → stop_at place d ≡ Ok stop → IsStop stop
+pub stop_at-ok : (place : Place) (d : Data) (stop : Option ℕ) → stop_at place d ≡ Ok stop → IsStop stop
 unfolding stop_at
 stop_at-ok place d stop is = stop_of-ok place (u32_field (codes "stop") d) stop (u32_of-fits (get (codes "stop") d)) is
 
-fault_of-ok : (place : CommandPlace) (o : Option ℕ) (n : ℕ) → fault_of place o ≡ Ok n → IsCallNumber n
+fault_of-ok : (place : Place) (o : Option ℕ) (n : ℕ) → fault_of place o ≡ Ok n → IsCallNumber n
 fault_of-ok place None n is = cc
 fault_of-ok place (Some m) n is = let test = passed (is_call_number m) m n _ is in subst IsCallNumber test.1 test.0
 
-faults_of-ok : (place : CommandPlace) (f : Field Items) (faults : List ℕ) → list_or (wrong_key place (codes "faults")) (fault_at place) f ≡ Ok faults → All IsCallNumber faults
+faults_of-ok : (place : Place) (f : Field Items) (faults : List ℕ) → list_or (wrong_key place (codes "faults")) (fault_at place) f ≡ Ok faults → All IsCallNumber faults
 faults_of-ok place Absent faults is = subst (All IsCallNumber) (ok_same is) (All-nil IsCallNumber)
 faults_of-ok place WrongKind faults is = cc
 faults_of-ok place (Here ds) faults is = each_all (fault_at place) IsCallNumber (λ d n read. fault_of-ok place (u32_of d) n read) ds faults is
 
-faults_at-ok : (place : CommandPlace) (d : Data) (faults : List ℕ) → faults_at place d ≡ Ok faults → All IsCallNumber faults
+pub faults_at-ok : (place : Place) (d : Data) (faults : List ℕ) → faults_at place d ≡ Ok faults → All IsCallNumber faults
 unfolding faults_at list_at
 faults_at-ok place d faults is = faults_of-ok place (list_field (codes "faults") d) faults is
 
-command_at-ok : (place : CommandPlace) (d : Data) (command : Command) → command_at place d ≡ Ok command → IsWellFormedCommand command
+command_at-ok : (place : Place) (d : Data) (command : Command) → command_at place d ≡ Ok command → IsWellFormedCommand command
 unfolding command_at
 command_at-ok place d command is =
     let form = goes (object_or (wrong (command_path place)) d) _ command is in
@@ -102,7 +99,7 @@ round_at-ok round null commands is = cc
 round_at-ok round (boolean b) commands is = cc
 round_at-ok round (number n) commands is = cc
 round_at-ok round (string s) commands is = cc
-round_at-ok round (array ds) commands is = each_from_all (command_in round) IsWellFormedCommand (λ place d command read. command_at-ok (record { round = round; command = place }) d command read) 0 ds commands is
+round_at-ok round (array ds) commands is = each_from_all (command_in round) IsWellFormedCommand (λ place d command read. command_at-ok (InRound round place) d command read) 0 ds commands is
 round_at-ok round (object ms) commands is = cc
 
 rounds_of-ok : (f : Field Items) (rounds : List (List Command)) → rounds_of f ≡ Ok rounds → All AreCommands rounds

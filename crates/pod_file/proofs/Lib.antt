@@ -1,4 +1,5 @@
 pub mod CommandFacts
+mod FaultFacts
 mod GeneratedListFacts
 mod GeneratorFacts
 mod IndexFacts

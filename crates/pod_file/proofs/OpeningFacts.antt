@@ -1,11 +1,11 @@
 -- What the opening of a pod file keeps that is read.
 use Rattle.std.proofs.Common.{◌≡◌, ℕ, Bool, true, false, not, List, [], ◌∷◌, ◌++◌, length, codes, Some, None, Result, Ok, refl, ◌∙◌, subst}
-use Rattle.std.specs.Prelude.{◌&&◌, if◌then◌else◌, ok_or, map, is_none}
+use Rattle.std.specs.Prelude.{◌&&◌, if◌then◌else◌, ok_or, map, is_none, unwrap_or}
 use Rattle.std.specs.List.{list_any}
 use Rattle.std.specs.Str.{bytes_eq}
 use Rattle.std.proofs.lemmas.Bool.{or_parts}
 use Rattle.serde_json.specs.Data.{Data, null, boolean, number, string, array, object, Items}
-use Rattle.cni_json.specs.Fields.{text_field, list_field, object_field, object_or}
+use Rattle.cni_json.specs.Fields.{member_at, text_field, list_field, object_or}
 use Rattle.cni_json.specs.declared.fields.Field.{Field}
 use Rattle.cni_json.specs.declared.fields.Field.TheVariants.{Absent, WrongKind, Here}
 use Rattle.kernel_types.proofs.ListLemmas.{list_all-push, list_all-weaker, list_any-map, list_any-none, list_any-weaker, distinct-push}
@@ -23,7 +23,7 @@ use Rattle.kernel_types.specs.declared.object.Tag.TheVariants.{Outside}
 use Rattle.cni_json.proofs.Endings.{goes, ok_same, passed, not_refused, each_after_keeps}
 use Rattle.pod_file.proofs.IndexFacts.{bytes_eq-swap}
 use Rattle.pod_file.specs.Links.{name_at, kind_of, kind_at, is_place, ns_of, ns_at, mtu_at, outside_link, not_taken, link_at, next_link, listed_of, listed_at, links_at, wrong_link}
-use Rattle.pod_file.specs.Opening.{is_refused_name, namespace_at, next_namespace, namespaces_at, opening_members_at, opening_or_empty, opening_at}
+use Rattle.pod_file.specs.Opening.{is_refused_name, namespace_at, next_namespace, namespaces_at, opening_members_at, opening_of, opening_at}
 use Rattle.pod_file.specs.WellFormed.{IsOpening}
 use Rattle.pod_file.specs.declared.error.PodError.{PodError}
 
@@ -170,11 +170,15 @@ opening_members_at-ok d host is =
     let links = goes (links_at names.value d) _ host names.rest in
     subst IsOpening (ok_same links.rest) (opening_with-ok names.value links.value (namespaces_at-ok d names.value names.first) (links_at-ok names.value d links.value links.first))
 
-opening_or_empty-ok : (f : Field Data) (host : Host) → opening_or_empty f ≡ Ok host → IsOpening host
-opening_or_empty-ok Absent host is = subst IsOpening (ok_same is) (opening_with-ok [] [] no_host (no_links []))
-opening_or_empty-ok WrongKind host is = cc
-opening_or_empty-ok (Here d) host is = opening_members_at-ok d host is
+pub opening_of-ok : (d : Data) (host : Host) → opening_of d ≡ Ok host → IsOpening host
+unfolding opening_of
+opening_of-ok null host is = subst IsOpening (ok_same is) (opening_with-ok [] [] no_host (no_links []))
+opening_of-ok (boolean b) host is = cc
+opening_of-ok (number n) host is = cc
+opening_of-ok (string s) host is = cc
+opening_of-ok (array ds) host is = cc
+opening_of-ok (object ms) host is = opening_members_at-ok (object ms) host is
 
 pub opening_at-ok : (d : Data) (host : Host) → opening_at d ≡ Ok host → IsOpening host
 unfolding opening_at
-opening_at-ok d host is = opening_or_empty-ok (object_field (codes "opening") d) host is
+opening_at-ok d host is = opening_of-ok (unwrap_or (member_at (codes "opening") d) null) host is

@@ -16,11 +16,11 @@ use Rattle.pod_file.specs.declared.command.TheConstants.Verb.{ALL}
 use Rattle.pod_file.specs.declared.commands.CommandTexts.{CommandTexts}
 use Rattle.pod_file.specs.declared.error.PodError.{PodError}
 use Rattle.pod_file.specs.declared.error.PodError.TheVariants as refusal
-use Rattle.pod_file.specs.declared.place.CommandPlace.{CommandPlace}
+use Rattle.pod_file.specs.declared.place.Place.{Place}
 
 -- ---- the verb
 
-abbrev pub wrong_verb : {A : Type 0} → CommandPlace → Result A PodError
+abbrev pub wrong_verb : {A : Type 0} → Place → Result A PodError
 wrong_verb place = wrong_key place (codes "verb")
 
 -- a verb as pod files and the output spell it
@@ -41,7 +41,7 @@ abbrev pub verb_named : List ℕ → Option Verb
 verb_named text = find (λ verb. bytes_eq text (verb_text verb)) ALL
 
 -- what the command does; it must be there
-unfoldable pub verb_at : CommandPlace → Data → Result Verb PodError
+unfoldable pub verb_at : Place → Data → Result Verb PodError
 verb_at place d =
     needed (wrong_verb place)
     (λ text. ok_or (verb_named text) (refusal.Shape (key_path place (codes "verb")))) (text_field (codes "verb") d)
@@ -70,13 +70,13 @@ is_exclusive_verb verb = true
 -- ---- texts
 
 -- the network's name, which must be there for a verb that speaks of one
-unfoldable pub network_at : CommandPlace → Verb → Data → Result (List ℕ) PodError
+unfoldable pub network_at : Place → Verb → Data → Result (List ℕ) PodError
 network_at place verb d =
     if is_of_network verb then needed_text_at place (codes "network") (codes "network") d
     else text_at place (codes "network") [] d
 
 -- the texts that name what the command is about
-unfoldable pub texts_at : CommandPlace → Verb → Data → Result CommandTexts PodError
+unfoldable pub texts_at : Place → Verb → Data → Result CommandTexts PodError
 texts_at place verb d = do
   network ← network_at place verb d
   container ← text_at place (codes "container") [] d
@@ -87,44 +87,44 @@ texts_at place verb d = do
 
 -- ---- the table, the stop and the faults
 
-abbrev pub no_table : CommandPlace → Verb → Result (Option Table) PodError
+abbrev pub no_table : Place → Verb → Result (Option Table) PodError
 no_table place verb = if needs_table verb then wrong_key place (codes "table") else Ok None
 
-abbrev pub table_of : CommandPlace → Verb → Field (List ℕ) → Result (Option Table) PodError
+abbrev pub table_of : Place → Verb → Field (List ℕ) → Result (Option Table) PodError
 table_of place verb f =
     member_or (no_table place verb) (wrong_key place (codes "table"))
     (λ text. ok_or (option_map Some (table_named text)) (refusal.Shape (key_path place (codes "table")))) f
 
 -- the table that a flush empties
-unfoldable pub table_at : CommandPlace → Verb → Data → Result (Option Table) PodError
+unfoldable pub table_at : Place → Verb → Data → Result (Option Table) PodError
 table_at place verb d = table_of place verb (text_field (codes "table") d)
 
-abbrev pub stop_of : CommandPlace → Field ℕ → Result (Option ℕ) PodError
+abbrev pub stop_of : Place → Field ℕ → Result (Option ℕ) PodError
 stop_of place f = member_or (Ok None) (wrong_key place (codes "stop")) (λ n. Ok (Some n)) f
 
 -- the number of calls after which the command stops
-unfoldable pub stop_at : CommandPlace → Data → Result (Option ℕ) PodError
+unfoldable pub stop_at : Place → Data → Result (Option ℕ) PodError
 stop_at place d = stop_of place (u32_field (codes "stop") d)
 
 -- calls are numbered from 1, in 32 bits
 abbrev pub is_call_number : ℕ → Bool
 is_call_number n = nat_le 1 n && has_32_bits n
 
-abbrev pub fault_of : CommandPlace → Option ℕ → Result ℕ PodError
+abbrev pub fault_of : Place → Option ℕ → Result ℕ PodError
 fault_of place None = wrong_key place (codes "faults")
 fault_of place (Some n) = tested (wrong_key place (codes "faults")) is_call_number n
 
 -- the number of a fault
-abbrev pub fault_at : CommandPlace → Data → Result ℕ PodError
+abbrev pub fault_at : Place → Data → Result ℕ PodError
 fault_at place d = fault_of place (u32_of d)
 
 -- the numbers of the faults, in any order
-unfoldable pub faults_at : CommandPlace → Data → Result (List ℕ) PodError
+unfoldable pub faults_at : Place → Data → Result (List ℕ) PodError
 faults_at place d = list_at place (codes "faults") (fault_at place) d
 
 -- ---- the whole command; it has no number yet
 
-unfoldable pub command_at : CommandPlace → Data → Result Command PodError
+unfoldable pub command_at : Place → Data → Result Command PodError
 command_at place d = do
   _ ← object_or (wrong (command_path place)) d
   verb ← verb_at place d

@@ -1,21 +1,29 @@
 -- Sets that tell what a list has.
-use Rattle.std.specs.Prelude.{◌≡◌, ℕ, List, Bool, ◌&&◌}
+use Rattle.std.specs.Prelude.{◌≡◌, ℕ, List, Bool}
+use Rattle.std.specs.Cmp.Lexicographic.{slice_cmp}
 use Rattle.std.specs.List.{list_any}
+use Rattle.std.specs.Ordering.{nat_cmp, ordering_then}
 use Rattle.std.specs.Str.{bytes_eq}
+use Rattle.std.specs.declared.cmp.Ordering.{Ordering}
 use Rattle.kernel_types.specs.Terms.{is_at}
 use Rattle.kernel_types.specs.declared.object.Link.{Link}
+
+-- names by their bytes
+abbrev pub name_cmp : List ℕ → List ℕ → Ordering
+name_cmp = slice_cmp nat_cmp
 
 -- the test tells which names these are
 abbrev pub HasNames : (List ℕ → Bool) → List (List ℕ) → Type 0
 HasNames has names = (name : List ℕ) → has name ≡ list_any (bytes_eq name) names
 
 -- a namespace, and a name in it
-abbrev pub Place : Type 0
-Place = List ℕ × List ℕ
+abbrev pub LinkPlace : Type 0
+LinkPlace = List ℕ × List ℕ
 
-abbrev pub place_eq : Place → Place → Bool
-place_eq p q = bytes_eq p.0 q.0 && bytes_eq p.1 q.1
+-- links by their namespaces, and then by their names
+abbrev pub link_place_cmp : LinkPlace → LinkPlace → Ordering
+link_place_cmp p q = ordering_then (name_cmp p.0 q.0) (name_cmp p.1 q.1)
 
 -- the test tells at which places these links stand
-abbrev pub HasPlaces : (Place → Bool) → List Link → Type 0
+abbrev pub HasPlaces : (LinkPlace → Bool) → List Link → Type 0
 HasPlaces has links = (ns name : List ℕ) → has (ns, name) ≡ list_any (is_at ns name) links

@@ -1,11 +1,10 @@
 -- The opening.
-use Rattle.std.specs.Prelude.{ℕ, ◌||◌, Bool, List, [], length, codes, if◌then◌else◌, Result, Ok}
+use Rattle.std.specs.Prelude.{ℕ, ◌||◌, Bool, List, [], length, codes, if◌then◌else◌, Result, Ok, unwrap_or}
 use Rattle.std.specs.List.{list_any}
 use Rattle.std.specs.Str.{bytes_eq}
-use Rattle.serde_json.specs.Data.{Data, string}
-use Rattle.cni_json.specs.Fields.{object_field, member_or}
+use Rattle.serde_json.specs.Data.{Data, null, object, string}
+use Rattle.cni_json.specs.Fields.{member_at}
 use Rattle.cni_json.specs.Outcome.{◌>>=◌}
-use Rattle.cni_json.specs.declared.fields.Field.{Field}
 use Rattle.kernel_types.specs.Opening.{opening_with}
 use Rattle.kernel_types.specs.Terms.{is_host_ns}
 use Rattle.kernel_types.specs.declared.object.Host.{Host}
@@ -44,10 +43,12 @@ opening_members_at d = do
   links ← links_at names d
   Ok (opening_with names links)
 
--- an empty host where there is no opening
-abbrev pub opening_or_empty : Field Data → Result Host PodError
-opening_or_empty f = member_or (Ok (opening_with [] [])) (wrong (codes "opening")) opening_members_at f
+-- what an opening is read as: an object, or null, which is a host with nothing
+unfoldable pub opening_of : Data → Result Host PodError
+opening_of null = Ok (opening_with [] [])
+opening_of (object ms) = opening_members_at (object ms)
+opening_of d = wrong (codes "opening")
 
--- the opening; the host is empty where there is none
+-- the opening of a file; one that is absent is as null
 unfoldable pub opening_at : Data → Result Host PodError
-opening_at d = opening_or_empty (object_field (codes "opening") d)
+opening_at d = opening_of (unwrap_or (member_at (codes "opening") d) null)

@@ -2,7 +2,8 @@
 use Rattle.std.specs.Prelude.{ℕ, List, ◌++◌, codes, decimal, Bool, true, false, Result, Err}
 use Rattle.pod_file.specs.declared.error.PodError.{PodError}
 use Rattle.pod_file.specs.declared.error.PodError.TheVariants as refusal
-use Rattle.pod_file.specs.declared.place.CommandPlace.{CommandPlace}
+use Rattle.pod_file.specs.declared.place.Place.{Place}
+use Rattle.pod_file.specs.declared.place.Place.TheVariants.{InRound, InTasks}
 
 -- the refusal says that memory ran out
 abbrev pub is_out_of_memory : PodError → Bool
@@ -20,20 +21,22 @@ member_text path index = path ++ (codes "[" ++ (decimal index ++ codes "]"))
 unfoldable pub member_path : List ℕ → ℕ → List ℕ
 member_path path index = member_text path index
 
-abbrev pub command_text : CommandPlace → List ℕ
-command_text place = member_text (member_text (codes "rounds") place.round) place.command
+-- a command of a round, as `rounds[1][0]`, and one of a session's tasks, as `tasks[2]`
+abbrev pub command_text : Place → List ℕ
+command_text (InRound round command) = member_text (member_text (codes "rounds") round) command
+command_text (InTasks index) = member_text (codes "tasks") index
 
 -- a command
-unfoldable pub command_path : CommandPlace → List ℕ
+unfoldable pub command_path : Place → List ℕ
 command_path place = command_text place
 
-abbrev pub key_text : CommandPlace → List ℕ → List ℕ
+abbrev pub key_text : Place → List ℕ → List ℕ
 key_text place key = command_text place ++ (codes "." ++ key)
 
 -- a key of a command
-unfoldable pub key_path : CommandPlace → List ℕ → List ℕ
+unfoldable pub key_path : Place → List ℕ → List ℕ
 key_path place key = key_text place key
 
 -- the key of that command is wrong
-abbrev pub wrong_key : {A : Type 0} → CommandPlace → List ℕ → Result A PodError
+abbrev pub wrong_key : {A : Type 0} → Place → List ℕ → Result A PodError
 wrong_key place key = wrong (key_path place key)

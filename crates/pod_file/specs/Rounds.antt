@@ -10,10 +10,11 @@ use Rattle.pod_file.specs.Refusals.{wrong, member_path}
 use Rattle.pod_file.specs.declared.command.Command.{Command}
 use Rattle.pod_file.specs.declared.error.PodError.{PodError}
 use Rattle.pod_file.specs.declared.error.PodError.TheVariants as refusal
+use Rattle.pod_file.specs.declared.place.Place.TheVariants.{InRound}
 
 -- a command of that round at that place
 abbrev pub command_in : ℕ → ℕ → Data → Result Command PodError
-command_in round place d = command_at (record { round = round; command = place }) d
+command_in round place d = command_at (InRound round place) d
 
 -- a round is a list of commands
 abbrev pub round_at : ℕ → Data → Result (List Command) PodError

@@ -1,5 +1,5 @@
 -- What every pod file that is read keeps.
-use Rattle.std.specs.Prelude.{◌≡◌, ℕ, ◌+◌, ◌≤◌, List, [], length, IsTrue, IfSome, All, Some, is_some, slice_get}
+use Rattle.std.specs.Prelude.{◌≡◌, ℕ, ◌+◌, ◌≤◌, List, [], length, IsTrue, IfSome, All, Option, Some, is_some, slice_get}
 use Rattle.cni_json.specs.Fields.{has_32_bits}
 use Rattle.kernel_types.specs.Equal.{tag_eq}
 use Rattle.kernel_types.specs.Sound.{AllPassTest, IsSound}
@@ -27,10 +27,13 @@ pub record IsOpening (host : Host) : Type 0 where
 abbrev pub IsCallNumber : ℕ → Type 0
 IsCallNumber n = IsTrue (is_call_number n)
 
+abbrev pub IsStop : Option ℕ → Type 0
+IsStop stop = IfSome stop (λ n. IsTrue (has_32_bits n))
+
 -- a verb that needs a table has one, and the numbers of calls are in their bounds
 pub record IsWellFormedCommand (command : Command) : Type 0 where
   pub table : IsTrue (needs_table command.verb) → IsTrue (is_some command.table)
-  pub stop : IfSome command.stop (λ n. IsTrue (has_32_bits n))
+  pub stop : IsStop command.stop
   pub faults : All IsCallNumber command.faults
 
 -- a command that must stand alone is the only one

@@ -7,7 +7,7 @@ ghost use Rattle.pod_file.specs.Refusals as paths;
 ghost use Rattle.pod_file.specs.Refusals.{is_out_of_memory, member_path, command_path, key_path};
 ghost use Rattle.pod_file.specs.declared.error.PodError.TheVariants as refusal;
 
-use crate::place::CommandPlace;
+use crate::place::Place;
 use cni_addr::{NoMemory, Text};
 use cni_json::Refusal;
 use std::alloc::Global;
@@ -52,7 +52,7 @@ fn shape(path: Result<Text, NoMemory>) -> PodError
 }
 
 /// The refusal of the value at this place.
-pub(crate) fn wrong(alloc: Global, path: &str) -> PodError
+pub fn wrong(alloc: Global, path: &str) -> PodError
     ensures { TellsAs is_out_of_memory result (refusal.Shape path.now) }
 {
     shape(Text::of(alloc, path))
@@ -60,7 +60,7 @@ pub(crate) fn wrong(alloc: Global, path: &str) -> PodError
 
 /// The refusal of a member of the list at this place.
 #[tactic(auto, unfolding(crate::specs::Refusals::member_path))]
-pub(crate) fn wrong_member(alloc: Global, list: &str, index: usize) -> PodError
+pub fn wrong_member(alloc: Global, list: &str, index: usize) -> PodError
     ensures { TellsAs is_out_of_memory result (refusal.Shape (member_path list.now index)) }
 {
     shape(member_text(alloc, list, index))
@@ -68,7 +68,7 @@ pub(crate) fn wrong_member(alloc: Global, list: &str, index: usize) -> PodError
 
 /// The refusal of a command.
 #[tactic(auto, unfolding(crate::specs::Refusals::command_path))]
-pub(crate) fn wrong_command(alloc: Global, place: CommandPlace) -> PodError
+pub fn wrong_command(alloc: Global, place: Place) -> PodError
     ensures { TellsAs is_out_of_memory result (refusal.Shape (command_path place)) }
 {
     shape(command_text(alloc, place))
@@ -76,7 +76,7 @@ pub(crate) fn wrong_command(alloc: Global, place: CommandPlace) -> PodError
 
 /// The refusal of a command's key.
 #[tactic(auto, unfolding(crate::specs::Refusals::key_path))]
-pub(crate) fn wrong_key(alloc: Global, place: CommandPlace, key: &str) -> PodError
+pub fn wrong_key(alloc: Global, place: Place, key: &str) -> PodError
     ensures { TellsAs is_out_of_memory result (refusal.Shape (key_path place key.now)) }
 {
     shape(key_text(alloc, place, key))
@@ -88,14 +88,19 @@ fn member_text(alloc: Global, list: &str, index: usize) -> Result<Text, NoMemory
     Text::of(alloc, format!(in alloc; "{list}[{index}]")?.as_str())
 }
 
-fn command_text(alloc: Global, place: CommandPlace) -> Result<Text, NoMemory>
+fn command_text(alloc: Global, place: Place) -> Result<Text, NoMemory>
     ensures { IfOk result (λ text. text ≡ paths.command_text place) }
 {
-    let round = member_text(alloc, "rounds", place.round)?;
-    member_text(alloc, round.as_str(), place.command)
+    match place {
+        Place::InRound { round, command } => {
+            let round = member_text(alloc, "rounds", round)?;
+            member_text(alloc, round.as_str(), command)
+        }
+        Place::InTasks { index } => member_text(alloc, "tasks", index),
+    }
 }
 
-fn key_text(alloc: Global, place: CommandPlace, key: &str) -> Result<Text, NoMemory>
+fn key_text(alloc: Global, place: Place, key: &str) -> Result<Text, NoMemory>
     ensures { IfOk result (λ text. text ≡ paths.key_text place key.now) }
 {
     let text = command_text(alloc, place)?;

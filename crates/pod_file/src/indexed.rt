@@ -5,30 +5,30 @@ ghost use Rattle.std.specs.List.{list_any};
 ghost use Rattle.std.specs.Str.{bytes_eq};
 ghost use Rattle.kernel_types.specs.Terms.{is_at};
 
+use crate::name::Name;
 use cni_addr::{Duplicate, Items, NoMemory, Text};
 use kernel_types::Link;
 use std::alloc::Global;
-use std::collections::HashSet;
+use std::collections::BTreeSet;
 use std::marker::Model;
 
 /// Names in order.
 #[derive(Drop)]
 pub(crate) struct Names {
     in_order: Items<Text>,
-    keys: HashSet<Text>,
+    keys: BTreeSet<Name>,
 }
 
 impl Model for Names {
     ghost use Rattle.std.specs.Prelude.{List, ℕ};
-    ghost use Rattle.std.specs.HashSet.{contains};
-    ghost use Rattle.std.specs.Str.{bytes_eq};
-    ghost use Rattle.pod_file.specs.Indexed.{HasNames};
+    ghost use Rattle.std.specs.BTreeSet.{contains};
+    ghost use Rattle.pod_file.specs.Indexed.{HasNames, name_cmp};
 
     ghost Value = { List (List ℕ) };
 
     ghost view = { λ n. n.in_order };
 
-    ghost invariant = { λ n. HasNames (contains bytes_eq n.keys) n.in_order };
+    ghost invariant = { λ n. HasNames (contains name_cmp n.keys) n.in_order };
 }
 
 impl Names {
@@ -38,12 +38,12 @@ impl Names {
     {
         Names {
             in_order: Items::new(alloc),
-            keys: HashSet::new(alloc),
+            keys: BTreeSet::new(alloc),
         }
     }
 
     /// Whether the name is one of these.
-    pub(crate) fn contains(&self, name: &Text) -> bool
+    pub(crate) fn contains(&self, name: &Name) -> bool
         ensures { result ≡ list_any (bytes_eq name.now) self.now }
     {
         self.keys.contains(name)
@@ -57,7 +57,7 @@ impl Names {
             mut in_order,
             mut keys,
         } = self;
-        keys.insert(name.copy()?)?;
+        keys.insert(Name::of(name.copy()?))?;
         in_order.push(name)?;
         Ok(Names { in_order, keys })
     }
@@ -73,20 +73,20 @@ impl Names {
 #[derive(Drop)]
 pub(crate) struct PlacedLinks {
     in_order: Items<Link>,
-    places: HashSet<(Text, Text)>,
+    places: BTreeSet<(Name, Name)>,
 }
 
 impl Model for PlacedLinks {
     ghost use Rattle.std.specs.Prelude.{List};
-    ghost use Rattle.std.specs.HashSet.{contains};
+    ghost use Rattle.std.specs.BTreeSet.{contains};
     ghost use Rattle.kernel_types.specs.declared.object.Link.{Link};
-    ghost use Rattle.pod_file.specs.Indexed.{HasPlaces, place_eq};
+    ghost use Rattle.pod_file.specs.Indexed.{HasPlaces, link_place_cmp};
 
     ghost Value = { List Link };
 
     ghost view = { λ l. l.in_order };
 
-    ghost invariant = { λ l. HasPlaces (contains place_eq l.places) l.in_order };
+    ghost invariant = { λ l. HasPlaces (contains link_place_cmp l.places) l.in_order };
 }
 
 impl PlacedLinks {
@@ -96,12 +96,12 @@ impl PlacedLinks {
     {
         PlacedLinks {
             in_order: Items::new(alloc),
-            places: HashSet::new(alloc),
+            places: BTreeSet::new(alloc),
         }
     }
 
     /// Whether a link stands at this place, a namespace and a name.
-    pub(crate) fn has_at(&self, place: &(Text, Text)) -> bool
+    pub(crate) fn has_at(&self, place: &(Name, Name)) -> bool
         ensures { result ≡ list_any (is_at place.now.0 place.now.1) self.now }
     {
         self.places.contains(place)
@@ -115,7 +115,7 @@ impl PlacedLinks {
             mut in_order,
             mut places,
         } = self;
-        places.insert((link.ns.copy()?, link.name.copy()?))?;
+        places.insert((Name::of(link.ns.copy()?), Name::of(link.name.copy()?)))?;
         in_order.push(link)?;
         Ok(PlacedLinks { in_order, places })
     }

@@ -11,21 +11,37 @@ ghost use Rattle.pod_file.specs.declared.error.PodError.TheVariants as refusal;
 use crate::error::{PodError, wrong, wrong_member};
 use crate::indexed::Names;
 use crate::links::links;
+use crate::name::Name;
 use cni_addr::{Items, Text};
-use cni_json::{Field, Value, field_list, field_object};
+use cni_json::{Field, Value, field_list, member};
 use kernel_types::terms::is_host_ns;
 use kernel_types::{Host, opening_with};
 use std::alloc::Global;
 
-/// The opening, an empty host where there is none.
+/// The host that an opening is: an object whose lists `namespaces` and `links` may each be absent, or null, which is a
+/// host with nothing. A value of another kind is wrong by the path `opening`, a list of another kind by its own, as
+/// `opening.links`. A member is wrong by its place, as `opening.links[2]`: a namespace whose name is empty or was there
+/// before, and a link that is no object of its form, that is in no namespace of these and not in the host's own, or
+/// whose name was there before.
+#[tactic(auto, using(cni_json::proofs::Steps::steps), unfolding(crate::specs::Opening::opening_of))]
+pub fn read_opening(alloc: Global, value: &Value) -> Result<Host, PodError>
+    ensures { Gives is_out_of_memory result (defined.opening_of (view value.now)) }
+{
+    match value {
+        Value::Null => Ok(opening_with(alloc, &[], Items::new(alloc))?),
+        Value::Object(_) => opening_members(alloc, value),
+        _ => Err(wrong(alloc, "opening")),
+    }
+}
+
+/// The opening of a file.
 #[tactic(auto, using(cni_json::proofs::Steps::steps), unfolding(crate::specs::Opening::opening_at))]
 pub(crate) fn opening(alloc: Global, top: &Value) -> Result<Host, PodError>
     ensures { Gives is_out_of_memory result (defined.opening_at (view top.now)) }
 {
-    match field_object(top, "opening") {
-        Field::Absent => Ok(opening_with(alloc, &[], Items::new(alloc))?),
-        Field::WrongKind => Err(wrong(alloc, "opening")),
-        Field::Here(members) => opening_members(alloc, members),
+    match member(top, "opening") {
+        Some(value) => read_opening(alloc, value),
+        None => read_opening(alloc, &Value::Null),
     }
 }
 
@@ -87,16 +103,16 @@ fn name_or_refused(
 ) -> Result<Text, PodError>
     ensures { Gives is_out_of_memory result (defined.name_or_refused before.now index name.now) }
 {
-    let name = Text::of(alloc, name)?;
+    let name = Name::of(Text::of(alloc, name)?);
     if is_refused_name(before, &name) {
         Err(wrong_namespace(alloc, index))
     } else {
-        Ok(name)
+        Ok(name.into_text())
     }
 }
 
 /// Whether the name is the host's, or one that another namespace has.
-fn is_refused_name(before: &Names, name: &Text) -> bool
+fn is_refused_name(before: &Names, name: &Name) -> bool
     ensures { result ≡ defined.is_refused_name before.now name.now }
 {
     is_host_ns(name.as_str()) || before.contains(name)

@@ -1,8 +1,10 @@
 //! Where a command stands in its file.
 
-/// A command's round, and its place in the round, both from 0.
+/// Where a command stands in its file, by numbers from 0.
 #[derive(Clone, Copy)]
-pub(crate) struct CommandPlace {
-    pub round: usize,
-    pub command: usize,
+pub enum Place {
+    /// In a round of a pod file.
+    InRound { round: usize, command: usize },
+    /// Among the tasks of a session file.
+    InTasks { index: usize },
 }

@@ -10,7 +10,7 @@ ghost use Rattle.pod_file.specs.Rounds as defined;
 use crate::command::Command;
 use crate::commands::read_command;
 use crate::error::{PodError, wrong, wrong_member};
-use crate::place::CommandPlace;
+use crate::place::Place;
 use cni_addr::Items;
 use cni_json::{Field, Value, field_list, read_each_placed};
 use std::alloc::Global;
@@ -50,7 +50,7 @@ fn round(alloc: Global, index: usize, member: &Value) -> Result<Items<Command>, 
 fn command(alloc: Global, round: usize, index: usize, member: &Value) -> Result<Command, PodError>
     ensures { Gives is_out_of_memory result (defined.command_in round index (view member.now)) }
 {
-    let place = CommandPlace {
+    let place = Place::InRound {
         round,
         command: index,
     };

@@ -1,8 +1,8 @@
 -- What the task of a command stands for, whichever crate's run carries it. It serves proofs of private functions.
-use Rattle.std.specs.Prelude.{◌≡◌, ℕ, ◌==◌, Bool, true, List, is_some}
-use Rattle.std.specs.List.{list_any}
+use Rattle.std.specs.Prelude.{◌≡◌, ℕ, true, List, is_some}
 use Rattle.cni_verbs.specs.Progress.{RunView, is_gc}
 use Rattle.net_conf.specs.declared.list.NetList.{NetList}
+use Rattle.pod_file.specs.Faults.{are_after}
 use Rattle.pod_file.specs.declared.command.Command.{Command}
 use Rattle.pod_workers.specs.Plans.{list_in}
 use Rattle.pod_workers.specs.World.{is_faulty}
@@ -17,10 +17,6 @@ view_of (Collection run) = record { progress = run; prepared = true }
 -- a GC has the list of its network
 abbrev pub IsListed : List NetList → Command → Type 0
 IsListed lists c = is_gc c.verb ≡ true → is_some (list_in lists c) ≡ true
-
--- one of these numbers is that of the calls made
-abbrev pub are_after : ℕ → List ℕ → Bool
-are_after made before = list_any (λ n. made == n) before
 
 -- the numbers say how many calls stand before each fault of the command
 abbrev pub AreFaultsOf : List ℕ → Command → Type 0

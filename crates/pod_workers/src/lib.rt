@@ -18,7 +18,6 @@
 #![tactic(auto)]
 
 pub mod book;
-mod faults;
 mod index;
 mod join;
 pub mod laws;

@@ -9,14 +9,13 @@ ghost use Rattle.kernel_types.specs.Replies.{holds_text_or_list, is_fault};
 ghost use Rattle.pod_workers.specs.Tasks.{AreFaultsOf, view_of};
 ghost use Rattle.pod_workers.specs.World.{is_faulty};
 
-use crate::faults::Faults;
 use cni_addr::{NoMemory, RefCounted};
 use cni_errors::Answer;
 use cni_verbs::Run;
 use gc_sweep::GcRun;
 use kernel_types::{Call, Reply};
 use net_conf::NetList;
-use pod_file::{Command, Verb};
+use pod_file::{Command, Faults, Verb};
 use std::alloc::Global;
 use std::marker::Model;
 

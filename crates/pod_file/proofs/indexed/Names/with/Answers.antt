@@ -1,15 +1,16 @@
-use Rattle.std.proofs.Common.{◌≡◌, ℕ, List, true, cond, ap, sym, subst, ◌∙◌}
-use Rattle.std.specs.HashSet.{contains}
-use Rattle.std.specs.Str.{bytes_eq}
-use Rattle.pod_file.proofs.IndexFacts.{names-more}
-use Rattle.pod_file.specs.Indexed.{HasNames}
+use Rattle.std.proofs.Common.{◌≡◌, true, cond, ap, sym, subst, ◌∙◌}
+use Rattle.std.specs.BTreeSet.{contains}
+use Rattle.std.specs.Ordering.{is_eq}
+use Rattle.pod_file.proofs.IndexFacts.{HasOneMore, names-more}
+use Rattle.pod_file.specs.Indexed.{HasNames, name_cmp}
 use Rattle.pod_file.proofs.indexed.Names.with.Goals as goal
 
 pub invariant_of-result : goal.invariant_of-result
 invariant_of-result c =
-    let before = contains bytes_eq c.self.inside.keys in
-    let after = contains bytes_eq c.insert.new.self in
-    let grown : (q : List ℕ) → after q ≡ cond (bytes_eq c.args.name q) true (before q) =
-    λ q. c.in_ok-insert.ensures.updates.0 q ∙ ap (λ key. cond (bytes_eq key q) true (before q)) c.in_ok-copy.ensures in
+    let before = contains name_cmp c.self.inside.keys in
+    let after = contains name_cmp c.insert.new.self in
+    let grown : HasOneMore name_cmp before after c.args.name =
+    λ q. c.in_ok-insert.ensures.updates.0 q
+    ∙ ap (λ key. cond (is_eq (name_cmp key q)) true (before q)) (c.of.ensures ∙ c.in_ok-copy.ensures) in
     subst (HasNames after) (sym c.in_ok-push.ensures.ok)
     (names-more before after c.self.inside.in_order c.args.name c.self.invariant grown)

@@ -1,0 +1,7 @@
+-- Faults as a task looks them up.
+use Rattle.std.specs.Prelude.{ℕ, ◌==◌, Bool, List}
+use Rattle.std.specs.List.{list_any}
+
+-- one of these numbers is that of the calls made
+abbrev pub are_after : ℕ → List ℕ → Bool
+are_after made before = list_any (λ n. made == n) before
