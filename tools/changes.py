@@ -11,20 +11,12 @@ import itertools
 import json
 import pathlib
 import signal
-import subprocess
 import sys
 import tempfile
 
-# the statuses after which there is a trace
-CARRIED_OUT = (0, 1, 8)
+sys.dont_write_bytecode = True
 
-
-def run(words):
-    return subprocess.run(words, stdout=subprocess.PIPE, encoding="utf-8", check=False)
-
-
-def lines_with(key, text):
-    return [line for line in text.splitlines() if key in json.loads(line)]
+from runs import CARRIED_OUT, lines_with, run
 
 
 def dump_after(call, rounds, pods, program, lists):

@@ -4,9 +4,10 @@
     ./cnitool --dump PODS LIST .. | tools/diagram.py >PICTURE.svg
 
 Each namespace is a box, the host's the lowest. A line joins the two ends of a veth pair, a port and its bridge, or a
-macvlan link and its master; an arrow is a published port, one a family. What an attachment owns has one colour, and is
-dashed where the attachment has no cached result. Hardware addresses, queue lengths and the last leased addresses aren't
-drawn.
+macvlan link and its master; an arrow is a published port, one a family; a rule is written as for iptables. What an
+attachment owns has its colour, and is dashed where the attachment has no cached result; what all share is black. There
+are six colours, which begin anew with the seventh attachment. Hardware addresses, queue lengths and the last leased
+addresses aren't drawn.
 """
 
 import dataclasses
@@ -27,6 +28,7 @@ ABOVE_HOST = 40
 BELOW_PORTS = 28
 HEAD_HEIGHT = 28
 USUAL_MTU = 1500
+TITLE = "The objects of a host that runs containers"
 SVG = (
     '<svg xmlns="http://www.w3.org/2000/svg" width="{0}" height="{1}" viewBox="0 0 {0} {1}" '
     'font-family="DejaVu Sans Mono, Menlo, Consolas, monospace" font-size="12">'
@@ -124,17 +126,29 @@ class Dump:
         return Column(self.box_of(link), self.box_of(end), end.get("master"))
 
     def settings_of(self, place):
-        return [f"{it['key']} = {it['value']}" for it in self.of("setting", ns=place)]
+        """The settings of a namespace, each with its owner."""
+        return [(f"{it['key']} = {it['value']}", it["tag"]) for it in self.of("setting", ns=place)]
+
+
+def is_ipv6(rule):
+    return any(":" in rule.get(it, "").removeprefix("DNAT").rpartition(":")[0] for it in ("src", "dst", "target"))
 
 
 def match_of(rule):
-    """What a rule matches, in the terms of iptables."""
+    """What a rule matches, as iptables takes it."""
     words = [f"-p {rule['protocol']}"] if "protocol" in rule else []
     words += [f"-s {rule['src']}"] if "src" in rule else []
     words += [("! " if "not_dst" in rule else "") + f"-d {rule['dst']}"] if "dst" in rule else []
     words += [f"--dport {rule['dport']}"] if "dport" in rule else []
-    words += ["--ctstate ESTABLISHED"] if "established" in rule else []
+    words += ["-m conntrack --ctstate RELATED,ESTABLISHED"] if "established" in rule else []
     return " ".join(words)
+
+
+def command_of(rule):
+    """A rule as the command that appends it, in three parts."""
+    command = "ip6tables" if is_ipv6(rule) else "iptables"
+    target = rule["target"].replace("DNAT ", "DNAT --to-destination ")
+    return [f"{command} -t {rule['table']} -A {rule['chain']}", match_of(rule), f"-j {target}"]
 
 
 def port_of(rule):
@@ -143,7 +157,7 @@ def port_of(rule):
         return ""
     port = f"{rule['dport']}/{rule['protocol']}"
     if "dst" not in rule:
-        return port
+        return f"{port} (IPv6)" if is_ipv6(rule) else port
     address = rule["dst"].split("/")[0]
     return f"[{address}]:{port}" if ":" in address else f"{address}:{port}"
 
@@ -151,11 +165,11 @@ def port_of(rule):
 def rows_of(dump):
     """What the host's box tells in words: an owner, the port that is published, and the cells, a row each."""
     for it in dump.of("rule"):
-        yield it["tag"], port_of(it), [f"{it['table']} {it['chain']}", match_of(it), it["target"]]
+        yield it["tag"], port_of(it), command_of(it)
     for it in dump.of("lease"):
         yield it["tag"], "", [f"lease of {it['network']}", it["address"]]
-    for it in dump.settings_of(""):
-        yield "", "", ["setting", it]
+    for said, owner in dump.settings_of(""):
+        yield owner, "", ["setting", said]
 
 
 def place_namespaces(dump, left):
@@ -164,7 +178,8 @@ def place_namespaces(dump, left):
     top = GAP + HEAD_HEIGHT + LINE_HEIGHT * max((len(dump.settings_of(it)) for it in names), default=0)
     placed = []
     for name in names:
-        box = Box("", [name, *dump.settings_of(name)], left, GAP)
+        # behind a setting is a dot of its owner's colour
+        box = Box("", [name, *(f"{said}   " for said, _ in dump.settings_of(name))], left, GAP)
         columns = [dump.column_of(it) for it in dump.of("link", ns=name)]
         x = left + PAD
         for column in columns:
@@ -229,8 +244,10 @@ class Picture:
     def link(self, box):
         self.box(box, "#ffffff", self.stroke(box.owner))
 
-    def namespace(self, box):
+    def namespace(self, box, settings=()):
         self.box(box, GROUND, f'stroke="{FAINT}"')
+        for place, (said, owner) in enumerate(settings, 1):
+            self.dot(box.x + PAD + width_of(said + " ") + 4, box.y + PAD + 6 + place * LINE_HEIGHT, owner)
 
     def line(self, x, y, to, owner):
         self.drawn.append(f'<path d="M{x} {y}V{to}" {self.stroke(owner)}/>')
@@ -239,15 +256,15 @@ class Picture:
         fill = "#ffffff" if owner in self.dump.left_over else self.colour(owner)
         self.drawn.append(f'<circle cx="{x}" cy="{y}" r="4" fill="{fill}" stroke="{self.colour(owner)}"/>')
 
-    def arrow(self, x, y, to):
-        self.drawn.append(f'<path d="M{x} {y}H{to}m-6 -4l6 4l-6 4" fill="none" stroke="{PLAIN}" stroke-width="1.5"/>')
+    def arrow(self, x, y, to, owner):
+        self.drawn.append(f'<path d="M{x} {y}H{to}m-6 -4l6 4l-6 4" fill="none" {self.stroke(owner)}/>')
 
     def row(self, place, y, row, widths):
         """A line of the host's box, with an arrow from outside where it publishes a port."""
         owner, port, cells = row
         if port:
             self.text(GAP, y + 4, port)
-            self.arrow(GAP + width_of(port) + PAD, y, place)
+            self.arrow(GAP + width_of(port) + PAD, y, place, owner)
         self.dot(place + PAD + 4, y, owner)
         x = place + 2 * PAD + 4
         for cell, width in zip(cells, widths):
@@ -267,7 +284,8 @@ class Picture:
 
     def svg(self, width, height):
         paper = f'<rect width="{width}" height="{height}" fill="#ffffff"/>'
-        return "\n".join([SVG.format(width, height), paper, *self.drawn, "</svg>", ""])
+        title = f"<title>{TITLE}</title>"
+        return "\n".join([SVG.format(width, height), title, paper, *self.drawn, "</svg>", ""])
 
 
 @dataclasses.dataclass
@@ -309,7 +327,7 @@ def scene_of(dump):
 def draw(dump):
     scene, picture = scene_of(dump), Picture(dump)
     for box, _ in scene.namespaces:
-        picture.namespace(box)
+        picture.namespace(box, dump.settings_of(box.lines[0]))
     picture.namespace(scene.host)
     for column in scene.columns:
         end = scene.shared.get(column.master, column.outer)

@@ -1,23 +1,24 @@
-#!/usr/bin/env python3
-"""Lists the keys of network lists and pod files that no page of docs/ names where they stand: the program ignores them.
-
-    tools/keys.py FILE ..
-
-Prints a line for each, with the nearest name of its page, and one for a file that can't be read. Ends with 1 where it
-printed any.
-"""
+"""The keys of network lists and pod files that no page of docs/ names where they stand: the program ignores them."""
 
 import difflib
-import json
 import pathlib
 import re
-import sys
+
+from places import members
 
 DOCS = pathlib.Path(__file__).resolve().parent.parent / "docs"
 NAME = re.compile(r"`([a-z]\w*)`")
 # a row of a table that begins with keys, and an item of a list that begins with one
 ROW = re.compile(r"^\| ((?:`\w+`(?:, )?)+) \|(.*)", re.MULTILINE)
 ITEM = re.compile(r"^- (`\w+`)(.*\n(?:  .*\n)*)", re.MULTILINE)
+# what tells a list, or a plugin alone, from a pod file
+LIST_KEYS = {"cniVersion", "name", "plugins", "type"}
+# keys that CNI, its runtimes and the reference plugins know, and that have no effect here
+KNOWN = {
+    *("args", "capabilities", "runtimeConfig", "prevResult", "cniVersion", "name"),
+    *("dataDir", "loadOnlyInlinedPlugins", "ips", "mac", "bandwidth", "aliases", "deviceID"),
+}
+PREFIX_OF_RUNTIMES = "cni.dev/"
 
 
 def section(page, head):
@@ -66,59 +67,39 @@ def plugin_keys(name):
     return {**keys, "type": {}, **{key: inside[key] for key in inside if key in keys}}
 
 
-def unnamed(value, keys, place=""):
-    """The places whose key isn't among these, each with the nearest of them. Where there are no keys all are taken."""
-    if isinstance(value, list):
-        for number, each in enumerate(value):
-            yield from unnamed(each, keys, f"{place}[{number}]")
-    elif isinstance(value, dict) and keys is not None:
-        for key, inside in value.items():
-            there = f"{place}.{key}" if place else key
-            if key in keys:
-                yield from unnamed(inside, keys[key], there)
-            else:
-                yield there, (difflib.get_close_matches(key, keys, 1) or [it for it in keys if it in key])[:1]
+def unnamed(value, keys, place=()):
+    """The places whose key isn't among these, each with these keys. Where there are no keys all are taken."""
+    for key, inside in members(value) if keys is not None else []:
+        there = (*place, key)
+        if isinstance(value, list):
+            yield from unnamed(inside, keys, there)
+        elif key in keys:
+            yield from unnamed(inside, keys[key], there)
+        else:
+            yield there, keys
+
+
+def is_pod_file(value):
+    return isinstance(value, dict) and ("rounds" in value or not value.keys() & LIST_KEYS)
 
 
 def unnamed_in(value):
     """The places of a list or a pod file, which may be of any form, as those that the program refuses are."""
-    if not isinstance(value, dict):
-        return
-    if "rounds" in value or not value.keys() & {"cniVersion", "name", "plugins"}:
+    if is_pod_file(value):
         yield from unnamed(value, pod_keys())
-        return
-    yield from unnamed(value, {**keys_of(section("FORMATS.md", "Network lists")), "plugins": None})
-    plugins = value.get("plugins")
-    for number, plugin in enumerate(plugins if isinstance(plugins, list) else []):
-        name = plugin.get("type") if isinstance(plugin, dict) else None
-        yield from unnamed(plugin, plugin_keys(name), f"plugins[{number}]")
+    elif isinstance(value, dict):
+        plugins = value.get("plugins")
+        yield from unnamed(value, {**keys_of(section("FORMATS.md", "Network lists")), "plugins": None})
+        for number, plugin in enumerate(plugins if isinstance(plugins, list) else []):
+            name = plugin.get("type") if isinstance(plugin, dict) else None
+            yield from unnamed(plugin, plugin_keys(name if isinstance(name, str) else None), ("plugins", number))
 
 
-def refuse(constant):
-    raise ValueError(f"{constant} is no JSON")
+def is_known(key):
+    """Whether CNI knows a key that is ignored here."""
+    return key in KNOWN or key.startswith(PREFIX_OF_RUNTIMES)
 
 
-def lines_of(file):
-    try:
-        value = json.loads(pathlib.Path(file).read_text(encoding="utf-8"), parse_constant=refuse)
-    except UnicodeDecodeError as error:
-        *before, last = error.object[: error.start].split(b"\n")
-        yield f"no UTF-8: line {len(before) + 1} column {len(last) + 1}"
-        return
-    except (OSError, ValueError) as error:
-        yield str(error)
-        return
-    for place, near in unnamed_in(value):
-        yield f"{place} is ignored" + "".join(f"; the nearest name is {it}" for it in near)
-
-
-def main():
-    if len(sys.argv) < 2:
-        sys.exit(__doc__)
-    lines = [f"{file}: {it}" for file in sys.argv[1:] for it in lines_of(file)]
-    print("".join(f"{it}\n" for it in lines), end="")
-    return 1 if lines else 0
-
-
-if __name__ == "__main__":
-    sys.exit(main())
+def nearest(key, keys):
+    """The name that was meant, where one of these is near."""
+    return next(iter(difflib.get_close_matches(key, keys, 1) or [it for it in keys if it in key]), None)

@@ -9,6 +9,7 @@ The script notes its words, and a file `refuse` makes it fail. The program that 
 import contextlib
 import os
 import pathlib
+import re
 import shutil
 import subprocess
 import sys
@@ -33,6 +34,8 @@ case $1 in
 esac
 """
 NOT_RUN = 70
+# what the program prints for wrong words
+USAGE = '{"error":"usage"}\n'
 LOG = "out/build.log"
 
 
@@ -41,9 +44,9 @@ def a_checkout():
     """A folder with the commands, a source, and a stand-in for `rt`."""
     with tempfile.TemporaryDirectory() as name:
         top = pathlib.Path(name)
-        for folder in ("tests", "bin", "crates/cnitool/src"):
+        for folder in ("tests", "tools", "bin", "crates/cnitool/src"):
             (top / folder).mkdir(parents=True)
-        for file in ("cnitool", "try", "README.md", "tests/built.txt"):
+        for file in ("cnitool", "try", "tools/usage.sh", "tools/usage.txt", "tests/built.txt"):
             shutil.copy(TOP / file, top / file)
         for file, text in (("program", PROGRAM), ("bin/rt", RT)):
             (top / file).write_text(text, encoding="utf-8")
@@ -107,11 +110,26 @@ def words():
         ended, calls = run(top, "bin/link", "a")
         if (ended.stdout, ended.returncode, calls) != ("ran a\n", 3, []):
             yield f"by a link: {ended}"
-        usage = (top / "README.md").read_text(encoding="utf-8").split("## Words and statuses\n")[1].split("## ")[0]
-        for word in "", "-h", "--help":
-            ended, _ = run(top, "./cnitool", *word.split())
-            if (ended.stdout, ended.stderr, ended.returncode) != (f"ran {word}\n", usage, 3):
-                yield f"usage with {word!r}: {ended}"
+
+
+def answers():
+    """What is answered with nothing built."""
+    usage = (TOP / "tools/usage.txt").read_text(encoding="utf-8")
+    with a_checkout() as top:
+        for command in "./cnitool", "./try":
+            told = usage.replace("COMMAND", command)
+            due = {(): (USAGE, told, 2), ("-h",): (told, "", 0), ("--help", "a"): (told, "", 0)}
+            for given, (stdout, stderr, status) in due.items():
+                ended, calls = run(top, command, *given)
+                if (ended.stdout, ended.stderr, ended.returncode, calls) != (stdout, stderr, status, []):
+                    yield f"{command} with {given}: {ended}"
+            ended, calls = run(top, command, "--version")
+            if not ended.stdout.startswith("dalecanvas ") or ended.returncode != 0 or calls != ["version"]:
+                yield f"{command} --version: {ended}"
+    readme = (TOP / "README.md").read_text(encoding="utf-8")
+    options = re.findall(r"^\| `(--[a-z-]+(?: N)?)`", readme, re.MULTILINE)
+    if [it for it in options if f"\n  {it} " not in usage]:
+        yield f"the usage lacks one of {options}"
 
 
 def tries():
@@ -126,7 +144,7 @@ def tries():
 
 
 def main():
-    failed = count_failed((it.__name__, list(it())) for it in (builds, refusals, words, tries))
+    failed = count_failed((it.__name__, list(it())) for it in (builds, refusals, words, answers, tries))
     print(f"commands: {failed} wrong")
     return 1 if failed else 0
 

@@ -3,15 +3,15 @@
 
     scripts.py [PROGRAM]
 
-- ignored: keys that no page names are listed, by their places, and no other; files of any form are read;
 - table:       objects of one kind, in columns;
+- show:        each way in which a command ends, and a file that is refused;
+- crashes:     with each call no less is left, and at the last what the dump has;
 - changes:     what the calls of a run changed, one after another, leads from the opening to the last dump;
 - pictures:    each is XML, the same twice, and says each name and address; frames are within one another or apart;
 - completion:  the options of README's table.
 """
 
 import collections
-import contextlib
 import itertools
 import json
 import os
@@ -28,61 +28,26 @@ sys.path.insert(0, str(pathlib.Path(__file__).resolve().parent.parent / "rows"))
 sys.path.insert(0, str(pathlib.Path(__file__).resolve().parent.parent.parent / "tools"))
 
 import diagram
-import keys
-from program import TOP, compact, count_failed, in_folder, lines_of, program_of, read_json, run
+from program import (
+    FAILURE,
+    REFUSED,
+    TOP,
+    bridge,
+    compact,
+    count_failed,
+    in_folder,
+    lines_of,
+    network_list,
+    program_of,
+    read_json,
+    run,
+)
 from run import content_of
 
 TOOLS = TOP / "tools"
 # how many rows are run call by call
 MOST_RUNS = 4
 SVG = "{http://www.w3.org/2000/svg}"
-PODS = {
-    "opening": {"ns": ["/ns/a"], "links": [{"name": "eth1", "kind": "device", "mut": 1, "netns": "/ns/a"}]},
-    "rounds": [
-        [{"verb": "GC", "network": "pods", "vaild": [{"containerID": "c1", "ifname": "eth0"}]}],
-        [{"verb": "ADD", "portMappings": [{"hostport": 1}], "valid": None}],
-    ],
-}
-LIST = {
-    "name": "pods",
-    "runtimeConfig": {},
-    "plugins": [
-        {"type": "bridge", "isgateway": True, "subnet": "10.0.0.0/8", "dns": {"nameserver": []}},
-        {"type": "ptp", "ipam": {"type": "host-local", "ranges": [[{"rangestart": "", "resolvConf": ""}]], "routes": [{"mtu": 5}]}},
-        {"type": "tuning", "sysctl": {"net.core.somaxconn": "1"}, "txqlen": 1, "dns": {}},
-        {"type": "portmap", "capabilities": {"portMappings": True}, "conditionsV4": []},
-        {"type": "loopback", "any": 1},
-        {"typ": "macvlan", "master": "eth1"},
-    ],
-}
-# files that can't be read, or whose main key is misspelt
-OTHERS = {
-    "bad.json": b'{"rounds":[],\n}',
-    "nan.json": b'{"rounds":NaN}',
-    "latin.json": b'{"rounds":[],\n"\xe4":1}',
-    "plugin.json": {"cniVersion": "1.1.0", "name": "pods", "plugin": [{"type": "bridge"}]},
-}
-IGNORED = """\
-pods.json: opening.ns is ignored
-pods.json: opening.links[0].mut is ignored; the nearest name is mtu
-pods.json: opening.links[0].netns is ignored; the nearest name is ns
-pods.json: rounds[0][0].vaild is ignored; the nearest name is valid
-pods.json: rounds[1][0].portMappings[0].hostport is ignored; the nearest name is hostPort
-net.json: runtimeConfig is ignored
-net.json: plugins[0].isgateway is ignored; the nearest name is isGateway
-net.json: plugins[0].subnet is ignored
-net.json: plugins[0].dns.nameserver is ignored; the nearest name is nameservers
-net.json: plugins[1].ipam.ranges[0][0].rangestart is ignored; the nearest name is rangeStart
-net.json: plugins[1].ipam.ranges[0][0].resolvConf is ignored
-net.json: plugins[1].ipam.routes[0].mtu is ignored
-net.json: plugins[2].txqlen is ignored; the nearest name is txQLen
-net.json: plugins[2].dns is ignored
-net.json: plugins[5].typ is ignored; the nearest name is type
-bad.json: Expecting property name enclosed in double quotes: line 2 column 1 (char 14)
-nan.json: NaN is no JSON
-latin.json: no UTF-8: line 2 column 2
-plugin.json: plugin is ignored; the nearest name is plugins
-"""
 DUMP = """\
 {"n":1,"ok":true,"verb":"GC"}
 {"kind":"namespace","name":"/ns/a","tag":"outside"}
@@ -96,24 +61,29 @@ eth0  /ns/a  {"name":"v","ns":""}
 """
 
 
+C1 = {"network": "pods", "container": "c1"}
+# a command for each way to end, and the line that tells of it
+ENDS = [
+    ({"verb": "ADD", **C1, "netns": "/ns/a"}, "1   ADD      pods/c1/eth0  6      10.88.0.2/16"),
+    ({"verb": "ADD", **C1, "netns": "/ns/a"}, "2   ADD      pods/c1/eth0  1      101 name taken pods/c1/eth0"),
+    ({"verb": "CHECK", **C1, "ifname": "e"}, "3   CHECK    pods/c1/e     1      3 container unknown pods/c1/e"),
+    ({"verb": "VERSION", "network": "pods"}, "4   VERSION  pods          0      1.1.0"),
+    ({"verb": "GC", "network": "off"}, "5   GC       off           0      skipped by disableGC"),
+    ({"verb": "DEL", **C1, "stop": 2}, "6   DEL      pods/c1/eth0  2      stopped after 2 calls"),
+    ({"verb": "NSADD", "netns": "/ns/b"}, "7   NSADD    /ns/b         1      ok"),
+    ({"verb": "DROP", "netns": "/ns/a", "ifname": "e"}, "8   DROP     /ns/a/e       1      105 nothing there e"),
+    ({"verb": "FLUSH", "table": "nat"}, "9   FLUSH    nat           1      ok"),
+    ({"verb": "ADD", **C1, "network": "off", "netns": "/ns/b"}, "10  ADD      off/c1/eth0   4      no address"),
+]
+SHOWN_LISTS = {
+    "net.json": network_list("pods", bridge(subnet="10.88.0.0/16")),
+    "off.json": {**network_list("off", {"type": "bridge"}), "disableGC": True},
+}
+
+
 def output_of(tool, words, given=""):
     ended = subprocess.run([TOOLS / tool, *words], input=given, capture_output=True, encoding="utf-8", check=False)
     return ended.stdout, ended.returncode
-
-
-def ignored(_):
-    files = {"pods.json": PODS, "net.json": LIST, **OTHERS}
-    with in_folder(files) as folder:
-        ended = run(TOOLS / "keys.py", [*files], folder)
-    if (ended.stdout.decode("utf-8"), ended.returncode) != (IGNORED, 1):
-        yield f"status {ended.returncode}: {ended.stdout.decode('utf-8')}"
-    good = [str(it) for it in (TOP / "examples").rglob("*.json") if it.name != "misspelt.json"]
-    if output_of("keys.py", good) != ("", 0):
-        yield f"the examples: {output_of('keys.py', good)}"
-    for name in ("network_lists", "pod_files"):
-        for row in read_json(TOP / f"tests/readers/{name}.json"):
-            with contextlib.suppress(ValueError):
-                list(keys.unnamed_in(json.loads(row["input"])))
 
 
 def table(_):
@@ -135,6 +105,33 @@ def runs():
 def dump_of(program, files, folder):
     lines = lines_of(run(program, ["--dump", *files], folder).stdout)
     return [line for line in lines if "kind" in json.loads(line)]
+
+
+def show(program):
+    pods = {"opening": {"namespaces": ["/ns/a"]}, "rounds": [[it] for it, _ in ENDS]}
+    with in_folder({"pods.json": pods, **SHOWN_LISTS}) as folder:
+        ended = run(TOOLS / "show.py", [program, "pods.json", *SHOWN_LISTS], folder)
+        if lines_of(ended.stdout)[1:] != [line for _, line in ENDS] or ended.returncode != FAILURE:
+            yield f"status {ended.returncode}: {lines_of(ended.stdout)}"
+        for tool in ("show.py", "crashes.py"):
+            ended = run(TOOLS / tool, [program, "net.json"], folder)
+            if ended.returncode != REFUSED or b"invalid pod file: rounds" not in ended.stdout:
+                yield f"{tool} of a file that is refused: {ended}"
+
+
+def crashes(program):
+    for name, files in itertools.islice(runs(), MOST_RUNS):
+        pods = {**files["pods.json"], "rounds": files["pods.json"]["rounds"][:1]}
+        if [it["verb"] for it in pods["rounds"][0]] != ["ADD"]:
+            continue
+        with in_folder({**files, "pods.json": pods}) as folder:
+            _, *rows = lines_of(run(TOOLS / "crashes.py", [program, *files], folder).stdout)
+            tags = [json.loads(it).get("tag", "") for it in dump_of(program, {**files, "pods.json": pods}, folder)]
+        left = [[int(cell) if cell.isdigit() else 0 for cell in row.split()[2:9]] for row in rows]
+        if any(one > two for before, after in itertools.pairwise(left) for one, two in zip(before, after)):
+            yield f"{name}: less is left with more calls: {rows}"
+        if sum(left[-1]) != sum("/" in it for it in tags):
+            yield f"{name}: {rows[-1]}, and the dump has {tags}"
 
 
 def status_unread(words, folder):
@@ -216,7 +213,8 @@ def completion(_):
 
 def main():
     program = program_of(sys.argv[1:])
-    failed = count_failed((it.__name__, list(it(program))) for it in (ignored, table, changes, pictures, completion))
+    tried = (table, show, crashes, changes, pictures, completion)
+    failed = count_failed((it.__name__, list(it(program))) for it in tried)
     print(f"tools: {failed} wrong")
     return 1 if failed else 0
 
