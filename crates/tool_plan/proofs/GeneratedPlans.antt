@@ -16,7 +16,7 @@ use Rattle.pod_file.specs.declared.command.Command.{Command}
 use Rattle.pod_file.specs.declared.generator.Generated.{Generated}
 use Rattle.pod_workers.specs.Plans.{IsWellFormed, Placed, commands_of, has_list, in_round, lacks_list, placed_from}
 use Rattle.pod_workers.specs.declared.plan.Plan.{Plan}
-use Rattle.tool_run.specs.Verdict.{generated_plan}
+use Rattle.tool_plan.specs.Verdict.{generated_plan}
 
 -- what holds of all commands holds of them with their rounds
 placed : (P : Command → Bool) (round : ℕ) (rounds : List (List Command)) → list_all P (in_file_order rounds) ≡ true → list_all (λ (c : Placed). P c.command) (placed_from round rounds) ≡ true

@@ -12,7 +12,7 @@ use Rattle.pod_workers.specs.Join.{joined}
 use Rattle.pod_workers.specs.Laws.{JoinedPlansAreWellFormed}
 use Rattle.pod_workers.specs.Plans.{IsWellFormed}
 use Rattle.pod_workers.specs.declared.plan.Plan.{Plan}
-use Rattle.tool_run.specs.Causes.{IsReadList, IsReadPods}
+use Rattle.tool_plan.specs.Causes.{IsReadList, IsReadPods}
 
 abbrev pub ListLaw : Type 0
 ListLaw = (bytes : List ℕ) (list : NetList) → list_of bytes ≡ Ok list → IsWellFormedList list

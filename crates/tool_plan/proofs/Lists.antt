@@ -7,13 +7,13 @@ use Rattle.cni_json.specs.Outcome.{◌>>=◌}
 use Rattle.net_conf.specs.declared.list.NetList.{NetList}
 use Rattle.pod_file.specs.declared.pods.Pods.{Pods}
 use Rattle.pod_workers.specs.declared.plan.Plan.{Plan}
-use Rattle.tool_words.specs.declared.source.Source.TheVariants.{PodFile}
-use Rattle.tool_words.specs.declared.words.Words.{Words}
-use Rattle.tool_run.specs.Causes.{GivesStored, ReachesFile, ReachesList, WhereTold}
-use Rattle.tool_run.specs.Lines.{unread_line}
-use Rattle.tool_run.specs.Verdict.{Judged, stored_list, stored_lists, plan_of_files, stored_pods, judged_plan}
-use Rattle.tool_run.specs.declared.plan.NoPlan.{NoPlan}
-use Rattle.tool_run.specs.declared.plan.NoPlan.TheVariants.{Usage, Line, Unread, NoMemory}
+use Rattle.tool_words.specs.declared.source.Named.{Named}
+use Rattle.tool_words.specs.declared.source.Source.TheVariants.{Files}
+use Rattle.tool_plan.specs.Causes.{GivesStored, ReachesFile, ReachesList, WhereTold}
+use Rattle.tool_plan.specs.Lines.{unread_line}
+use Rattle.tool_plan.specs.Verdict.{Judged, stored_list, stored_lists, plan_of_files, stored_pods, judged_plan}
+use Rattle.tool_plan.specs.declared.plan.NoPlan.{NoPlan}
+use Rattle.tool_plan.specs.declared.plan.NoPlan.TheVariants.{Usage, Line, Unread, NoMemory}
 use Rattle.cni_io.proofs.Counts.{Rose-from_start}
 use Rattle.cni_verbs.proofs.Asked.{left_from}
 
@@ -95,47 +95,47 @@ lists-stop files later start before now names front i name NoMemory same up lt a
 -- ---- the plan
 
 -- the lists stop the plan, behind the pod file
-pub plan-stops : (files later : Option StoredFiles) (start before now : ℕ) (words : Words) (file : List ℕ) (pods : Pods) (none : NoPlan) → later ≡ files
-    → WhereTold files (λ stored. stored_pods stored file ≡ Ok pods) → start ≤ before
-    → GivesStored {X = List NetList} (λ lists. lists) later before now (ReachesList later words.lists) (λ stored. stored_lists stored words.lists) (Err none)
-    → GivesStored {X = Plan} (λ plan. plan) files start now (ReachesFile files (PodFile file) words.lists) (λ stored. plan_of_files stored words file) (Err none)
+pub plan-stops : (files later : Option StoredFiles) (start before now : ℕ) (named : Named) (pods : Pods) (none : NoPlan) → later ≡ files
+    → WhereTold files (λ stored. stored_pods stored named.pods ≡ Ok pods) → start ≤ before
+    → GivesStored {X = List NetList} (λ lists. lists) later before now (ReachesList later named.lists) (λ stored. stored_lists stored named.lists) (Err none)
+    → GivesStored {X = Plan} (λ plan. plan) files start now (ReachesFile files (Files named)) (λ stored. plan_of_files stored named) (Err none)
 unfolding plan_of_files
-plan-stops files later start before now words file pods Usage same first up gives = absurd gives
-plan-stops files later start before now words file pods (Line line) same first up gives = λ stored told.
-    ap (λ (t : Judged Pods). t >>= (λ (p : Pods). stored_lists stored words.lists >>= judged_plan words file p)) (first stored told)
-    ∙ ap (λ (t : Judged (List NetList)). t >>= judged_plan words file pods) (gives stored (same ∙ told))
-plan-stops files later start before now words file pods (Unread line) same first up gives = record {
+plan-stops files later start before now named pods Usage same first up gives = absurd gives
+plan-stops files later start before now named pods (Line line) same first up gives = λ stored told.
+    ap (λ (t : Judged Pods). t >>= (λ (p : Pods). stored_lists stored named.lists >>= judged_plan named p)) (first stored told)
+    ∙ ap (λ (t : Judged (List NetList)). t >>= judged_plan named pods) (gives stored (same ∙ told))
+plan-stops files later start before now named pods (Unread line) same first up gives = record {
   file = gives.file;
   reached = inr (
     λ stored told. subst (λ (r : Judged Pods). IsOk r) (sym (first stored told)) refl,
-    subst (λ (fs : Option StoredFiles). ReachesList fs words.lists gives.file) same gives.reached,
+    subst (λ (fs : Option StoredFiles). ReachesList fs named.lists gives.file) same gives.reached,
   );
   rose = Rose-from_start start before now up gives.rose;
   says = gives.says;
 }
-plan-stops files later start before now words file pods NoMemory same first up gives = tt
+plan-stops files later start before now named pods NoMemory same first up gives = tt
 
 -- the pod file stops the plan
-pub plan-stops_first : (files : Option StoredFiles) (start now : ℕ) (words : Words) (file : List ℕ) (none : NoPlan)
+pub plan-stops_first : (files : Option StoredFiles) (start now : ℕ) (named : Named) (file : List ℕ) (none : NoPlan) → file ≡ named.pods
     → GivesStored {X = Pods} (λ pods. pods) files start now (λ name. name ≡ file) (λ stored. stored_pods stored file) (Err none)
-    → GivesStored {X = Plan} (λ plan. plan) files start now (ReachesFile files (PodFile file) words.lists) (λ stored. plan_of_files stored words file) (Err none)
+    → GivesStored {X = Plan} (λ plan. plan) files start now (ReachesFile files (Files named)) (λ stored. plan_of_files stored named) (Err none)
 unfolding plan_of_files
-plan-stops_first files start now words file Usage gives = absurd gives
-plan-stops_first files start now words file (Line line) gives = λ stored told.
-    ap (λ (t : Judged Pods). t >>= (λ (p : Pods). stored_lists stored words.lists >>= judged_plan words file p)) (gives stored told)
-plan-stops_first files start now words file (Unread line) gives = record {
+plan-stops_first files start now named file Usage is gives = absurd gives
+plan-stops_first files start now named file (Line line) is gives = λ stored told.
+    ap (λ (t : Judged Pods). t >>= (λ (p : Pods). stored_lists stored named.lists >>= judged_plan named p)) (ap (stored_pods stored) (sym is) ∙ gives stored told)
+plan-stops_first files start now named file (Unread line) is gives = record {
   file = gives.file;
-  reached = inl gives.reached;
+  reached = inl (gives.reached ∙ is);
   rose = gives.rose;
   says = gives.says;
 }
-plan-stops_first files start now words file NoMemory gives = tt
+plan-stops_first files start now named file NoMemory is gives = tt
 
--- the same of names that are equal to those of the words
-pub plan-stops-at : (files later : Option StoredFiles) (start before now : ℕ) (words : Words) (file : List ℕ) (names : List (List ℕ)) (pods : Pods) (none : NoPlan)
-    → names ≡ words.lists → later ≡ files → WhereTold files (λ stored. stored_pods stored file ≡ Ok pods) → start ≤ before
+-- the same of a name and names that are equal to those of the files
+pub plan-stops-at : (files later : Option StoredFiles) (start before now : ℕ) (named : Named) (file : List ℕ) (names : List (List ℕ)) (pods : Pods) (none : NoPlan)
+    → file ≡ named.pods → names ≡ named.lists → later ≡ files → WhereTold files (λ stored. stored_pods stored file ≡ Ok pods) → start ≤ before
     → GivesStored {X = List NetList} (λ lists. lists) later before now (ReachesList later names) (λ stored. stored_lists stored names) (Err none)
-    → GivesStored {X = Plan} (λ plan. plan) files start now (ReachesFile files (PodFile file) words.lists) (λ stored. plan_of_files stored words file) (Err none)
-plan-stops-at files later start before now words file names pods none names_are same first up gives =
-    plan-stops files later start before now words file pods none same first up
+    → GivesStored {X = Plan} (λ plan. plan) files start now (ReachesFile files (Files named)) (λ stored. plan_of_files stored named) (Err none)
+plan-stops-at files later start before now named file names pods none file_is names_are same first up gives =
+    plan-stops files later start before now named pods none same (λ stored told. ap (stored_pods stored) (sym file_is) ∙ first stored told) up
     (subst (λ (ns : List (List ℕ)). GivesStored {X = List NetList} (λ lists. lists) later before now (ReachesList later ns) (λ stored. stored_lists stored ns) (Err none)) names_are gives)

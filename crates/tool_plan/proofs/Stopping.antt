@@ -4,10 +4,10 @@ use Rattle.std.specs.Prelude.{Vec}
 use Rattle.std.specs.declared.alloc.Global.{Global}
 use Rattle.cni_io.specs.Failures.{Rose}
 use Rattle.cni_io.specs.Files.{StoredFiles}
-use Rattle.tool_run.specs.Causes.{GivesJudged, GivesStored}
-use Rattle.tool_run.specs.Lines.{unread_line}
-use Rattle.tool_run.specs.Verdict.{Judged}
-use Rattle.tool_run.specs.declared.plan.NoPlan.TheVariants.{Line, Unread}
+use Rattle.tool_plan.specs.Causes.{GivesJudged, GivesStored}
+use Rattle.tool_plan.specs.Lines.{unread_line}
+use Rattle.tool_plan.specs.Verdict.{Judged}
+use Rattle.tool_plan.specs.declared.plan.NoPlan.TheVariants.{Line, Unread}
 
 -- the line that is defined
 pub stored_line : {X Y : Type 0} (view : X → Y) (files : Option StoredFiles) (before now : ℕ) (Reached : List ℕ → Type 0) (line : Vec ℕ Global) (text : List ℕ) (wanted : StoredFiles → Judged Y)

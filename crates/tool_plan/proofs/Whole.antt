@@ -3,7 +3,7 @@ use Rattle.std.proofs.Common.{◌≡◌, ℕ, List, false}
 use Rattle.serde_json.specs.Data.{Data}
 use Rattle.serde_json.specs.Written.{has_float}
 use Rattle.cni_result.proofs.WholeNumbers.{puts_are_whole}
-use Rattle.tool_run.specs.Lines.{file_data}
+use Rattle.tool_plan.specs.Lines.{file_data}
 
 pub file_is_whole : (error : Data) (file : List ℕ) → has_float error ≡ false → has_float (file_data error file) ≡ false
 unfolding file_data

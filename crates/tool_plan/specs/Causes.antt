@@ -8,13 +8,12 @@ use Rattle.pod_file.specs.PodFile.{pods_of}
 use Rattle.pod_file.specs.declared.pods.Pods.{Pods}
 use Rattle.pod_workers.specs.declared.plan.Plan.{Plan}
 use Rattle.tool_words.specs.declared.source.Source.{Source}
-use Rattle.tool_words.specs.declared.source.Source.TheVariants.{PodFile, Generator}
-use Rattle.tool_words.specs.declared.words.Words.{Words}
-use Rattle.tool_run.specs.Lines.{unread_line}
-use Rattle.tool_run.specs.Seen.{FilesSeen}
-use Rattle.tool_run.specs.Verdict.{Judged, plan_of, stored_lists, stored_pods}
-use Rattle.tool_run.specs.declared.plan.NoPlan.{NoPlan}
-use Rattle.tool_run.specs.declared.plan.NoPlan.TheVariants.{Usage, Line, Unread, NoMemory}
+use Rattle.tool_words.specs.declared.source.Source.TheVariants.{Files, Generated}
+use Rattle.tool_plan.specs.Lines.{unread_line}
+use Rattle.tool_plan.specs.Seen.{FilesSeen}
+use Rattle.tool_plan.specs.Verdict.{Judged, plan_of, stored_lists, stored_pods}
+use Rattle.tool_plan.specs.declared.plan.NoPlan.{NoPlan}
+use Rattle.tool_plan.specs.declared.plan.NoPlan.TheVariants.{Usage, Line, Unread, NoMemory}
 
 -- this holds of the files, where they are told
 abbrev pub WhereTold : Option StoredFiles → (StoredFiles → Type 0) → Type 0
@@ -28,10 +27,10 @@ pub record ReachesList (files : Option StoredFiles) (names : List (List ℕ)) (f
   pub taken : WhereTold files (λ stored. IsOk (stored_lists stored before))
 
 -- reading gets to this file: the pod file; or one of the lists, and the pod file is taken, where the files are told
-abbrev pub ReachesFile : Option StoredFiles → Source → List (List ℕ) → List ℕ → Type 0
-ReachesFile files (PodFile pods) lists file =
-    (file ≡ pods) ⊎ (WhereTold files (λ stored. IsOk (stored_pods stored pods)) × ReachesList files lists file)
-ReachesFile files (Generator count) lists file = ⊥
+abbrev pub ReachesFile : Option StoredFiles → Source → List ℕ → Type 0
+ReachesFile files (Files named) file = (file ≡ named.pods)
+    ⊎ (WhereTold files (λ stored. IsOk (stored_pods stored named.pods)) × ReachesList files named.lists file)
+ReachesFile files (Generated count stop_at) file = ⊥
 
 -- a read failed, and the line names a file that reading gets to
 pub record IsUnread (Reached : List ℕ → Type 0) (before now : ℕ) (line : List ℕ) : Type 0 where
@@ -59,29 +58,26 @@ GivesJudged (Err (Line line)) wanted = wanted ≡ Err line.items
 GivesJudged (Err (Unread line)) wanted = ⊥
 GivesJudged (Err NoMemory) wanted = ⊤
 
--- the files that the words name: the pod file and the lists; where pods are generated, none
-abbrev pub files_of : Source → List (List ℕ) → List (List ℕ)
-files_of (PodFile file) lists = file ∷ lists
-files_of (Generator count) lists = []
+-- the files that are named: the pod file and the lists; where pods are generated, none
+abbrev pub files_named : Source → List (List ℕ)
+files_named (Files named) = named.pods ∷ named.lists
+files_named (Generated count stop_at) = []
 
-abbrev pub files_named : Words → List (List ℕ)
-files_named words = files_of words.source words.lists
+-- these are the files, as far as any is named: they are told, or none is named
+abbrev pub AreFilesFor : Source → FilesSeen → StoredFiles → Type 0
+AreFilesFor source files stored = (files.stored ≡ Some stored) ⊎ (files_named source ≡ [])
 
--- these are the files, as far as the words name any: they are told, or the words name none
-abbrev pub AreFilesFor : Words → FilesSeen → StoredFiles → Type 0
-AreFilesFor words files stored = (files.stored ≡ Some stored) ⊎ (files_named words ≡ [])
-
--- with any such files the words have this plan, or this line that tells why there is none; or a read failed, of a named
+-- with any such files the source has this plan, or this line that tells why there is none; or a read failed, of a named
 -- file that reading gets to; or memory ran out
-abbrev pub GivesPlan : Words → FilesSeen → Result Plan NoPlan → Type 0
-GivesPlan words files (Ok plan) = (stored : StoredFiles) → AreFilesFor words files stored
-    → plan_of stored words ≡ Ok plan
-GivesPlan words files (Err Usage) = ⊥
-GivesPlan words files (Err (Line line)) = (stored : StoredFiles) → AreFilesFor words files stored
-    → plan_of stored words ≡ Err line.items
-GivesPlan words files (Err (Unread line)) =
-    IsUnread (ReachesFile files.stored words.source words.lists) files.failures_before files.failures_now line.items
-GivesPlan words files (Err NoMemory) = ⊤
+abbrev pub GivesPlan : Source → FilesSeen → Result Plan NoPlan → Type 0
+GivesPlan source files (Ok plan) =
+    (stored : StoredFiles) → AreFilesFor source files stored → plan_of stored source ≡ Ok plan
+GivesPlan source files (Err Usage) = ⊥
+GivesPlan source files (Err (Line line)) =
+    (stored : StoredFiles) → AreFilesFor source files stored → plan_of stored source ≡ Err line.items
+GivesPlan source files (Err (Unread line)) =
+    IsUnread (ReachesFile files.stored source) files.failures_before files.failures_now line.items
+GivesPlan source files (Err NoMemory) = ⊤
 
 -- the list was read from some bytes
 abbrev pub IsReadList : NetList → Type 0

@@ -1,5 +1,5 @@
 -- What words and files come to, before anything runs.
-use Rattle.std.specs.Prelude.{ℕ, List, [], ◌∷◌, codes, Option, Some, None, Result, Ok, Err}
+use Rattle.std.specs.Prelude.{◌≡◌, ℕ, List, [], ◌∷◌, codes, Option, Some, None, Result, Ok, Err}
 use Rattle.cni_io.specs.Files.{StoredFiles, file_of}
 use Rattle.cni_io.specs.declared.files.FileFault.{FileFault}
 use Rattle.cni_io.specs.declared.files.FileFault.TheVariants as fault
@@ -16,11 +16,12 @@ use Rattle.pod_text.specs.declared.asked.CommandPart.TheVariants.{Lines, Summary
 use Rattle.pod_workers.specs.Join.{joined}
 use Rattle.pod_workers.specs.declared.plan.Plan.{Plan}
 use Rattle.tool_words.specs.Words.{words_given}
+use Rattle.tool_words.specs.declared.source.Named.{Named}
 use Rattle.tool_words.specs.declared.source.Source.{Source}
-use Rattle.tool_words.specs.declared.source.Source.TheVariants.{PodFile, Generator}
+use Rattle.tool_words.specs.declared.source.Source.TheVariants.{Files, Generated}
 use Rattle.tool_words.specs.declared.words.Words.{Words}
-use Rattle.tool_run.specs.Lines.{reason_line, unread_line, error_line}
-use Rattle.tool_run.specs.Refusals.{list_error, pods_error, plan_error, blamed_file}
+use Rattle.tool_plan.specs.Lines.{reason_line, unread_line, error_line}
+use Rattle.tool_plan.specs.Refusals.{list_error, pods_error, plan_error, blamed_file}
 
 -- a value, or the line that tells why there is none
 abbrev pub Judged : Type 0 → Type 0
@@ -69,20 +70,20 @@ stored_lists files (name ∷ names) = do
   lists ← stored_lists files names
   Ok (list ∷ lists)
 
-abbrev pub plan_from : Words → Pods → List NetList → Plan
-plan_from words pods lists = record { lists = lists; pods = pods; stop_at = words.stop_at }
+abbrev pub plan_from : Named → Pods → List NetList → Plan
+plan_from named pods lists = record { lists = lists; pods = pods; stop_at = named.stop_at }
 
--- the plan of pods that were read from the file of this name
-unfoldable pub judged_plan : Words → List ℕ → Pods → List NetList → Judged Plan
-judged_plan words file pods lists = judged (λ e. error_line (plan_error e) (blamed_file file words.lists e))
-    (joined (plan_from words pods lists))
+-- the plan of pods and lists that were read from these files
+unfoldable pub judged_plan : Named → Pods → List NetList → Judged Plan
+judged_plan named pods lists = judged (λ e. error_line (plan_error e) (blamed_file named.pods named.lists e))
+    (joined (plan_from named pods lists))
 
 -- the pod file, then each list, then the plan
-unfoldable pub plan_of_files : StoredFiles → Words → List ℕ → Judged Plan
-plan_of_files files words file = do
-  pods ← stored_pods files file
-  lists ← stored_lists files words.lists
-  judged_plan words file pods lists
+unfoldable pub plan_of_files : StoredFiles → Named → Judged Plan
+plan_of_files files named = do
+  pods ← stored_pods files named.pods
+  lists ← stored_lists files named.lists
+  judged_plan named pods lists
 
 -- the plan of so many generated pods
 unfoldable pub generated_plan : Option ℕ → ℕ → Plan
@@ -93,25 +94,28 @@ generated_plan stop_at count = let made = generated count in record {
 }
 
 -- the plan of a pod file, or of generated pods, on which no file has a say
-abbrev pub plan_from_source : StoredFiles → Words → Source → Judged Plan
-plan_from_source files words (PodFile file) = plan_of_files files words file
-plan_from_source files words (Generator count) = Ok (generated_plan words.stop_at count)
-
-abbrev pub plan_of : StoredFiles → Words → Judged Plan
-plan_of files words = plan_from_source files words words.source
+abbrev pub plan_of : StoredFiles → Source → Judged Plan
+plan_of files (Files named) = plan_of_files files named
+plan_of files (Generated count stop_at) = Ok (generated_plan stop_at count)
 
 -- what is printed of the commands: generated ones are many, and have one line of numbers
 abbrev pub command_part_of : Source → CommandPart
-command_part_of (PodFile file) = Lines
-command_part_of (Generator count) = Summary
+command_part_of (Files named) = Lines
+command_part_of (Generated count stop_at) = Summary
 
 -- what the words ask to be printed
-abbrev pub asked_by : Words → Asked
-asked_by words = record {
+abbrev pub asked_of : Words → Asked
+asked_of words = record {
   commands = command_part_of words.source;
-  trace = words.flags.trace;
-  dump = words.flags.dump;
+  trace = words.trace;
+  dump = words.dump;
 }
+
+-- this is printed, as the words say, whatever the files
+pub record IsAskedBy (words : Words) (asked : Asked) : Type 0 where
+  pub commands : asked.commands ≡ command_part_of words.source
+  pub trace : asked.trace ≡ words.trace
+  pub dump : asked.dump ≡ words.dump
 
 -- the words aren't taken; or a line tells what is refused; or a plan is carried out, and this is printed of it
 pub data Verdict : Type 0 where
@@ -120,12 +124,12 @@ pub data Verdict : Type 0 where
   carry : Plan → Asked → Verdict
 
 abbrev pub verdict_on : Words → Judged Plan → Verdict
-verdict_on words (Ok plan) = carry plan (asked_by words)
+verdict_on words (Ok plan) = carry plan (asked_of words)
 verdict_on words (Err text) = line text
 
 abbrev pub verdict_if : Option Words → StoredFiles → Verdict
 verdict_if None files = usage
-verdict_if (Some words) files = verdict_on words (plan_of files words)
+verdict_if (Some words) files = verdict_on words (plan_of files words.source)
 
 abbrev pub verdict_of : List (List ℕ) → StoredFiles → Verdict
 verdict_of words files = verdict_if (words_given words) files

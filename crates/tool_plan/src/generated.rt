@@ -3,7 +3,7 @@
 ghost use Rattle.std.specs.Prelude.{◌≡◌, ◌≤◌, IfOk};
 ghost use Rattle.pod_workers.specs.Plans.{IsWellFormed};
 ghost use Rattle.tool_words.specs.Command.{most_pods};
-ghost use Rattle.tool_run.specs.Verdict.{generated_plan};
+ghost use Rattle.tool_plan.specs.Verdict.{generated_plan};
 
 use crate::laws::generated_plans_are_well_formed;
 use cni_addr::{Items, NoMemory};

@@ -3,7 +3,7 @@
 ghost use Rattle.std.specs.Prelude.{◌≡◌, IfOk, false};
 ghost use Rattle.serde_json.specs.View.{view};
 ghost use Rattle.serde_json.specs.Written.{has_float};
-ghost use Rattle.tool_run.specs.Lines.{error_line, file_data, reason_line};
+ghost use Rattle.tool_plan.specs.Lines.{error_line, file_data, reason_line};
 ghost use Rattle.cni_json.specs.Json.{line_of};
 
 use cni_addr::NoMemory;
@@ -12,8 +12,8 @@ use cni_result::{CniError, error_value};
 use serde_json::Value;
 use std::alloc::Global;
 
-/// The words aren't taken.
-pub(crate) const USAGE: &[u8] = b"{\"error\":\"usage\"}\n";
+/// The line that says that the words aren't taken.
+pub const USAGE: &[u8] = b"{\"error\":\"usage\"}\n";
 
 /// A reason about a file.
 pub(crate) fn reason_line(alloc: Global, word: &str, file: &str) -> Result<Vec<u8>, NoMemory>

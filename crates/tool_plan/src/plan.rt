@@ -1,11 +1,11 @@
-//! The plan that the words and the files come to, or why there is none.
+//! The plan that the files come to, or why there is none.
 
 ghost use Rattle.std.specs.Prelude.{◌≡◌, ◌≤◌, ◌<◌, ◌^◌, IfOk, All, length};
 ghost use Rattle.pod_workers.specs.Plans.{IsWellFormed};
 ghost use Rattle.tool_words.specs.Command.{most_lists};
-ghost use Rattle.tool_words.specs.declared.source.Source.TheVariants.{PodFile};
-ghost use Rattle.tool_run.specs.Causes.{GivesJudged, GivesStored, IsReadList, IsReadPods, ReachesFile, ReachesList};
-ghost use Rattle.tool_run.specs.Verdict.{stored_bytes, stored_list, stored_lists, plan_of_files, stored_pods, judged_list, judged_plan, judged_pods};
+ghost use Rattle.tool_words.specs.declared.source.Source.TheVariants.{Files};
+ghost use Rattle.tool_plan.specs.Causes.{GivesJudged, GivesStored, IsReadList, IsReadPods, ReachesFile, ReachesList};
+ghost use Rattle.tool_plan.specs.Verdict.{stored_bytes, stored_list, stored_lists, plan_of_files, stored_pods, judged_list, judged_plan, judged_pods};
 
 use crate::laws::read_plans_are_well_formed;
 use crate::lines::{error_line, reason_line};
@@ -17,14 +17,14 @@ use net_conf::{ConfError, NetList};
 use pod_file::{PodError, Pods};
 use pod_workers::Plan;
 use std::alloc::Global;
-use tool_words::Words;
+use tool_words::Named;
 
 /// The most bytes that a file may have.
 const MOST_BYTES: u64 = 16_777_216;
 
 /// Why there is nothing to carry out.
 #[derive(Drop)]
-pub(crate) enum NoPlan {
+pub enum NoPlan {
     /// The words aren't taken.
     Usage,
     /// A file or the plan is refused, and this line says why.
@@ -36,7 +36,7 @@ pub(crate) enum NoPlan {
 }
 
 impl From<NoMemory> for NoPlan {
-    ghost use Rattle.tool_run.specs.declared.plan.NoPlan.TheVariants as no_plan;
+    ghost use Rattle.tool_plan.specs.declared.plan.NoPlan.TheVariants as no_plan;
 
     ghost from_gives = { λ _ end. end ≡ no_plan.NoMemory };
 
@@ -45,48 +45,46 @@ impl From<NoMemory> for NoPlan {
     }
 }
 
-/// Reads the pod file of this name, then each network list that the words name, in order, and joins them.
+/// Reads the pod file, then each network list in order, and joins them.
 #[tactic(auto, using(crate::proofs::Stopping::stopping), unfolding(crate::specs::Verdict::plan_of_files))]
 pub(crate) fn read_plan<F: Files>(
     alloc: Global,
     files: &mut F,
-    words: &Words,
-    file: &str,
+    named: &Named,
 ) -> Result<Plan, NoPlan>
-    requires { length words.now.lists ≤ most_lists }
+    requires { length named.now.lists ≤ most_lists }
     ensures gives { GivesStored (λ plan. plan) (F.files files.old)
         (F.failure_count files.old) (F.failure_count files.new)
-        (ReachesFile (F.files files.old) (PodFile file.now) words.now.lists)
-        (λ stored. plan_of_files stored words.now file.now) result }
+        (ReachesFile (F.files files.old) (Files named.now))
+        (λ stored. plan_of_files stored named.now) result }
     ensures well_formed { IfOk result IsWellFormed }
     ensures keeps { F.files files.new ≡ F.files files.old }
     ensures later { F.failure_count files.old ≤ F.failure_count files.new }
     ensures bounded { F.failure_count files.new < 2 ^ 64 }
 {
-    let pods = read_pods(alloc, files, file)?;
-    let lists = read_lists(alloc, files, words.lists.as_slice())?;
-    join(alloc, words, file, pods, lists)
+    let pods = read_pods(alloc, files, named.pods.as_str())?;
+    let lists = read_lists(alloc, files, named.lists.as_slice())?;
+    join(alloc, named, pods, lists)
 }
 
 #[tactic(auto, using(crate::proofs::Stopping::stopping), unfolding(crate::specs::Verdict::judged_plan))]
 fn join(
     alloc: Global,
-    words: &Words,
-    file: &str,
+    named: &Named,
     pods: Pods,
     lists: Items<RefCounted<NetList>>,
 ) -> Result<Plan, NoPlan>
     requires few { length lists ≤ most_lists }
     requires pods_read { IsReadPods pods }
     requires lists_read { All IsReadList lists }
-    ensures gives { GivesJudged result (judged_plan words.now file.now pods lists) }
+    ensures gives { GivesJudged result (judged_plan named.now pods lists) }
     ensures well_formed { IfOk result IsWellFormed }
 {
     read_plans_are_well_formed();
-    match Plan::join(lists, pods, words.stop_at) {
+    match Plan::join(lists, pods, named.stop_at) {
         Ok(plan) => Ok(plan),
         Err(end) => {
-            let blamed = blamed_file(file, words.lists.as_slice(), end);
+            let blamed = blamed_file(named.pods.as_str(), named.lists.as_slice(), end);
             Err(NoPlan::Line(error_line(alloc, &plan_error(alloc, end)?, blamed)?))
         }
     }

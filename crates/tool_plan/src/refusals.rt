@@ -1,8 +1,8 @@
 //! Why a file or a plan is refused, as an error.
 
 ghost use Rattle.std.specs.Prelude.{◌≡◌, IfOk};
-ghost use Rattle.tool_run.specs.Refusals as refusals;
-ghost use Rattle.tool_run.specs.Refusals.{error_about, blamed_file, list_error, plan_error, pods_error};
+ghost use Rattle.tool_plan.specs.Refusals as refusals;
+ghost use Rattle.tool_plan.specs.Refusals.{error_about, blamed_file, list_error, plan_error, pods_error};
 
 use cni_addr::{NoMemory, Text};
 use cni_result::CniError;

@@ -1,8 +1,8 @@
 use Rattle.std.proofs.Common.{◌≡◌, ◌∙◌, List, [], ◌∷◌, ◌++◌, ap, sym, subst}
 use Rattle.net_conf.specs.declared.list.NetList.{NetList}
 use Rattle.pod_workers.specs.Plans.{IsWellFormed}
-use Rattle.tool_run.proofs.GeneratedPlans.{is_generated}
-use Rattle.tool_run.proofs.generated.generated_plan.Goals as goal
+use Rattle.tool_plan.proofs.GeneratedPlans.{is_generated}
+use Rattle.tool_plan.proofs.generated.generated_plan.Goals as goal
 
 pub returns-clause-well_formed : goal.returns-clause-well_formed
 returns-clause-well_formed c =

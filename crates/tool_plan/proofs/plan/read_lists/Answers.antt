@@ -3,10 +3,10 @@ use Rattle.std.specs.List.{All, slice_index_or}
 use Rattle.std.proofs.lemmas.List.{length-append}
 use Rattle.std.proofs.lemmas.List.Elements.{All-push}
 use Rattle.net_conf.specs.declared.list.NetList.{NetList}
-use Rattle.tool_run.specs.Causes.{IsReadList}
+use Rattle.tool_plan.specs.Causes.{IsReadList}
 use Rattle.std.proofs.lemmas.Result.{err_from_is_err_and}
-use Rattle.tool_run.proofs.Lists.{Front, front-next, front-whole, lists-stop}
-use Rattle.tool_run.proofs.plan.read_lists.Goals as goal
+use Rattle.tool_plan.proofs.Lists.{Front, front-next, front-whole, lists-stop}
+use Rattle.tool_plan.proofs.plan.read_lists.Goals as goal
 
 pub loop-name-preserved : goal.loop-name-preserved
 loop-name-preserved g c =

@@ -1,8 +1,8 @@
 use Rattle.std.proofs.Common.{◌≡◌, ◌<◌, ◌≤◌, ◌^◌, length}
 use Rattle.std.specs.List.{All}
-use Rattle.tool_run.specs.Causes.{IsReadList}
-use Rattle.tool_run.proofs.Lists.{Front}
-use Rattle.tool_run.proofs.plan.read_lists.Given as goal
+use Rattle.tool_plan.specs.Causes.{IsReadList}
+use Rattle.tool_plan.proofs.Lists.{Front}
+use Rattle.tool_plan.proofs.plan.read_lists.Given as goal
 
 abbrev pub invariant-loop-name : goal.invariant-loop-name
 invariant-loop-name g l = record {
