@@ -1,10 +1,9 @@
 //! A round by `Book::round_alone` over a kernel that refuses memory.
 
-use crate::kernel::{FromHost, NodeKernel};
-use crate::round_tests::{Brief, Came, Seen, carried_out};
-use crate::tests::{LIST, plan_of};
-use cni_addr::{Duplicate, Items};
-use kernel_model::RefusingKernel;
+use crate::plans::{LIST, kernel_of, plan_of};
+use crate::rounds::{Brief, Came, Seen, carried_out};
+use cni_addr::Items;
+use kernel_model::{Kernel, RefusingKernel};
 use pod_text::{Asked, CommandPart, text};
 use pod_workers::Book;
 use std::alloc::Global;
@@ -19,26 +18,33 @@ const LINES: &str = "\
 {\"error\":{\"cniVersion\":\"1.1.0\",\"code\":104,\"details\":\"\",\"msg\":\"out of memory\"},\"n\":1,\"verb\":\"ADD\"}\n\
 {\"n\":2,\"ok\":true,\"verb\":\"GC\"}\n";
 
-/// What the pods come to over a kernel whose call of this number is refused memory, and the lines that tell of it.
-fn refused<K: FromHost + Drop>(alloc: Global, number: u64) -> Result<(Seen, Vec<u8>), Fail> {
-    let plan = plan_of(alloc, LIST, SWEPT)?;
-    let kernel = K::from_host(alloc, plan.pods.opening.copy()?)?;
-    let refuse = Items::of_vec(vec![in alloc; number]?);
-    let mut book = Book::begin(alloc, plan, RefusingKernel::of(kernel, refuse))?;
+/// What the two commands of a book come to, and the lines that tell of it.
+fn seen_of<K: Kernel + Drop>(alloc: Global, mut book: Book<K>) -> Result<(Seen, Vec<u8>), Fail> {
     let seen = carried_out(&mut book, 1, 2)?;
     let asked = Asked {
         commands: CommandPart::Lines,
         trace: false,
         dump: false,
     };
-    Ok((seen, text(alloc, &book, asked)?))
+    Ok((seen, text(alloc, &book, &asked)?))
+}
+
+/// What the pods come to over a kernel whose call of this number is refused memory.
+fn refused(alloc: Global, number: u64) -> Result<(Seen, Vec<u8>), Fail> {
+    let plan = plan_of(alloc, LIST, SWEPT)?;
+    let kernel = kernel_of(alloc, &plan)?;
+    let refuse = Items::of_vec(vec![in alloc; number]?);
+    seen_of(
+        alloc,
+        Book::begin(alloc, plan, RefusingKernel::of(kernel, refuse))?,
+    )
 }
 
 /// An ADD whose fourth call is refused memory leaves what it made to a GC.
 #[test]
 fn an_add_that_is_refused_memory_is_swept(rt: HostRuntime) -> Result<(), Fail> {
     let alloc = rt.alloc();
-    let (seen, lines) = refused::<NodeKernel>(alloc, 4)?;
+    let (seen, lines) = refused(alloc, 4)?;
     assert_eq!(rt; lines.as_slice(), LINES.as_bytes());
     let refused = Came {
         calls: 3,

@@ -1,7 +1,6 @@
 //! Rounds by `Book::round_alone`, with a stop and a fault at each call.
 
-use crate::kernel::{FromHost, NodeKernel, begin};
-use crate::tests::{LIST, plan_of};
+use crate::plans::{LIST, book_of};
 use cni_addr::NoMemory;
 use cni_result::CniError;
 use cni_verbs::Answer;
@@ -20,12 +19,21 @@ const MAPPED: &str = "{\"opening\":{\"namespaces\":[\"/ns/a\"]},\"rounds\":[[\
 {\"verb\":\"ADD\",\"network\":\"gen\",\"container\":\"c1\",\"netns\":\"/ns/a\",\
 \"portMappings\":[{\"hostPort\":8080,\"containerPort\":80,\"protocol\":\"tcp\"}],";
 
+/// How it goes on with a GC of everything.
+const SWEPT: &str = "}],[{\"verb\":\"GC\",\"network\":\"gen\",\"valid\":[]}]]}";
+
+/// How it ends with the ADD.
+const ADDED: &str = "}]]}";
+
 /// A pod file with three ADDs and a GC of everything, up to where it says the same of the GC.
 const THREE: &str = "{\"opening\":{\"namespaces\":[\"/ns/a\",\"/ns/b\",\"/ns/c\"]},\"rounds\":[\
 [{\"verb\":\"ADD\",\"network\":\"pods\",\"container\":\"c1\",\"netns\":\"/ns/a\"}],\
 [{\"verb\":\"ADD\",\"network\":\"pods\",\"container\":\"c2\",\"netns\":\"/ns/b\"}],\
 [{\"verb\":\"ADD\",\"network\":\"pods\",\"container\":\"c3\",\"netns\":\"/ns/c\"}],\
 [{\"verb\":\"GC\",\"network\":\"pods\",\"valid\":[],";
+
+/// How it goes on with another GC.
+const AGAIN: &str = "}],[{\"verb\":\"GC\",\"network\":\"pods\",\"valid\":[]}]]}";
 
 /// After how many calls an ADD is stopped, and how many a GC makes after it.
 const STOPPED: [(u32, u64); 16] = [
@@ -141,21 +149,6 @@ pub(crate) fn carried_out<K: Kernel + Drop>(
     })
 }
 
-/// What these two commands of the pods come to, with this list.
-fn make_rounds<K: FromHost + Drop>(
-    alloc: Global,
-    list: &str,
-    pods: &str,
-    first: u32,
-    second: u32,
-) -> Result<Seen, Fail> {
-    let plan = plan_of(alloc, list, pods)?;
-    let mut book: Book<K> = begin(alloc, plan)?;
-    let seen = carried_out(&mut book, first, second);
-    drop(book);
-    Ok(seen?)
-}
-
 /// Whether no attachment owns anything.
 fn is_unowned(host: &Host) -> bool {
     !(host.links.as_slice().iter().any(|it| it.tag.is_owned())
@@ -171,38 +164,57 @@ fn is_unowned(host: &Host) -> bool {
         || host.cached.as_slice().iter().any(|it| it.tag.is_owned()))
 }
 
+/// How a command is cut short.
+#[derive(Clone, Copy)]
+enum Cut {
+    /// It is stopped after so many calls.
+    Stop(u32),
+    /// Its call of this number is a fault.
+    Fault(u32),
+}
+
+/// How a pod file says it.
+fn cut_text(alloc: Global, cut: Cut) -> Result<String, Fail> {
+    match cut {
+        Cut::Stop(calls) => Ok(format!(in alloc; "\"stop\":{calls}")?),
+        Cut::Fault(call) => Ok(format!(in alloc; "\"faults\":[{call}]")?),
+    }
+}
+
+/// A pod file of its beginning, a cut and its end.
+fn pods_with(alloc: Global, begins: &str, cut: Cut, ends: &str) -> Result<String, Fail> {
+    let mut pods = cut_text(alloc, cut)?;
+    pods.insert_str(0, begins)?;
+    pods.push_str(ends)?;
+    Ok(pods)
+}
+
+/// What these two commands of a book come to, with every round made.
+fn seen_of<K: Kernel + Drop>(mut book: Book<K>, first: u32, second: u32) -> Result<Seen, Fail> {
+    Ok(carried_out(&mut book, first, second)?)
+}
+
 /// An ADD that is stopped after so many calls, and a GC of everything.
 fn stopped_add(alloc: Global, stop: u32) -> Result<Seen, Fail> {
-    let swept = "}],[{\"verb\":\"GC\",\"network\":\"gen\",\"valid\":[]}]]}";
-    let pods = format!(in alloc; "{MAPPED}\"stop\":{stop}{swept}")?;
-    make_rounds::<NodeKernel>(alloc, PUBLISHED, pods.as_str(), 1, 2)
+    let pods = pods_with(alloc, MAPPED, Cut::Stop(stop), SWEPT)?;
+    seen_of(book_of(alloc, PUBLISHED, pods.as_str())?, 1, 2)
 }
 
 /// An ADD whose call of this number is a fault.
 fn faulty_add(alloc: Global, fault: u32) -> Result<Seen, Fail> {
-    let pods = format!(in alloc; "{MAPPED}\"faults\":[{fault}]}}]]}}")?;
-    make_rounds::<NodeKernel>(alloc, PUBLISHED, pods.as_str(), 1, 1)
+    let pods = pods_with(alloc, MAPPED, Cut::Fault(fault), ADDED)?;
+    seen_of(book_of(alloc, PUBLISHED, pods.as_str())?, 1, 1)
 }
 
-/// A GC that is cut short as these keys say, and another after it.
-fn two_collections(alloc: Global, cut: &str) -> Result<Seen, Fail> {
-    let again = "}],[{\"verb\":\"GC\",\"network\":\"pods\",\"valid\":[]}]]}";
-    let pods = format!(in alloc; "{THREE}{cut}{again}")?;
-    make_rounds::<NodeKernel>(alloc, LIST, pods.as_str(), 4, 5)
+/// A GC that is cut short, and another after it.
+fn two_collections(alloc: Global, cut: Cut) -> Result<Seen, Fail> {
+    let pods = pods_with(alloc, THREE, cut, AGAIN)?;
+    seen_of(book_of(alloc, LIST, pods.as_str())?, 4, 5)
 }
 
-fn faulty_collection(alloc: Global, fault: u32) -> Result<Seen, Fail> {
-    let cut = format!(in alloc; "\"faults\":[{fault}]")?;
-    two_collections(alloc, cut.as_str())
-}
-
-fn stopped_collection(alloc: Global, stop: u32) -> Result<Seen, Fail> {
-    let cut = format!(in alloc; "\"stop\":{stop}")?;
-    two_collections(alloc, cut.as_str())
-}
-
+/// An ADD that is stopped is swept by a GC, and one that meets a fault takes back what it made.
 #[test]
-fn an_add_that_is_stopped_is_swept(rt: HostRuntime) -> Result<(), Fail> {
+fn an_add_that_is_cut_short_leaves_nothing(rt: HostRuntime) -> Result<(), Fail> {
     for (stop, calls) in STOPPED {
         let seen = stopped_add(rt.alloc(), stop)?;
         let swept = Came {
@@ -213,11 +225,6 @@ fn an_add_that_is_stopped_is_swept(rt: HostRuntime) -> Result<(), Fail> {
         assert_eq!(rt; seen.second, swept, "stop {stop}");
         assert!(rt; seen.unowned, "stop {stop}");
     }
-    Ok(())
-}
-
-#[test]
-fn an_add_with_a_fault_takes_back_what_it_made(rt: HostRuntime) -> Result<(), Fail> {
     for (fault, calls) in FAULTY {
         let seen = faulty_add(rt.alloc(), fault)?;
         let refused = Came {
@@ -230,27 +237,22 @@ fn an_add_with_a_fault_takes_back_what_it_made(rt: HostRuntime) -> Result<(), Fa
     Ok(())
 }
 
-/// A GC that meets a fault, or is stopped, is finished by the one after it.
+/// A GC that meets a fault, or is stopped, is finished by the one after it. Where its first question is a fault, it
+/// still asks for the other kinds, and takes back all.
 #[test]
 fn a_collection_that_is_cut_short_is_finished(rt: HostRuntime) -> Result<(), Fail> {
     for call in 1..28u32 {
-        let failed = faulty_collection(rt.alloc(), call)?;
+        let failed = two_collections(rt.alloc(), Cut::Fault(call))?;
         assert_eq!(rt; failed.first.brief, Brief::Fault(call));
         assert_eq!(rt; failed.second.brief, Brief::Yes);
         assert!(rt; failed.unowned, "fault {call}");
-        let cut = stopped_collection(rt.alloc(), call)?;
+        if call == 1 {
+            assert!(rt; failed.first.calls == 24 && failed.second.calls == 6);
+        }
+        let cut = two_collections(rt.alloc(), Cut::Stop(call))?;
         assert_eq!(rt; cut.first.calls, u64::from(call));
         assert_eq!(rt; cut.second.brief, Brief::Yes);
         assert!(rt; cut.unowned, "stop {call}");
     }
-    Ok(())
-}
-
-/// Where its first question is a fault, a GC still asks for the other kinds, and takes back all.
-#[test]
-fn a_collection_whose_first_call_is_a_fault_goes_on(rt: HostRuntime) -> Result<(), Fail> {
-    let seen = faulty_collection(rt.alloc(), 1)?;
-    assert_eq!(rt; seen.first.calls, 24);
-    assert_eq!(rt; seen.second.calls, 6);
     Ok(())
 }

@@ -3,9 +3,9 @@
 ghost use Rattle.std.specs.Prelude.{◌≡◌};
 ghost use Rattle.cni_addr.specs.declared.address.Family.TheVariants.{V4};
 
-use super::{given, given_of, ipam_result, lease_at, lease_calls, release_kinds};
 use cni_addr::{Addr, Cidr, Duplicate, Family, NoMemory, RangeSet, Text};
 use cni_result::Version;
+use host_local::{given, given_of, ipam_result, lease_at, lease_calls, release_kinds};
 use ip_pool::contains_candidate;
 use kernel_types::{Att, Call, Given, Kind};
 use net_conf::{First, HostLocalConf, NetList, read_list};
@@ -73,17 +73,37 @@ fn means(network: u32, number: u32) -> Given {
 }
 
 /// Whether the call leases from this set for the container.
-fn leases(call: &Option<Call>, att: &Att, number: u32, set: &RangeSet) -> bool {
+fn is_lease(call: &Call, att: &Att, number: u32, set: &RangeSet) -> bool {
     match call {
-        Some(
-            Call::LeaseNext {
-                att: owner,
-                number: place,
-                set: from,
-            },
-        ) => owner == att && *place == number && from == set,
+        Call::LeaseNext {
+            att: owner,
+            number: place,
+            set: from,
+        } => owner == att && *place == number && from == set,
         _ => false,
     }
+}
+
+/// Whether there is a set at this place and a call that leases from it, or neither.
+fn leases_at(conf: &HostLocalConf, att: &Att, number: u32) -> Result<bool, NoMemory> {
+    let sets = conf.sets.as_slice();
+    let call = lease_at(sets, att.copy()?, number)?;
+    Ok(match (&call, sets.get(number as usize)) {
+        (Some(call), Some(set)) => is_lease(call, att, number, set),
+        (None, None) => true,
+        _ => false,
+    })
+}
+
+/// Whether there are two sets, and two calls that lease from one after the other.
+fn leases_from_two(alloc: Global, conf: &HostLocalConf, att: &Att) -> Result<bool, NoMemory> {
+    let calls = lease_calls(alloc, conf, att)?;
+    Ok(match (calls.as_slice(), conf.sets.as_slice()) {
+        ([first, second], [one, other]) => {
+            is_lease(first, att, 0, one) && is_lease(second, att, 1, other)
+        }
+        _ => false,
+    })
 }
 
 #[test]
@@ -92,20 +112,13 @@ fn each_set_is_leased_from_once(rt: HostRuntime) -> Result<(), Fail> {
     let Some(conf) = ipam_of(&list) else {
         return Err("addresses".into());
     };
-    let sets = conf.sets.as_slice();
-    let [one, other] = sets else {
-        return Err("two sets".into());
-    };
     let att = container(rt.alloc())?;
-    let first = lease_at(sets, att.copy()?, 0)?;
-    let second = lease_at(sets, att.copy()?, 1)?;
-    let third = lease_at(sets, att.copy()?, 2)?;
-    assert!(rt; leases(&first, &att, 0, one));
-    assert!(rt; leases(&second, &att, 1, other));
-    assert!(rt; third.is_none());
-    let all = lease_calls(rt.alloc(), conf, &att)?.into_vec();
-    assert!(rt; all.len() == 2 && first.as_ref() == all.first() && second.as_ref() == all.last());
-    assert!(rt; release_kinds() == [Kind::Leases]);
+    for number in 0..3u32 {
+        let leases = leases_at(conf, &att, number)?;
+        assert!(rt; leases, "set {number}");
+    }
+    let both = leases_from_two(rt.alloc(), conf, &att)?;
+    assert!(rt; both && release_kinds() == [Kind::Leases]);
     Ok(())
 }
 

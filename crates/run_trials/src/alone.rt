@@ -1,12 +1,13 @@
 //! Runs on the calling thread alone, over files and sinks of which some fail.
 
-use crate::tests::{LIST, ONE, PODS, add, files_of, files_with, sink_of, texts_of};
-use crate::top::Ended;
-use crate::{FromHost, NodeKernel, run_alone_over};
-use cni_addr::Text;
-use cni_io::{Files, MemFiles, MemSink, Sink};
+use crate::given::{LIST, files_of, sink_of, texts_of};
+use cni_io::{MemFiles, MemSink};
 use std::alloc::Global;
 use std::test::Fail;
+use tool_run::run_alone;
+
+const ONE: &str = "{\"opening\":{\"namespaces\":[\"/ns/a\"]},\"rounds\":[[\
+{\"verb\":\"ADD\",\"network\":\"pods\",\"container\":\"c1\",\"netns\":\"/ns/a\"}]]}";
 
 /// A pool of five addresses.
 const SMALL: &str = "{\"cniVersion\":\"1.1.0\",\"name\":\"small\",\"plugins\":[\
@@ -27,71 +28,76 @@ const WHOLE: usize = 1655;
 
 const FIRST_LINE: usize = 311;
 
-/// The most bytes that a write takes.
+/// The most bytes that a write takes, where it takes little and where it takes all.
 const PIECE: usize = 64;
 
-/// The status of a run over a kernel.
-fn status_of<K: FromHost + Drop, F: Files, S: Sink>(
+const ALL: usize = 65536;
+
+/// The status of a run, and what it wrote.
+fn ended(
     alloc: Global,
-    words: &[Text],
-    files: &mut F,
-    sink: &mut S,
-) -> u8 {
-    let ended: Ended<K> = run_alone_over(alloc, words, files, sink);
-    ended.status
+    given: &[&str],
+    mut files: MemFiles,
+    mut sink: MemSink,
+) -> Result<(u8, Vec<u8>), Fail> {
+    let words = texts_of(alloc, given)?;
+    let outcome = run_alone(alloc, words.as_slice(), &mut files, &mut sink);
+    Ok((outcome.status, sink.written().to_vec(alloc)?))
 }
 
 #[test]
 fn one_add_goes_alone(rt: HostRuntime) -> Result<(), Fail> {
     let alloc = rt.alloc();
-    let mut files = files_of(alloc, ONE)?;
-    let words = texts_of(alloc, &["pods.json", "net.json"])?;
-    let mut sink = sink_of(alloc)?;
-    let status = status_of::<NodeKernel, _, _>(alloc, words.as_slice(), &mut files, &mut sink);
+    let table = [("pods.json", ONE), ("net.json", LIST)];
+    let files = files_of(alloc, Vec::new(alloc), &table)?;
+    let sink = sink_of(alloc, Vec::new(alloc), ALL)?;
+    let (status, written) = ended(alloc, &["pods.json", "net.json"], files, sink)?;
     assert_eq!(rt; status, 0);
-    assert!(rt; sink.written().starts_with(b"{\"n\":1,\"result\":{"));
-    assert!(rt; sink.written().ends_with(b"\"verb\":\"ADD\"}\n"));
+    assert!(rt; written.starts_with(b"{\"n\":1,\"result\":{"));
+    assert!(rt; written.ends_with(b"\"verb\":\"ADD\"}\n"));
     Ok(())
+}
+
+/// A run on three files whose read of this number fails.
+fn unread(alloc: Global, read: u64) -> Result<(u8, Vec<u8>), Fail> {
+    let table = [
+        ("pods.json", ONE),
+        ("net.json", LIST),
+        ("small.json", SMALL),
+    ];
+    let files = files_of(alloc, vec![in alloc; read]?, &table)?;
+    let sink = sink_of(alloc, Vec::new(alloc), ALL)?;
+    ended(alloc, &["pods.json", "net.json", "small.json"], files, sink)
 }
 
 /// Each of three reads fails in turn.
 #[test]
 fn a_failed_read_names_its_file(rt: HostRuntime) -> Result<(), Fail> {
-    let alloc = rt.alloc();
-    let given = ["pods.json", "net.json", "small.json"];
-    for (read, name) in [(1, "pods.json"), (2, "net.json"), (3, "small.json")] {
-        let mut files = MemFiles::new(alloc, vec![in alloc; read]?);
-        add(alloc, &mut files, PODS, ONE)?;
-        add(alloc, &mut files, "net.json", LIST)?;
-        add(alloc, &mut files, "small.json", SMALL)?;
-        let words = texts_of(alloc, &given)?;
-        let mut sink = sink_of(alloc)?;
-        let status = status_of::<NodeKernel, _, _>(alloc, words.as_slice(), &mut files, &mut sink);
-        let line = format!(in alloc; "{{\"error\":\"read\",\"file\":\"{name}\"}}\n")?;
-        assert_eq!(rt; status, 4, "{name}");
-        assert_eq!(rt; sink.written(), line.as_bytes());
+    for (read, line) in [
+        (1, "{\"error\":\"read\",\"file\":\"pods.json\"}\n"),
+        (2, "{\"error\":\"read\",\"file\":\"net.json\"}\n"),
+        (3, "{\"error\":\"read\",\"file\":\"small.json\"}\n"),
+    ] {
+        let (status, written) = unread(rt.alloc(), read)?;
+        assert_eq!(rt; status, 4);
+        assert_eq!(rt; written.as_slice(), line.as_bytes());
     }
     Ok(())
 }
 
-/// The status of a run on six containers, and what it wrote, where the write of this number fails and the others take
-/// so many bytes.
+/// A run on six containers, where the write of this number fails and the others take so many bytes.
 fn written(alloc: Global, failing: u64, most: usize) -> Result<(u8, Vec<u8>), Fail> {
-    let mut files = files_with(alloc, SMALL, SIX)?;
-    let words = texts_of(alloc, &["pods.json", "net.json"])?;
-    let failing = vec![in alloc; failing]?;
-    let Ok(mut sink) = MemSink::new(alloc, failing, most, 65536) else {
-        return Err("no memory for the sink".into());
-    };
-    let status = status_of::<NodeKernel, _, _>(alloc, words.as_slice(), &mut files, &mut sink);
-    Ok((status, sink.written().to_vec(alloc)?))
+    let table = [("pods.json", SIX), ("net.json", SMALL)];
+    let files = files_of(alloc, Vec::new(alloc), &table)?;
+    let sink = sink_of(alloc, vec![in alloc; failing]?, most)?;
+    ended(alloc, &["pods.json", "net.json"], files, sink)
 }
 
 /// Each write fails in turn, and what the writes before it took stands. No write has the number 0.
 #[test]
 fn a_failed_write_leaves_what_was_written(rt: HostRuntime) -> Result<(), Fail> {
     let alloc = rt.alloc();
-    let (status, whole) = written(alloc, 0, 65536)?;
+    let (status, whole) = written(alloc, 0, ALL)?;
     assert!(rt; status == 1 && whole.len() == WHOLE);
     for before in 0..40usize {
         let (status, part) = written(alloc, before as u64 + 1, PIECE)?;
@@ -109,7 +115,7 @@ fn a_failed_write_leaves_what_was_written(rt: HostRuntime) -> Result<(), Fail> {
 #[test]
 fn a_sink_may_take_little(rt: HostRuntime) -> Result<(), Fail> {
     let alloc = rt.alloc();
-    let (_, whole) = written(alloc, 0, 65536)?;
+    let (_, whole) = written(alloc, 0, ALL)?;
     for (failing, most, status, length) in [
         (2, FIRST_LINE, 5, FIRST_LINE),
         (0, 0, 5, 0),

@@ -1,8 +1,6 @@
 //! Runs by several threads, with gates that show that two of them are at work at one time.
 
-use crate::tests::{files_of, sink_of, texts_of};
-use crate::top::Ended;
-use crate::{FromHost, NodeKernel, run_over};
+use crate::given::{LIST, files_of, sink_of, texts_of};
 use cni_addr::Text;
 use cni_io::{Files, Sink};
 use pod_threads::Gate;
@@ -11,6 +9,7 @@ use std::sync::Wait;
 use std::sync::atomic::{AtomicBool, Ordering};
 use std::test::Fail;
 use std::thread::Threads;
+use tool_run::{Ended, FromHost, NodeKernel, run_over};
 
 /// For how many turns a worker is held at most.
 const TURNS: u64 = 1_000_000_000;
@@ -81,8 +80,9 @@ fn status_by<R: Threads + Wait + Sync, G: Gate>(
     gate: &G,
 ) -> Result<u8, Fail> {
     let words = texts_of(alloc, &["--threads", threads, "pods.json", "net.json"])?;
-    let mut files = files_of(alloc, pods)?;
-    let mut sink = sink_of(alloc)?;
+    let table = [("pods.json", pods), ("net.json", LIST)];
+    let mut files = files_of(alloc, Vec::new(alloc), &table)?;
+    let mut sink = sink_of(alloc, Vec::new(alloc), 65536)?;
     Ok(status_over::<NodeKernel, _, _, _, _>(
         rt,
         alloc,

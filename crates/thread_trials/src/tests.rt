@@ -5,12 +5,12 @@ ghost use Rattle.net_conf.specs.WellFormed.{IsWellFormedList};
 ghost use Rattle.pod_file.specs.WellFormed.{IsWellFormedPods};
 ghost use Rattle.pod_workers.specs.Plans.{IsWellFormed};
 
-use crate::{Gate, OpenGate, Rounded, round_threads};
 use cni_addr::{Duplicate, Items};
 use kernel_model::{Kernel, ListKernel};
 use kernel_types::RefCounted;
 use net_conf::{NetList, network_list_laws, read_list};
 use pod_file::{Pods, pod_file_laws, read_pods};
+use pod_threads::{Gate, OpenGate, Rounded, round_threads};
 use pod_workers::{Book, Plan, joined_plans_are_well_formed};
 use std::alloc::Global;
 use std::sync::Wait;
