@@ -181,10 +181,16 @@ fn cut_text(alloc: Global, cut: Cut) -> Result<String, Fail> {
     }
 }
 
+fn push_cut(alloc: Global, cut: Cut, pods: &mut String) -> Result<(), Fail> {
+    let text = cut_text(alloc, cut)?;
+    Ok(pods.push_str(text.as_str())?)
+}
+
 /// A pod file of its beginning, a cut and its end.
 fn pods_with(alloc: Global, begins: &str, cut: Cut, ends: &str) -> Result<String, Fail> {
-    let mut pods = cut_text(alloc, cut)?;
-    pods.insert_str(0, begins)?;
+    let mut pods = String::new(alloc);
+    pods.push_str(begins)?;
+    push_cut(alloc, cut, &mut pods)?;
     pods.push_str(ends)?;
     Ok(pods)
 }
