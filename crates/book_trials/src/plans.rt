@@ -1,6 +1,6 @@
 //! The plans and the books of the trials.
 
-ghost use Rattle.std.specs.Prelude.{◌<◌, ◌^◌, All, IfOk, length};
+ghost use Rattle.std.specs.Prelude.{◌≡◌, ◌<◌, ◌^◌, All, IfOk, length};
 ghost use Rattle.net_conf.specs.WellFormed.{IsWellFormedList};
 ghost use Rattle.pod_file.specs.WellFormed.{IsWellFormedPods};
 ghost use Rattle.pod_workers.specs.Plans.{IsWellFormed};
@@ -73,7 +73,7 @@ pub(crate) fn plan_of(alloc: Global, list: &str, pods: &str) -> Result<Plan, Fai
 /// The kernel that begins with the opening of the plan.
 pub(crate) fn kernel_of(alloc: Global, plan: &Plan) -> Result<TableKernel, NoMemory>
     requires { IsWellFormed plan.now }
-    ensures { IfOk result (λ kernel. kernel.host ≡ plan.now.pods.opening) }
+    ensures { IfOk result (λ kernel. kernel ≡ plan.now.pods.opening) }
 {
     TableKernel::of_host(alloc, plan.pods.opening.copy()?)
 }

@@ -17,7 +17,6 @@ use Rattle.pod_workers.specs.Order.{IsDoneInFileOrder, IsInFileOrder, OneOutcome
 use Rattle.pod_workers.specs.World.{World, host_of}
 use Rattle.pod_workers.specs.declared.plan.Entry.{Entry}
 use Rattle.pod_workers.specs.declared.plan.Plan.{Plan}
-use Rattle.tool_words.specs.Words.{words_given}
 use Rattle.tool_words.specs.declared.source.Source.{Source}
 use Rattle.tool_words.specs.declared.source.Source.TheVariants.{Files, Generated}
 use Rattle.tool_words.specs.declared.words.Words.{Words}
