@@ -16,8 +16,6 @@ pub mod kinds;
 pub mod laws;
 pub mod leases;
 pub mod results;
-#[cfg(test)]
-mod tests;
 
 pub use conf::routes_of;
 pub use kinds::interface_kinds;

@@ -1,6 +1,6 @@
 -- What is printed of a world: one JSON object a line, for the commands in file order or for their numbers, for the
 -- history, and for the host.
-use Rattle.std.specs.Prelude.{ℕ, ◌+◌, Bool, true, List, [], ◌∷◌, ◌++◌, codes, Option, Some, None, if◌then◌else◌}
+use Rattle.std.specs.Prelude.{ℕ, ◌+◌, Bool, true, false, ◌||◌, List, [], ◌∷◌, ◌++◌, codes, Option, Some, None, if◌then◌else◌}
 use Rattle.std.specs.List.{flat_map}
 use Rattle.serde_json.specs.Data.{Data, boolean, object, Members, no_members, put}
 use Rattle.cni_json.specs.Json.{line_of}
@@ -94,6 +94,14 @@ where_asked asked lines = if asked then lines else []
 abbrev pub command_part : CommandPart → World → List ℕ
 command_part Lines w = command_lines w
 command_part Summary w = summary_line w
+
+abbrev pub is_summary : CommandPart → Bool
+is_summary Lines = false
+is_summary Summary = true
+
+-- some part tells of the host: its lines, or the number of its leases
+abbrev pub shows_host : Asked → Bool
+shows_host asked = asked.dump || is_summary asked.commands
 
 -- the part on the commands, then the history's lines and the host's where they are asked for
 unfoldable pub text_of : World → Asked → List ℕ

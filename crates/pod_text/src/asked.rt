@@ -9,8 +9,8 @@ pub enum CommandPart {
     Summary,
 }
 
-/// What the text of a book is to have. The parts come in this order.
-#[derive(Clone, Copy, Debug, PartialEq, Eq)]
+/// The parts that the text of a book is to have. They come in this order.
+#[derive(Drop)]
 pub struct Asked {
     pub commands: CommandPart,
     /// A line for each call of the history.

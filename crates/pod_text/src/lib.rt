@@ -7,7 +7,7 @@
 //!
 //! ```text
 //! let asked = Asked { commands: CommandPart::Lines, trace: true, dump: false };
-//! text(alloc, &book, asked)?       // {"n":1,"ok":true,"verb":"DEL"}
+//! text(alloc, &book, &asked)?      // {"n":1,"ok":true,"verb":"DEL"}
 //!                                  // {"call":"CacheGet","i":1,"n":1,"reply":"Entry none"} ..
 //! status(&book)                    // 0
 //! // with `CommandPart::Summary`   {"calls":1,"commands":1,"leases":0,"ok":1} ..

@@ -1,16 +1,16 @@
 //! The text of a book, part by part.
 
-ghost use Rattle.std.specs.Prelude.{◌≡◌, ◌++◌, OnOk, IfOk};
+ghost use Rattle.std.specs.Prelude.{◌≡◌, ◌++◌, false, OnOk, IfOk};
 ghost use Rattle.std.specs.List.{flat_map};
 ghost use Rattle.kernel_text.specs.Dump.{dump_of};
 ghost use Rattle.pod_workers.specs.World.{host_of};
-ghost use Rattle.pod_text.specs.Lines.{command_line, command_lines, command_part, entry_line, trace_from, trace_lines, where_asked, text_of};
+ghost use Rattle.pod_text.specs.Lines.{command_line, command_lines, command_part, entry_line, trace_from, trace_lines, where_asked, is_summary, shows_host, text_of};
 
 use crate::answers::answer_value;
 use crate::asked::{Asked, CommandPart};
 use crate::summary::push_summary;
 use cni_addr::{Items, NoMemory};
-use kernel_model::Kernel;
+use kernel_model::{Host, Kernel};
 use kernel_text::{push_dump, push_line, trace_value};
 use pod_file::Command;
 use pod_workers::{Book, Entry};
@@ -75,14 +75,16 @@ fn push_commands<K: Kernel + Drop>(
 fn push_command_part<K: Kernel + Drop>(
     alloc: Global,
     book: &Book<K>,
+    host: &Host,
     part: CommandPart,
     lines: &mut Vec<u8>,
 ) -> Result<(), NoMemory>
+    requires { host.now ≡ host_of book.now }
     ensures { OnOk result (lines.new.items ≡ lines.old.items ++ command_part part book.now) }
 {
     match part {
         CommandPart::Lines => push_commands(alloc, book, lines),
-        CommandPart::Summary => push_summary(alloc, book, lines),
+        CommandPart::Summary => push_summary(alloc, book, host, lines),
     }
 }
 
@@ -121,35 +123,92 @@ fn push_trace<K: Kernel + Drop>(
     push_entries(alloc, book.history(), lines)
 }
 
-fn push_host<K: Kernel + Drop>(
-    alloc: Global,
-    book: &Book<K>,
-    asked: bool,
-    lines: &mut Vec<u8>,
-) -> Result<(), NoMemory>
-    ensures { OnOk result (lines.new.items ≡ lines.old.items ++ where_asked asked (dump_of (host_of book.now))) }
+fn push_host(alloc: Global, host: &Host, asked: bool, lines: &mut Vec<u8>) -> Result<(), NoMemory>
+    ensures { OnOk result (lines.new.items ≡ lines.old.items ++ where_asked asked (dump_of host.now)) }
 {
     if !asked {
         return Ok(());
     }
+    push_dump(alloc, host, lines)
+}
+
+/// Whether some part tells of the host.
+fn shows_host(asked: &Asked) -> bool
+    ensures { result ≡ shows_host asked.now }
+{
+    asked.dump || is_summary(asked.commands)
+}
+
+fn is_summary(part: CommandPart) -> bool
+    ensures { result ≡ is_summary part }
+{
+    match part {
+        CommandPart::Lines => false,
+        CommandPart::Summary => true,
+    }
+}
+
+/// Appends each part, by the book's host.
+#[tactic(auto, unfolding(crate::specs::Lines::text_of))]
+fn push_parts<K: Kernel + Drop>(
+    alloc: Global,
+    book: &Book<K>,
+    host: &Host,
+    asked: &Asked,
+    lines: &mut Vec<u8>,
+) -> Result<(), NoMemory>
+    requires { host.now ≡ host_of book.now }
+    ensures { OnOk result (lines.new.items ≡ lines.old.items ++ text_of book.now asked.now) }
+{
+    push_command_part(alloc, book, host, asked.commands, lines)?;
+    push_trace(alloc, book, asked.trace, lines)?;
+    push_host(alloc, host, asked.dump, lines)?;
+    Ok(())
+}
+
+/// Appends each part, where none tells of the host.
+#[tactic(auto, using(crate::proofs::Parts::without_host))]
+fn push_without_host<K: Kernel + Drop>(
+    alloc: Global,
+    book: &Book<K>,
+    asked: &Asked,
+    lines: &mut Vec<u8>,
+) -> Result<(), NoMemory>
+    requires { shows_host asked.now ≡ false }
+    ensures { OnOk result (lines.new.items ≡ lines.old.items ++ text_of book.now asked.now) }
+{
+    push_commands(alloc, book, lines)?;
+    push_trace(alloc, book, asked.trace, lines)?;
+    Ok(())
+}
+
+/// Appends each part, by one copy of the book's host where some part tells of it.
+fn push_text<K: Kernel + Drop>(
+    alloc: Global,
+    book: &Book<K>,
+    asked: &Asked,
+    lines: &mut Vec<u8>,
+) -> Result<(), NoMemory>
+    ensures { OnOk result (lines.new.items ≡ lines.old.items ++ text_of book.now asked.now) }
+{
+    if !shows_host(asked) {
+        return push_without_host(alloc, book, asked, lines);
+    }
     let host = book.host()?;
-    push_dump(alloc, &host, lines)
+    push_parts(alloc, book, &host, asked, lines)
 }
 
 /// The text of the book: of the commands what is asked for; with `trace` a line for each call of the history; with
 /// `dump` a line for each object of the host. Memory that is refused leaves nothing. It takes time and memory in
-/// proportion to the text and the plan, and with the summary and with `dump` a copy of the host besides.
-#[tactic(auto, unfolding(crate::specs::Lines::text_of))]
+/// proportion to the text and the plan, and one copy of the host besides where the summary or `dump` is asked for.
 pub fn text<K: Kernel + Drop>(
     alloc: Global,
     book: &Book<K>,
-    asked: Asked,
+    asked: &Asked,
 ) -> Result<Vec<u8>, NoMemory>
-    ensures { IfOk result (λ bytes. bytes.items ≡ text_of book.now asked) }
+    ensures { IfOk result (λ bytes. bytes.items ≡ text_of book.now asked.now) }
 {
     let mut lines = Vec::new(alloc);
-    push_command_part(alloc, book, asked.commands, &mut lines)?;
-    push_trace(alloc, book, asked.trace, &mut lines)?;
-    push_host(alloc, book, asked.dump, &mut lines)?;
+    push_text(alloc, book, asked, &mut lines)?;
     Ok(lines)
 }

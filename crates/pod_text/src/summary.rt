@@ -11,33 +11,40 @@ ghost use Rattle.pod_workers.specs.World.{host_of};
 use cni_addr::NoMemory;
 use cni_errors::Answer;
 use cni_json::JsonObject;
-use kernel_model::Kernel;
+use kernel_model::{Host, Kernel};
 use kernel_text::push_line;
 use pod_workers::{Book, legal_worlds_meet_each_clause};
 use serde_json::Value;
 use std::alloc::Global;
 
-/// Appends the line of numbers.
+/// Appends the line of numbers, by the book's host.
 #[tactic(auto, using(crate::proofs::Whole::summary_is_whole))]
 pub(crate) fn push_summary<K: Kernel + Drop>(
     alloc: Global,
     book: &Book<K>,
+    host: &Host,
     lines: &mut Vec<u8>,
 ) -> Result<(), NoMemory>
+    requires { host.now ≡ host_of book.now }
     ensures { OnOk result (lines.new.items ≡ lines.old.items ++ summary_line book.now) }
 {
-    let value = summary_value(alloc, book)?;
+    let value = summary_value(alloc, book, host)?;
     push_line(alloc, &value, lines)
 }
 
 #[tactic(auto, using(crate::proofs::Whole::summary_is_whole), unfolding(crate::specs::Summary::summary_data))]
-fn summary_value<K: Kernel + Drop>(alloc: Global, book: &Book<K>) -> Result<Value, NoMemory>
+fn summary_value<K: Kernel + Drop>(
+    alloc: Global,
+    book: &Book<K>,
+    host: &Host,
+) -> Result<Value, NoMemory>
+    requires { host.now ≡ host_of book.now }
     ensures json { IfOk result (λ v. view v ≡ summary_data book.now) }
     ensures numbers { IfOk result (λ v. has_float (view v) ≡ false) }
 {
     let calls = book.history().len() as u64;
     let commands = command_count(book);
-    let leases = lease_count(book)?;
+    let leases = host.leases.as_slice().len() as u64;
     let done = done_count(book.answers());
     let mut object = JsonObject::new(alloc);
     object.put("calls", &calls)?;
@@ -54,13 +61,6 @@ fn command_count<K: Kernel + Drop>(book: &Book<K>) -> u64
     book.is_legal();
     legal_worlds_meet_each_clause();
     book.answers().len() as u64
-}
-
-fn lease_count<K: Kernel + Drop>(book: &Book<K>) -> Result<u64, NoMemory>
-    ensures { IfOk result (λ count. count ≡ length (host_of book.now).leases) }
-{
-    let host = book.host()?;
-    Ok(host.leases.as_slice().len() as u64)
 }
 
 #[tactic(auto, using(std::proofs::lemmas::List::Sums::count_by_more_yes, std::proofs::lemmas::List::Sums::count_by_more_no))]

@@ -1,4 +1,3 @@
 mod Counting
 mod Entered
-mod Formed
 mod Recent

@@ -30,6 +30,3 @@ mod workers;
 
 pub use gate::{Gate, OpenGate};
 pub use round::{Rounded, round_threads};
-
-#[cfg(test)]
-mod tests;

@@ -1,8 +1,7 @@
 -- How a run ends, from what it was to report, and what follows of it.
-use Rattle.std.proofs.Common.{◌≡◌, ◌≢◌, ◌∙◌, ℕ, zero, suc, List, [], ◌∷◌, ◌++◌, refl, sym, ap, subst, arith, inl, inr, Bool, true, false, cond, Option, Some, None, Result, Ok, Err, IfOk, IfSome, slice_get}
+use Rattle.std.proofs.Common.{◌≡◌, ◌≢◌, ◌∙◌, ℕ, zero, suc, List, [], ◌∷◌, ◌++◌, refl, sym, ap, subst, arith, inl, inr, Bool, true, cond, Option, Some, None, Result, Ok, Err, IfOk, IfSome, slice_get}
 use Rattle.std.specs.List.{list_any}
 use Rattle.std.proofs.lemmas.Option.{none-some, same_Some}
-use Rattle.cni_addr.specs.Lists.{IsAmong}
 use Rattle.cni_io.specs.Files.{StoredFiles}
 use Rattle.cni_errors.specs.declared.answer.Answer.{Answer}
 use Rattle.cni_errors.specs.declared.answer.Answer.TheVariants.{OutOfMemory}
@@ -18,16 +17,21 @@ use Rattle.pod_workers.specs.Order.{IsDoneInFileOrder, IsInFileOrder, OneOutcome
 use Rattle.pod_workers.specs.World.{World, host_of}
 use Rattle.pod_workers.specs.declared.plan.Entry.{Entry}
 use Rattle.pod_workers.specs.declared.plan.Plan.{Plan}
-use Rattle.tool_words.specs.Words.{words_given}
+use Rattle.tool_words.specs.declared.source.Source.{Source}
+use Rattle.tool_words.specs.declared.source.Source.TheVariants.{Files, Generated}
 use Rattle.tool_words.specs.declared.words.Words.{Words}
-use Rattle.tool_run.specs.Lines.{usage_line}
+use Rattle.tool_plan.specs.Causes.{ReachesFile, files_named}
+use Rattle.tool_plan.specs.Dues.{AreFiles, IsUnreadOf}
+use Rattle.tool_plan.specs.Lines.{usage_line}
+use Rattle.tool_plan.specs.Seen.{FilesSeen}
+use Rattle.tool_plan.specs.Verdict.{Verdict, carry, verdict_of}
+use Rattle.tool_plan.specs.declared.plan.NoPlan.{NoPlan}
+use Rattle.tool_plan.specs.declared.plan.NoPlan.TheVariants as no_plan
 use Rattle.tool_run.specs.Reports.{Reported, Reports, Settles}
-use Rattle.tool_run.specs.Seen.{FilesSeen, HasReadFailure, SinkSeen}
-use Rattle.tool_run.specs.Statuses.{AreFiles, EachStatusIsOfItsVerdict, Ends, IsCarriedOut, IsDetermined, IsReport, IsStatusOf, IsTextOf, IsUndisturbed, RefusedWordsAreReported, ReportsWorld, Wrote, cut_short, of_book, of_failed_read, of_refusal, of_usage, out_of_memory, reported}
-use Rattle.tool_run.specs.Verdict.{Verdict, asked_by, carry, verdict_if, verdict_of}
+use Rattle.tool_run.specs.Runs.{IsRunOf}
+use Rattle.tool_run.specs.Seen.{SinkSeen}
+use Rattle.tool_run.specs.Statuses.{Ends, HasReadAll, IsCarriedOut, IsDetermined, IsReport, IsUndisturbed, ReportsWorld, Wrote, cut_short, of_book, of_failed_read, of_refusal, of_usage, out_of_memory, reported}
 use Rattle.tool_run.specs.declared.carry.CarriedOut.{CarriedOut}
-use Rattle.tool_run.specs.declared.plan.NoPlan.{NoPlan}
-use Rattle.tool_run.specs.declared.plan.NoPlan.TheVariants as no_plan
 use Rattle.tool_run.specs.declared.top.Ended.{Ended}
 
 -- ---- from what was to be reported to how it ends
@@ -41,7 +45,7 @@ written words files sink status meant book bytes report how = elim how [
 ]
 
 pub ends : {K : Type 0} (words : List (List ℕ)) (files : FilesSeen) (sink : SinkSeen) (settled : Result (CarriedOut K) NoPlan) (o : Ended K) → Settles words files settled → Reported sink settled o → Ends words files sink o.status o.book
-ends words files sink (Ok made) o settles rep = written words files sink o.status (status_of made.book.answers) o.book made.text.items (λ s is. of_book made.book is rep.0 settles.0 settles.1) rep.1
+ends words files sink (Ok made) o settles rep = written words files sink o.status (status_of made.book.answers) o.book made.text.items (λ s is. of_book made.book settles.0 is rep.0 settles.1 settles.2) rep.1
 ends words files sink (Err no_plan.Usage) o settles rep = written words files sink o.status 2 o.book usage_line (λ s is. of_usage is rep.0 (record { not_taken = settles; says = refl })) rep.1
 ends words files sink (Err (no_plan.Line text)) o settles rep = written words files sink o.status 3 o.book text.items (λ s is. of_refusal is rep.0 settles) rep.1
 ends words files sink (Err (no_plan.Unread text)) o settles rep = written words files sink o.status 4 o.book text.items (λ s is. of_failed_read is rep.0 settles) rep.1
@@ -53,20 +57,37 @@ ordered sink (Err none) o rep kept = subst (λ (b : Option World). IfSome b IsIn
 
 -- ---- the book
 
-if_book : (words : List (List ℕ)) (files : FilesSeen) (status : ℕ) (book : Option World) (bytes : List ℕ) → IsReport words files status book bytes → IfSome book (IsCarriedOut words files)
-if_book words files status book bytes (of_usage st none given) = subst (λ (b : Option World). IfSome b (IsCarriedOut words files)) (sym none) tt
-if_book words files status book bytes (of_refusal st none refusal) = subst (λ (b : Option World). IfSome b (IsCarriedOut words files)) (sym none) tt
-if_book words files status book bytes (of_failed_read st none unread) = subst (λ (b : Option World). IfSome b (IsCarriedOut words files)) (sym none) tt
-if_book words files status book bytes (of_book b st some carried text) = subst (λ (x : Option World). IfSome x (IsCarriedOut words files)) (sym some) carried
+-- the book was carried out, and is to be printed in some way
+abbrev IsMade : List (List ℕ) → FilesSeen → World → Type 0
+IsMade words files book = (asked : Asked) × IsCarriedOut words files book asked
 
-pub if_carried : (words : List (List ℕ)) (files : FilesSeen) (sink : SinkSeen) (status : ℕ) (book : Option World) → Ends words files sink status book → IfSome book (IsCarriedOut words files)
-if_carried words files sink status book (reported bytes report wrote) = if_book words files status book bytes report
-if_carried words files sink status book (cut_short bytes meant report st fault front) = if_book words files meant book bytes report
-if_carried words files sink status book (out_of_memory st none nothing) = subst (λ (b : Option World). IfSome b (IsCarriedOut words files)) (sym none) tt
+if_book : (words : List (List ℕ)) (files : FilesSeen) (status : ℕ) (book : Option World) (bytes : List ℕ) → IsReport words files status book bytes → IfSome book (IsMade words files)
+if_book words files status book bytes (of_usage st none given) = subst (λ (b : Option World). IfSome b (IsMade words files)) (sym none) tt
+if_book words files status book bytes (of_refusal st none refusal) = subst (λ (b : Option World). IfSome b (IsMade words files)) (sym none) tt
+if_book words files status book bytes (of_failed_read st none unread) = subst (λ (b : Option World). IfSome b (IsMade words files)) (sym none) tt
+if_book words files status book bytes (of_book b asked st some carried text) = subst (λ (x : Option World). IfSome x (IsMade words files)) (sym some) (asked, carried)
 
-pub guaranteed : (words : List (List ℕ)) (files : FilesSeen) (sink : SinkSeen) (status : ℕ) (book : Option World) → EveryLegalHistoryIsGuaranteed → Ends words files sink status book → IfSome book IsGuaranteed
+if_made : (words : List (List ℕ)) (files : FilesSeen) (sink : SinkSeen) (status : ℕ) (book : Option World) → Ends words files sink status book → IfSome book (IsMade words files)
+if_made words files sink status book (reported bytes report wrote) = if_book words files status book bytes report
+if_made words files sink status book (cut_short bytes meant report st fault front) = if_book words files meant book bytes report
+if_made words files sink status book (out_of_memory st none nothing) = subst (λ (b : Option World). IfSome b (IsMade words files)) (sym none) tt
+
+guaranteed : (words : List (List ℕ)) (files : FilesSeen) (sink : SinkSeen) (status : ℕ) (book : Option World) → EveryLegalHistoryIsGuaranteed → Ends words files sink status book → IfSome book IsGuaranteed
 guaranteed words files sink status None law how = tt
-guaranteed words files sink status (Some b) law how = law b (if_carried words files sink status (Some b) how).legal
+guaranteed words files sink status (Some b) law how = law b (if_made words files sink status (Some b) how).1.legal
+
+-- ---- a read that failed
+
+-- where no file is named, reading gets to none
+reaches_none : (files : Option StoredFiles) (source : Source) (file : List ℕ) → files_named source ≡ [] → ReachesFile files source file → ⊥
+reaches_none files (Files named) file none at = cc
+reaches_none files (Generated count stop_at) file none at = at
+
+pub has_not_read : (words : List (List ℕ)) (files : FilesSeen) (bytes : List ℕ) → IsUnreadOf words files bytes → HasReadAll words files → ⊥
+has_not_read words files bytes un (inl none) =
+    let named = ap (λ (w : Words). files_named w.source) (same_Some un.by none.0 (sym un.words_are ∙ none.1)) ∙ none.2 in
+    reaches_none files.stored un.by.source un.unread.file named un.unread.reached
+has_not_read words files bytes un (inr calm) = calm un.unread.rose
 
 -- ---- one outcome
 
@@ -99,75 +120,58 @@ plan_or : Plan → Verdict → Plan
 plan_or p (carry q asked) = q
 plan_or p v = p
 
-one_plan : (p q : Plan) (a b : Asked) (v : Verdict) → v ≡ carry p a → v ≡ carry q b → p ≡ q
+asked_or : Asked → Verdict → Asked
+asked_or a (carry p asked) = asked
+asked_or a v = a
+
+pub one_plan : (p q : Plan) (a b : Asked) (v : Verdict) → v ≡ carry p a → v ≡ carry q b → p ≡ q
 unfolding plan_or
 one_plan p q a b v is also = ap (plan_or p) (sym is ∙ also)
 
--- the text of the world is the one that was written
-same_text : (words : List (List ℕ)) (v w : World) (bytes other : List ℕ) → v.plan ≡ w.plan → v.history ≡ w.history → v.answers ≡ w.answers → IsTextOf words v bytes → IsTextOf words w other → bytes ≡ other
-same_text words v w bytes other plan history answers one two =
-    let by = same_Some one.by two.by (sym one.words_are ∙ two.words_are) in
-    one.text ∙ ap (λ (b : Words). text_of v (asked_by b)) by ∙ text-same v w (asked_by two.by) plan history answers ∙ sym two.text
+one_asked : (p q : Plan) (a b : Asked) (v : Verdict) → v ≡ carry p a → v ≡ carry q b → a ≡ b
+unfolding asked_or
+one_asked p q a b v is also = ap (asked_or a) (sym is ∙ also)
 
-of-world : OneOutcome → (words : List (List ℕ)) (files : FilesSeen) (sink : SinkSeen) (status : ℕ) (stored : StoredFiles) → AreFiles words files stored → IsUndisturbed files sink status
-    → (b w : World) (bytes : List ℕ) → status ≡ status_of b.answers → IsCarriedOut words files b → IsInFileOrder b → IsTextOf words b bytes → Wrote sink bytes
-    → IsCarriedOut words files w → IsDoneInFileOrder w → ReportsWorld words sink status w
-of-world law words files sink status stored told calm b w bytes st carried order text wrote comes done =
-    let plan = one_plan b.plan w.plan _ _ (verdict_of words stored) (carried.plan stored told) (comes.plan stored told) in
-    let mine : IsDoneInFileOrder b = record {
+of-world : OneOutcome → (words : List (List ℕ)) (files : FilesSeen) (sink : SinkSeen) (status : ℕ) (stored : StoredFiles) → AreFiles words files stored → IsUndisturbed words files sink status
+    → (b w : World) (asks asked : Asked) (bytes : List ℕ) → status ≡ status_of b.answers → IsCarriedOut words files b asks → IsInFileOrder b → bytes ≡ text_of b asks → Wrote sink bytes
+    → IsCarriedOut words files w asked → IsDoneInFileOrder w → ReportsWorld sink status w asked
+of-world law words files sink status stored told calm b w asks asked bytes st carried order text wrote comes done =
+    let mine = carried.comes stored told in
+    let other = comes.comes stored told in
+    let plan = one_plan b.plan w.plan _ _ (verdict_of words stored) mine other in
+    let also = one_asked b.plan w.plan asks asked (verdict_of words stored) mine other in
+    let by_order : IsDoneInFileOrder b = record {
       legal = carried.legal;
       in_file_order = order;
       ended = carried.over;
       had_memory = had_memory b.answers (λ eight. calm.memory_of_commands (st ∙ eight));
     } in
-    let same = law b w plan mine done in
+    let same = law b w plan by_order done in
     record {
       status_is = st ∙ ap status_of same.1;
-      text = λ other is. subst (Wrote sink) (same_text words b w bytes other plan same.0 same.1 text is) wrote;
+      text = subst (Wrote sink) (text ∙ ap (text_of b) also ∙ text-same b w asked plan same.0 same.1) wrote;
     }
 
-of-report : OneOutcome → (words : List (List ℕ)) (files : FilesSeen) (sink : SinkSeen) (status : ℕ) (book : Option World) (bytes : List ℕ) (stored : StoredFiles) → AreFiles words files stored → IsUndisturbed files sink status
-    → IfSome book IsInFileOrder → IsReport words files status book bytes → Wrote sink bytes → (w : World) → IsCarriedOut words files w → IsDoneInFileOrder w → ReportsWorld words sink status w
-of-report law words files sink status book bytes stored told calm order (of_usage st none given) wrote w comes done = absurd (none-some comes.by (sym given.not_taken ∙ comes.words_are))
-of-report law words files sink status book bytes stored told calm order (of_refusal st none refusal) wrote w comes done = let is = sym (refusal.comes stored told) ∙ comes.plan stored told in cc
-of-report law words files sink status book bytes stored told calm order (of_failed_read st none unread) wrote w comes done = absurd (calm.reads unread.unread.rose)
-of-report law words files sink status book bytes stored told calm order (of_book b st some carried text) wrote w comes done =
-    of-world law words files sink status stored told calm b w bytes st carried (subst (λ (x : Option World). IfSome x IsInFileOrder) some order) text wrote comes done
+of-report : OneOutcome → (words : List (List ℕ)) (files : FilesSeen) (sink : SinkSeen) (status : ℕ) (book : Option World) (bytes : List ℕ) (stored : StoredFiles) → AreFiles words files stored → IsUndisturbed words files sink status
+    → IfSome book IsInFileOrder → IsReport words files status book bytes → Wrote sink bytes → (w : World) (asked : Asked) → IsCarriedOut words files w asked → IsDoneInFileOrder w → ReportsWorld sink status w asked
+of-report law words files sink status book bytes stored told calm order (of_usage st none given) wrote w asked comes done = absurd (none-some comes.by (sym given.not_taken ∙ comes.words_are))
+of-report law words files sink status book bytes stored told calm order (of_refusal st none refusal) wrote w asked comes done = let is = sym (refusal.comes stored told) ∙ comes.comes stored told in cc
+of-report law words files sink status book bytes stored told calm order (of_failed_read st none unread) wrote w asked comes done = absurd (has_not_read words files bytes unread calm.reads)
+of-report law words files sink status book bytes stored told calm order (of_book b asks st some carried text) wrote w asked comes done =
+    of-world law words files sink status stored told calm b w asks asked bytes st carried (subst (λ (x : Option World). IfSome x IsInFileOrder) some order) text wrote comes done
 
-pub determined : (words : List (List ℕ)) (files : FilesSeen) (sink : SinkSeen) (status : ℕ) (book : Option World) → OneOutcome → IfSome book IsInFileOrder → Ends words files sink status book → IsDetermined words files sink status
+determined : (words : List (List ℕ)) (files : FilesSeen) (sink : SinkSeen) (status : ℕ) (book : Option World) → OneOutcome → IfSome book IsInFileOrder → Ends words files sink status book → IsDetermined words files sink status
 determined words files sink status book law order (reported bytes report wrote) = λ stored told calm. of-report law words files sink status book bytes stored told calm order report wrote
 determined words files sink status book law order (cut_short bytes meant report st fault front) = λ stored told calm. absurd (calm.writes fault)
 determined words files sink status book law order (out_of_memory st none nothing) = λ stored told calm. absurd (calm.memory st)
 
--- ---- laws
+-- ---- the run
 
-status_is : (answers : List (Option Answer)) → IsAmong {X = ℕ} (status_of answers) (0 ∷ 1 ∷ 8 ∷ [])
-status_is answers = go (list_any is_out_of_memory answers) (list_any is_failure answers)
-  where
-    go : (m f : Bool) → IsAmong {X = ℕ} (cond m 8 (cond f 1 0)) (0 ∷ 1 ∷ 8 ∷ [])
-    go true f = inr (inr (inl refl))
-    go false true = inr (inl refl)
-    go false false = inl refl
-
-report_status : (words : List (List ℕ)) (files : FilesSeen) (status : ℕ) (book : Option World) (bytes : List ℕ) (stored : StoredFiles) → AreFiles words files stored → (HasReadFailure files → ⊥) → IsReport words files status book bytes → IsStatusOf (verdict_of words stored) status
-report_status words files status book bytes stored told reads (of_usage st none given) = subst (λ (v : Verdict). IsStatusOf v status) (sym (ap (λ (o : Option Words). verdict_if o stored) given.not_taken)) st
-report_status words files status book bytes stored told reads (of_refusal st none refusal) = subst (λ (v : Verdict). IsStatusOf v status) (sym (refusal.comes stored told)) st
-report_status words files status book bytes stored told reads (of_failed_read st none unread) = absurd (reads unread.unread.rose)
-report_status words files status book bytes stored told reads (of_book b st some carried text) =
-    subst (λ (v : Verdict). IsStatusOf v status) (sym (carried.plan stored told)) (subst (λ (s : ℕ). IsAmong s (0 ∷ 1 ∷ 8 ∷ [])) (sym st) (status_is b.answers))
-
-pub each_status_is_of_its_verdict : EachStatusIsOfItsVerdict
-each_status_is_of_its_verdict words files sink status book (reported bytes report wrote) stored told reads writes = inl (report_status words files status book bytes stored told reads report)
-each_status_is_of_its_verdict words files sink status book (cut_short bytes meant report st fault front) stored told reads writes = absurd (writes fault)
-each_status_is_of_its_verdict words files sink status book (out_of_memory st none nothing) stored told reads writes = inr st
-
-taken : (words : List (List ℕ)) (by : Words) → words_given words ≡ Some by → words_given words ≡ None → ⊥
-taken words by is none = none-some by (sym none ∙ is)
-
-pub refused_words_are_reported : RefusedWordsAreReported
-refused_words_are_reported words files sink status book (reported bytes (of_usage st none given) wrote) refused = inl st
-refused_words_are_reported words files sink status book (reported bytes (of_refusal st none refusal) wrote) refused = absurd (taken words refusal.by refusal.words_are refused)
-refused_words_are_reported words files sink status book (reported bytes (of_failed_read st none unread) wrote) refused = absurd (taken words unread.by unread.words_are refused)
-refused_words_are_reported words files sink status book (reported bytes (of_book b st some carried text) wrote) refused = absurd (taken words carried.by carried.words_are refused)
-refused_words_are_reported words files sink status book (cut_short bytes meant report st fault front) refused = inr (inl st)
-refused_words_are_reported words files sink status book (out_of_memory st none nothing) refused = inr (inr (inl st))
+pub is_run : (words : List (List ℕ)) (files : FilesSeen) (sink : SinkSeen) (OneThread : Type 0) (status : ℕ) (book : Option World) → EveryLegalHistoryIsGuaranteed → OneOutcome
+    → (OneThread → IfSome book IsInFileOrder) → Ends words files sink status book → IsRunOf words files sink OneThread status book
+is_run words files sink OneThread status book law one order how = record {
+  ends = how;
+  guaranteed = guaranteed words files sink status book law how;
+  order = order;
+  determined = λ alone. determined words files sink status book one (order alone) how;
+}

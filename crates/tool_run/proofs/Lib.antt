@@ -1,7 +1,3 @@
-mod Dues
+mod Carried
 mod Endings
-mod GeneratedPlans
-mod Joined
-mod Lists
-mod Stopping
-mod Whole
+mod Verdicts

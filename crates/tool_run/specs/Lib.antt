@@ -1,7 +1,5 @@
-pub mod Causes
-pub mod Lines
-pub mod Refusals
+pub mod Laws
 pub mod Reports
+pub mod Runs
 pub mod Seen
 pub mod Statuses
-pub mod Verdict

@@ -1,50 +1,33 @@
 -- What is to be reported, and how a report ends.
-use Rattle.std.specs.Prelude.{◌≡◌, ◌≤◌, ◌⊎◌, ℕ, List, length, Some, None, Result, Ok, Err, ⊤}
+use Rattle.std.specs.Prelude.{◌≡◌, ◌≤◌, ◌⊎◌, ℕ, List, length, Some, None, Result, Ok, Err}
 use Rattle.pod_text.specs.Lines.{text_of}
 use Rattle.pod_text.specs.Statuses.{status_of}
+use Rattle.pod_text.specs.declared.asked.Asked.{Asked}
 use Rattle.pod_workers.specs.Legal.{Legal}
-use Rattle.pod_workers.specs.Plans.{IsWellFormed}
-use Rattle.tool_words.specs.Words.{IsWithinLimits, words_given}
-use Rattle.tool_run.specs.Lines.{usage_line}
-use Rattle.tool_run.specs.Seen.{FilesSeen, HasWriteFailure, SinkSeen}
-use Rattle.tool_run.specs.Statuses.{ComesTo, IsCarriedOut, IsRefusal, IsTextOf, IsUnreadOf, Wrote, WrotePrefix, WroteNothing}
-use Rattle.tool_run.specs.Verdict.{asked_by, carry}
+use Rattle.tool_plan.specs.Dues.{ComesToNoPlan}
+use Rattle.tool_plan.specs.Lines.{usage_line}
+use Rattle.tool_plan.specs.Seen.{FilesSeen}
+use Rattle.tool_plan.specs.declared.due.Due.{Due}
+use Rattle.tool_plan.specs.declared.plan.NoPlan.{NoPlan}
+use Rattle.tool_plan.specs.declared.plan.NoPlan.TheVariants.{Usage, Line, Unread, NoMemory}
+use Rattle.tool_run.specs.Seen.{HasWriteFailure, SinkSeen}
+use Rattle.tool_run.specs.Statuses.{IsCarriedOut, Wrote, WrotePrefix, WroteNothing}
 use Rattle.tool_run.specs.declared.carry.CarriedOut.{CarriedOut}
-use Rattle.tool_run.specs.declared.due.Due.{Due}
-use Rattle.tool_run.specs.declared.plan.NoPlan.{NoPlan}
-use Rattle.tool_run.specs.declared.plan.NoPlan.TheVariants.{Usage, Line, Unread, NoMemory}
 use Rattle.tool_run.specs.declared.top.Ended.{Ended}
 
 -- ---- before it is reported
-
--- the words are taken, and words and files come to this plan
-pub record IsDueOf (words : List (List ℕ)) (files : FilesSeen) (due : Due) : Type 0 where
-  pub words_are : words_given words ≡ Some due.words
-  pub comes : ComesTo words files (carry due.plan (asked_by due.words))
-  pub well_formed : IsWellFormed due.plan
-  pub limits : IsWithinLimits due.words
-
--- words and files come to no plan, for this cause
-abbrev pub ComesToNoPlan : List (List ℕ) → FilesSeen → NoPlan → Type 0
-ComesToNoPlan words files Usage = words_given words ≡ None
-ComesToNoPlan words files (Line text) = IsRefusal words files text.items
-ComesToNoPlan words files (Unread text) = IsUnreadOf words files text.items
-ComesToNoPlan words files NoMemory = ⊤
-
-abbrev pub ComesToDue : List (List ℕ) → FilesSeen → Result Due NoPlan → Type 0
-ComesToDue words files (Ok due) = IsDueOf words files due
-ComesToDue words files (Err none) = ComesToNoPlan words files none
 
 -- the plan that is due was carried out, and this is its text
 pub record CarriesOut {K : Type 0} (due : Due) (made : CarriedOut K) : Type 0 where
   pub plan : made.book.plan ≡ due.plan
   pub over : length made.book.plan.pods.rounds ≤ made.book.round
   pub legal : Legal made.book
-  pub text : made.text.items ≡ text_of made.book (asked_by due.words)
+  pub text : made.text.items ≡ text_of made.book due.asked
 
 -- what a run is to report, or why there is no plan
 abbrev pub Settles : {K : Type 0} → List (List ℕ) → FilesSeen → Result (CarriedOut K) NoPlan → Type 0
-Settles words files (Ok made) = IsCarriedOut words files made.book × IsTextOf words made.book made.text.items
+Settles words files (Ok made) =
+    (asked : Asked) × IsCarriedOut words files made.book asked × (made.text.items ≡ text_of made.book asked)
 Settles words files (Err none) = ComesToNoPlan words files none
 
 -- ---- once it is reported

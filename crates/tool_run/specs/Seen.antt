@@ -1,18 +1,6 @@
--- What a run sees of its files and of its sink.
+-- What a run sees of its sink.
 use Rattle.std.specs.Prelude.{ℕ, List, Option}
 use Rattle.cni_io.specs.Failures.{Rose}
-use Rattle.cni_io.specs.Files.{StoredFiles}
-
--- the files, where they are told, and the count of their failures before the run and now
-pub record FilesSeen : Type 0 where
-  pub stored : Option StoredFiles
-  pub failures_before : ℕ
-  pub failures_now : ℕ
-
-abbrev pub files_seen : {F : Type 0} → (stored : F → Option StoredFiles) → (failures : F → ℕ) → (old new : F)
-    → FilesSeen
-files_seen stored failures old new =
-    record { stored = stored old; failures_before = failures old; failures_now = failures new }
 
 -- the bytes written, where they are told, and the count of the sink's failures, each before the run and now
 pub record SinkSeen : Type 0 where
@@ -28,10 +16,6 @@ sink_seen written failures old new = record {
   failures_before = failures old;
   failures_now = failures new;
 }
-
--- a read failed
-abbrev pub HasReadFailure : FilesSeen → Type 0
-HasReadFailure files = Rose files.failures_before files.failures_now
 
 -- a write failed
 abbrev pub HasWriteFailure : SinkSeen → Type 0

@@ -1,19 +1,20 @@
 -- How a run ends: what is written, with which status, and why.
-use Rattle.std.specs.Prelude.{◌≡◌, ◌≢◌, ◌≤◌, ◌⊎◌, ℕ, List, [], ◌∷◌, length, take, Option, Some, None}
+use Rattle.std.specs.Prelude.{◌≡◌, ◌≢◌, ◌≤◌, ◌⊎◌, ℕ, List, length, take, Option, Some, None}
 use Rattle.std.specs.Io.KnownBytes.{append_known}
-use Rattle.cni_addr.specs.Lists.{IsAmong}
 use Rattle.cni_io.specs.Files.{StoredFiles}
 use Rattle.pod_text.specs.Lines.{text_of}
 use Rattle.pod_text.specs.Statuses.{status_of}
+use Rattle.pod_text.specs.declared.asked.Asked.{Asked}
 use Rattle.pod_workers.specs.Legal.{Legal}
 use Rattle.pod_workers.specs.Order.{IsDoneInFileOrder}
 use Rattle.pod_workers.specs.World.{World}
 use Rattle.tool_words.specs.Words.{words_given}
 use Rattle.tool_words.specs.declared.words.Words.{Words}
-use Rattle.tool_run.specs.Causes.{IsUnread, ReachesFile, files_named}
-use Rattle.tool_run.specs.Lines.{usage_line}
-use Rattle.tool_run.specs.Seen.{FilesSeen, HasReadFailure, HasWriteFailure, SinkSeen}
-use Rattle.tool_run.specs.Verdict.{Verdict, usage, line, carry, asked_by, verdict_of}
+use Rattle.tool_plan.specs.Dues.{AreFiles, ComesTo, IsRefusal, IsUnreadOf, NameNoFile}
+use Rattle.tool_plan.specs.Lines.{usage_line}
+use Rattle.tool_plan.specs.Seen.{FilesSeen, HasReadFailure}
+use Rattle.tool_plan.specs.Verdict.{IsAskedBy, carry}
+use Rattle.tool_run.specs.Seen.{HasWriteFailure, SinkSeen}
 
 -- ---- what is written
 
@@ -32,48 +33,20 @@ WrotePrefix sink bytes = (n : ℕ) × Wrote sink (take n bytes)
 
 -- ---- what is reported
 
--- the words are taken, and name no file, since they ask for generated pods
-abbrev pub NameNoFile : List (List ℕ) → Type 0
-NameNoFile words = (by : Words) × (words_given words ≡ Some by) × (files_named by ≡ [])
-
--- these are the files, as far as the words name any: they are told, or the words name none
-abbrev pub AreFiles : List (List ℕ) → FilesSeen → StoredFiles → Type 0
-AreFiles words files stored = (files.stored ≡ Some stored) ⊎ NameNoFile words
-
--- with any such files, the words come to this
-abbrev pub ComesTo : List (List ℕ) → FilesSeen → Verdict → Type 0
-ComesTo words files verdict = (stored : StoredFiles) → AreFiles words files stored → verdict_of words stored ≡ verdict
-
 -- the words aren't taken, and this is the line that says so
 pub record IsUsage (words : List (List ℕ)) (bytes : List ℕ) : Type 0 where
   pub not_taken : words_given words ≡ None
   pub says : bytes ≡ usage_line
 
--- words and files come to this line, which says what is refused
-pub record IsRefusal (words : List (List ℕ)) (files : FilesSeen) (bytes : List ℕ) : Type 0 where
+-- A legal book of the plan that the words and the files come to, with every round over, and what is printed of it: what
+-- they come to besides, as the words ask.
+pub record IsCarriedOut (words : List (List ℕ)) (files : FilesSeen) (book : World) (asked : Asked) : Type 0 where
   pub by : Words
   pub words_are : words_given words ≡ Some by
-  pub comes : ComesTo words files (line bytes)
-
--- a read failed, and the line names a file of the words, to which reading gets
-pub record IsUnreadOf (words : List (List ℕ)) (files : FilesSeen) (bytes : List ℕ) : Type 0 where
-  pub by : Words
-  pub words_are : words_given words ≡ Some by
-  pub unread : IsUnread (ReachesFile files.stored by.source by.lists) files.failures_before files.failures_now bytes
-
--- a legal book of the plan that the words and the files come to, with every round over
-pub record IsCarriedOut (words : List (List ℕ)) (files : FilesSeen) (book : World) : Type 0 where
-  pub by : Words
-  pub words_are : words_given words ≡ Some by
-  pub plan : ComesTo words files (carry book.plan (asked_by by))
+  pub comes : ComesTo words files (carry book.plan asked)
+  pub asked_is : IsAskedBy by asked
   pub over : length book.plan.pods.rounds ≤ book.round
   pub legal : Legal book
-
--- the whole text of the book, with all that the words ask for
-pub record IsTextOf (words : List (List ℕ)) (book : World) (bytes : List ℕ) : Type 0 where
-  pub by : Words
-  pub words_are : words_given words ≡ Some by
-  pub text : bytes ≡ text_of book (asked_by by)
 
 -- what a run reports: these bytes with this status, of this book if there is one
 pub data IsReport (words : List (List ℕ)) (files : FilesSeen) (status : ℕ) (book : Option World)
@@ -81,8 +54,8 @@ pub data IsReport (words : List (List ℕ)) (files : FilesSeen) (status : ℕ) (
   of_usage : status ≡ 2 → book ≡ None → IsUsage words bytes → IsReport words files status book bytes
   of_refusal : status ≡ 3 → book ≡ None → IsRefusal words files bytes → IsReport words files status book bytes
   of_failed_read : status ≡ 4 → book ≡ None → IsUnreadOf words files bytes → IsReport words files status book bytes
-  of_book : (b : World) → status ≡ status_of b.answers → book ≡ Some b → IsCarriedOut words files b
-      → IsTextOf words b bytes → IsReport words files status book bytes
+  of_book : (b : World) (asked : Asked) → status ≡ status_of b.answers → book ≡ Some b
+      → IsCarriedOut words files b asked → bytes ≡ text_of b asked → IsReport words files status book bytes
 
 -- ---- how a run ends
 
@@ -96,51 +69,28 @@ pub data Ends (words : List (List ℕ)) (files : FilesSeen) (sink : SinkSeen) (s
       → WrotePrefix sink bytes → Ends words files sink status book
   out_of_memory : status ≡ 6 → book ≡ None → WroteNothing sink → Ends words files sink status book
 
--- the words are taken, and ask for one thread
-abbrev pub AskForOneThread : List (List ℕ) → Type 0
-AskForOneThread words = (by : Words) × (words_given words ≡ Some by) × (by.threads ≡ 1)
-
 -- ---- a function of words and files
 
+-- no read failed; of words that name no file, for which none is read, this isn't asked
+abbrev pub HasReadAll : List (List ℕ) → FilesSeen → Type 0
+HasReadAll words files = NameNoFile words ⊎ (HasReadFailure files → ⊥)
+
 -- no read and no write failed, and memory was refused neither to the run (6) nor to a command (8)
-pub record IsUndisturbed (files : FilesSeen) (sink : SinkSeen) (status : ℕ) : Type 0 where
-  pub reads : HasReadFailure files → ⊥
+pub record IsUndisturbed (words : List (List ℕ)) (files : FilesSeen) (sink : SinkSeen) (status : ℕ) : Type 0 where
+  pub reads : HasReadAll words files
   pub writes : HasWriteFailure sink → ⊥
   pub memory : status ≢ 6
   pub memory_of_commands : status ≢ 8
 
 -- this status, and what was written, are those of the world
-pub record ReportsWorld (words : List (List ℕ)) (sink : SinkSeen) (status : ℕ) (w : World) : Type 0 where
+pub record ReportsWorld (sink : SinkSeen) (status : ℕ) (w : World) (asked : Asked) : Type 0 where
   pub status_is : status ≡ status_of w.answers
-  pub text : (bytes : List ℕ) → IsTextOf words w bytes → Wrote sink bytes
+  pub text : Wrote sink (text_of w asked)
 
 -- Where the files are told or none is named, an undisturbed run has the status, and wrote the text, of every world that
 -- the words and the files come to in which every round is over, the commands went in the order of the file, and none
 -- ran out of memory. So words and files alone determine both.
 abbrev pub IsDetermined : List (List ℕ) → FilesSeen → SinkSeen → ℕ → Type 0
 IsDetermined words files sink status = (stored : StoredFiles) → AreFiles words files stored
-    → IsUndisturbed files sink status → (w : World) → IsCarriedOut words files w → IsDoneInFileOrder w
-    → ReportsWorld words sink status w
-
--- ---- laws
-
--- a status that a run may have where words and files come to this
-abbrev pub IsStatusOf : Verdict → ℕ → Type 0
-IsStatusOf usage status = status ≡ 2
-IsStatusOf (line bytes) status = status ≡ 3
-IsStatusOf (carry plan asked) status = IsAmong status (0 ∷ 1 ∷ 8 ∷ [])
-
--- where the files are told or none is named, and neither count of failures rose, the status is one of those for what
--- words and files come to, or 6
-abbrev pub EachStatusIsOfItsVerdict : Type 0
-EachStatusIsOfItsVerdict = (words : List (List ℕ)) (files : FilesSeen) (sink : SinkSeen) (status : ℕ)
-    (book : Option World) → Ends words files sink status book
-    → (stored : StoredFiles) → AreFiles words files stored → (HasReadFailure files → ⊥) → (HasWriteFailure sink → ⊥)
-    → IsStatusOf (verdict_of words stored) status ⊎ (status ≡ 6)
-
--- a run whose words aren't taken says so, unless the sink gave up or memory ran out
-abbrev pub RefusedWordsAreReported : Type 0
-RefusedWordsAreReported =
-    (words : List (List ℕ)) (files : FilesSeen) (sink : SinkSeen) (status : ℕ) (book : Option World)
-    → Ends words files sink status book
-    → words_given words ≡ None → IsAmong status (2 ∷ 5 ∷ 6 ∷ [])
+    → IsUndisturbed words files sink status → (w : World) (asked : Asked) → IsCarriedOut words files w asked
+    → IsDoneInFileOrder w → ReportsWorld sink status w asked

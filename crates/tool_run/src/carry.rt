@@ -6,20 +6,18 @@ ghost use Rattle.pod_workers.specs.Legal.{Legal};
 ghost use Rattle.pod_workers.specs.Order.{IsInFileOrder};
 ghost use Rattle.pod_workers.specs.Plans.{IsWellFormed};
 ghost use Rattle.tool_run.specs.Reports.{CarriesOut};
-ghost use Rattle.tool_run.specs.Verdict.{asked_by};
 
-use crate::due::Due;
 use crate::kernel::{FromHost, begin};
 use crate::rounds::make_round;
 use cni_addr::NoMemory;
 use kernel_model::Kernel;
-use pod_text::{Asked, CommandPart, text};
+use pod_text::{Asked, text};
 use pod_threads::Gate;
 use pod_workers::Book;
 use std::alloc::Global;
 use std::sync::Wait;
 use std::thread::Threads;
-use tool_words::{Source, Words};
+use tool_plan::Due;
 
 /// A plan that was carried out: its book, and the whole text of it.
 #[derive(Drop)]
@@ -28,8 +26,8 @@ pub(crate) struct CarriedOut<K: Kernel + Drop> {
     pub(crate) text: Vec<u8>,
 }
 
-/// Carries out the plan, each round by at most as many threads as the words ask for.
-#[tactic(auto, using(crate::proofs::Dues::carries_out, crate::proofs::Dues::in_order))]
+/// Carries out the plan, each round by at most as many threads as are due.
+#[tactic(auto, using(crate::proofs::Carried::carries_out, crate::proofs::Carried::in_order))]
 pub(crate) fn carry_out<K: FromHost + Send + Drop, R: Threads + Wait + Sync, G: Gate>(
     rt: &R,
     alloc: Global,
@@ -37,20 +35,24 @@ pub(crate) fn carry_out<K: FromHost + Send + Drop, R: Threads + Wait + Sync, G: 
     gate: &G,
 ) -> Result<CarriedOut<K>, NoMemory>
     requires well_formed { IsWellFormed due.plan }
-    requires some { 1 ≤ due.words.threads }
+    requires some { 1 ≤ due.threads }
     ensures made { IfOk result (CarriesOut due) }
-    ensures order { due.words.threads ≡ 1 → IfOk result (λ made. IsInFileOrder made.book) }
+    ensures order { due.threads ≡ 1 → IfOk result (λ made. IsInFileOrder made.book) }
 {
-    let Due { words, plan } = due;
+    let Due {
+        threads,
+        plan,
+        asked,
+    } = due;
     let mut book: Book<K> = begin(alloc, plan)?;
     while !book.ended() {
-        book = make_round(rt, alloc, book, words.threads, gate);
+        book = make_round(rt, alloc, book, threads, gate);
     }
-    print(alloc, book, &words)
+    print(alloc, book, &asked)
 }
 
 /// Carries out the plan on the calling thread.
-#[tactic(auto, using(crate::proofs::Dues::carries_out, crate::proofs::Dues::in_order))]
+#[tactic(auto, using(crate::proofs::Carried::carries_out, crate::proofs::Carried::in_order))]
 pub(crate) fn carry_out_alone<K: FromHost + Drop>(
     alloc: Global,
     due: Due,
@@ -59,39 +61,29 @@ pub(crate) fn carry_out_alone<K: FromHost + Drop>(
     ensures made { IfOk result (CarriesOut due) }
     ensures order { IfOk result (λ made. IsInFileOrder made.book) }
 {
-    let Due { words, plan } = due;
+    let Due {
+        threads: _,
+        plan,
+        asked,
+    } = due;
     let mut book: Book<K> = begin(alloc, plan)?;
     while !book.ended() {
         book.round_alone();
     }
-    print(alloc, book, &words)
+    print(alloc, book, &asked)
 }
 
-/// The book with its text, as the words ask for it.
+/// The book with its text.
 fn print<K: Kernel + Drop>(
     alloc: Global,
     book: Book<K>,
-    words: &Words,
+    asked: &Asked,
 ) -> Result<CarriedOut<K>, NoMemory>
     ensures book { IfOk result (λ made. made.book ≡ book) }
     ensures legal { Legal book }
-    ensures text { IfOk result (λ made. made.text.items ≡ text_of book (asked_by words.now)) }
+    ensures text { IfOk result (λ made. made.text.items ≡ text_of book asked.now) }
 {
     book.is_legal();
-    let text = text(alloc, &book, asked_by(words))?;
+    let text = text(alloc, &book, asked)?;
     Ok(CarriedOut { book, text })
-}
-
-/// What the words ask to be printed.
-fn asked_by(words: &Words) -> Asked
-    ensures { result ≡ asked_by words.now }
-{
-    Asked {
-        commands: match words.source {
-            Source::PodFile(_) => CommandPart::Lines,
-            Source::Generator(_) => CommandPart::Summary,
-        },
-        trace: words.flags.trace,
-        dump: words.flags.dump,
-    }
 }

@@ -1,37 +1,12 @@
-//! Laws on how a run ends, and on the plans of lists and pods that were read. A law is a function that does nothing: a
-//! caller gets it by calling it.
+//! Laws on how a run ends, and on a book that is over. A law is a function that does nothing: a caller gets it by
+//! calling it.
 
-ghost use Rattle.std.specs.Prelude.{◌≡◌, ◌≤◌, ℕ, All, Ok, Option};
-ghost use Rattle.pod_workers.specs.Join.{joined};
-ghost use Rattle.pod_workers.specs.Plans.{IsWellFormed};
-ghost use Rattle.pod_workers.specs.declared.plan.Plan.{Plan};
-ghost use Rattle.tool_run.specs.Causes.{IsReadList, IsReadPods};
-ghost use Rattle.tool_run.specs.Statuses.{EachStatusIsOfItsVerdict, RefusedWordsAreReported};
-ghost use Rattle.tool_run.specs.Verdict.{generated_plan};
-ghost use Rattle.tool_words.specs.Command.{most_pods};
+ghost use Rattle.tool_run.specs.Laws.{EachBookIsOfItsVerdict, EachCommandIsAnsweredAtTheEnd, EachStatusIsOfItsVerdict, RefusedWordsAreReported};
 
-use net_conf::network_list_laws;
-use pod_file::{generator_laws, pod_file_laws};
-use pod_workers::joined_plans_are_well_formed;
+use pod_workers::legal_worlds_meet_each_clause;
 
-/// Where lists and pods that were read make a plan, it is well formed.
-pub(crate) fn read_plans_are_well_formed()
-    ensures { (p q : Plan) → All IsReadList p.lists → IsReadPods p.pods → joined p ≡ Ok q → IsWellFormed q }
-{
-    network_list_laws();
-    pod_file_laws();
-    joined_plans_are_well_formed();
-}
-
-/// The plan of generated pods is well formed.
-pub(crate) fn generated_plans_are_well_formed()
-    ensures { (stop_at : Option ℕ) (count : ℕ) → count ≤ most_pods → IsWellFormed (generated_plan stop_at count) }
-{
-    generator_laws();
-}
-
-/// Where the files are told or none is named, and neither count of failures rose, the status of a run is one of those
-/// for what its words and files come to, or 6 (out of memory).
+/// Where the files are told or none is named, and no read and no write failed, the status of a run is one of those for
+/// what its words and files come to, or 6 (out of memory). Where no file is named, it isn't asked that no read failed.
 pub fn an_undisturbed_status_is_of_its_verdict()
     ensures { EachStatusIsOfItsVerdict }
 {}
@@ -40,3 +15,16 @@ pub fn an_undisturbed_status_is_of_its_verdict()
 pub fn refused_words_are_reported()
     ensures { RefusedWordsAreReported }
 {}
+
+/// Where the files are told or none is named, no read failed and memory didn't run out (6), a run leaves a book of the
+/// plan that its words and files come to, and none where they come to none. So it is also where the sink gave up (5).
+pub fn each_book_is_of_its_verdict()
+    ensures { EachBookIsOfItsVerdict }
+{}
+
+/// In a book with every round over each command has an answer, so the text has a line for each.
+pub fn each_command_is_answered_at_the_end()
+    ensures { EachCommandIsAnsweredAtTheEnd }
+{
+    legal_worlds_meet_each_clause();
+}

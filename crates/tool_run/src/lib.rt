@@ -1,15 +1,14 @@
 //! The top call of the program `cnitool`: it reads words and files, carries out the plan that they come to on the
 //! modelled kernel, and writes the text.
 //!
-//! What it promises above: [`run`], by several threads and if it returns, and [`run_alone`], by one, end in one of the
-//! ways of `Ends` (`specs/Statuses.antt`): what was to be reported was written, with its status; or the sink gave up
-//! after a prefix of it; or memory ran out outside the commands, and nothing was written. What is reported is the text
-//! of a book, or one line: that the words aren't taken, what is refused, or which read failed. Where the files are
-//! told, the book is of the plan that the definition `verdict_of` (`specs/Verdict.antt`) makes of words and files;
-//! where pods are generated, no file is read, and it is of the generator's plan whatever the files. The book has the
-//! guarantee `IsGuaranteed` of `pod_laws`, whatever the threads. Where one thread makes the rounds, the commands go in
-//! the order of the file, and words and files determine what is written and the status, failed reads and
-//! writes and running out of memory aside (`IsDetermined`).
+//! What it promises above: [`run`], by several threads and if it returns, and [`run_alone`], by one, are runs as
+//! `IsRunOf` says (`specs/Runs.antt`). They end in one of the ways of `Ends` (`specs/Statuses.antt`): what was to be
+//! reported was written, with its status; or the sink gave up after a prefix of it; or memory ran out outside the
+//! commands, and nothing was written. What is reported is the text of a book, or one line: that the words aren't taken,
+//! what is refused, or which read failed. The book is of the plan that words and files come to (`tool_plan`), and has
+//! the guarantee `IsGuaranteed` of `pod_laws`, whatever the threads. Where one thread makes the rounds, the commands go
+//! in the order of the file, and words and files determine what is written and the status, failed reads and writes and
+//! running out of memory aside (`IsDetermined`). Where the words name no file, none is read.
 //!
 //! ```text
 //! // words: --threads 4 pods.json net.json
@@ -21,30 +20,18 @@
 //! ```
 #![tactic(auto)]
 
-#[cfg(test)]
-mod alone_tests;
 mod carry;
-mod due;
-mod generated;
 pub mod kernel;
 pub mod laws;
-mod lines;
-mod plan;
-mod refusals;
-#[cfg(test)]
-mod refused_tests;
 mod report;
-#[cfg(test)]
-mod round_tests;
 mod rounds;
 mod settle;
-#[cfg(test)]
-mod tests;
-#[cfg(test)]
-mod thread_tests;
 pub mod top;
 
 pub use kernel::{FromHost, NodeKernel};
-pub use laws::{an_undisturbed_status_is_of_its_verdict, refused_words_are_reported};
+pub use laws::{
+    an_undisturbed_status_is_of_its_verdict, each_book_is_of_its_verdict,
+    each_command_is_answered_at_the_end, refused_words_are_reported,
+};
 pub use pod_text::{MEMORY_STATUS, NO_WORDS_STATUS};
 pub use top::{Ended, Outcome, run, run_alone, run_alone_over, run_over};

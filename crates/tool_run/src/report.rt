@@ -4,12 +4,11 @@ ghost use Rattle.tool_run.specs.Reports.{Reported, Reports, ReportsNoPlan};
 ghost use Rattle.tool_run.specs.Seen.{sink_seen};
 
 use crate::carry::CarriedOut;
-use crate::lines::USAGE;
-use crate::plan::NoPlan;
 use crate::top::Ended;
 use cni_io::{Sink, write_whole};
 use kernel_model::Kernel;
 use pod_text::{MEMORY_STATUS, READ_STATUS, REFUSED_STATUS, USAGE_STATUS, WRITE_STATUS, status};
+use tool_plan::{NoPlan, USAGE};
 
 /// Writes the text of the book, or why there is no plan.
 pub(crate) fn report<K: Kernel + Drop, S: Sink>(

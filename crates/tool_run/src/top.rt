@@ -1,10 +1,10 @@
 //! The top call: it reads words and files, carries out the plan that they come to, and writes one text or line.
 
-ghost use Rattle.std.specs.Prelude.{◌≡◌, IfSome};
-ghost use Rattle.pod_laws.specs.Guaranteed.{IsGuaranteed};
-ghost use Rattle.pod_workers.specs.Order.{IsInFileOrder};
-ghost use Rattle.tool_run.specs.Seen.{files_seen, sink_seen};
-ghost use Rattle.tool_run.specs.Statuses.{AskForOneThread, Ends, IsDetermined};
+ghost use Rattle.std.specs.Prelude.{◌≡◌, ⊤};
+ghost use Rattle.tool_plan.specs.Dues.{NameNoFile};
+ghost use Rattle.tool_plan.specs.Seen.{files_seen};
+ghost use Rattle.tool_run.specs.Runs.{AskForOneThread, IsRunOf};
+ghost use Rattle.tool_run.specs.Seen.{sink_seen};
 
 use crate::kernel::{FromHost, NodeKernel};
 use crate::report::report;
@@ -46,17 +46,12 @@ where
     F: Files,
     S: Sink,
     G: Gate,
-    ensures ends { Ends words.now
+    ensures run { IsRunOf words.now
         (files_seen F.files F.failure_count files.old files.new)
         (sink_seen S.written S.failure_count sink.old sink.new)
-        result.status result.book }
-    ensures guaranteed { IfSome result.book IsGuaranteed }
-    ensures order { AskForOneThread words.now → IfSome result.book IsInFileOrder }
-    ensures determined { AskForOneThread words.now → IsDetermined words.now
-        (files_seen F.files F.failure_count files.old files.new)
-        (sink_seen S.written S.failure_count sink.old sink.new)
-        result.status }
+        (AskForOneThread words.now) result.status result.book }
     ensures keeps { F.files files.new ≡ F.files files.old }
+    ensures untouched { NameNoFile words.now → files.new ≡ files.old }
 {
     every_legal_history_is_guaranteed();
     one_outcome();
@@ -71,17 +66,12 @@ pub fn run_alone_over<K: FromHost + Drop, F: Files, S: Sink>(
     files: &mut F,
     sink: &mut S,
 ) -> Ended<K>
-    ensures ends { Ends words.now
+    ensures run { IsRunOf words.now
         (files_seen F.files F.failure_count files.old files.new)
         (sink_seen S.written S.failure_count sink.old sink.new)
-        result.status result.book }
-    ensures guaranteed { IfSome result.book IsGuaranteed }
-    ensures order { IfSome result.book IsInFileOrder }
-    ensures determined { IsDetermined words.now
-        (files_seen F.files F.failure_count files.old files.new)
-        (sink_seen S.written S.failure_count sink.old sink.new)
-        result.status }
+        ⊤ result.status result.book }
     ensures keeps { F.files files.new ≡ F.files files.old }
+    ensures untouched { NameNoFile words.now → files.new ≡ files.old }
 {
     every_legal_history_is_guaranteed();
     one_outcome();
@@ -105,17 +95,12 @@ pub fn run<R: Threads + Wait + Sync, F: Files, S: Sink, G: Gate>(
     sink: &mut S,
     gate: &G,
 ) -> Outcome
-    ensures ends { Ends words.now
+    ensures run { IsRunOf words.now
         (files_seen F.files F.failure_count files.old files.new)
         (sink_seen S.written S.failure_count sink.old sink.new)
-        result.status result.book }
-    ensures guaranteed { IfSome result.book IsGuaranteed }
-    ensures order { AskForOneThread words.now → IfSome result.book IsInFileOrder }
-    ensures determined { AskForOneThread words.now → IsDetermined words.now
-        (files_seen F.files F.failure_count files.old files.new)
-        (sink_seen S.written S.failure_count sink.old sink.new)
-        result.status }
+        (AskForOneThread words.now) result.status result.book }
     ensures keeps { F.files files.new ≡ F.files files.old }
+    ensures untouched { NameNoFile words.now → files.new ≡ files.old }
 {
     run_over(rt, alloc, words, files, sink, gate)
 }
@@ -128,17 +113,12 @@ pub fn run_alone<F: Files, S: Sink>(
     files: &mut F,
     sink: &mut S,
 ) -> Outcome
-    ensures ends { Ends words.now
+    ensures run { IsRunOf words.now
         (files_seen F.files F.failure_count files.old files.new)
         (sink_seen S.written S.failure_count sink.old sink.new)
-        result.status result.book }
-    ensures guaranteed { IfSome result.book IsGuaranteed }
-    ensures order { IfSome result.book IsInFileOrder }
-    ensures determined { IsDetermined words.now
-        (files_seen F.files F.failure_count files.old files.new)
-        (sink_seen S.written S.failure_count sink.old sink.new)
-        result.status }
+        ⊤ result.status result.book }
     ensures keeps { F.files files.new ≡ F.files files.old }
+    ensures untouched { NameNoFile words.now → files.new ≡ files.old }
 {
     run_alone_over(alloc, words, files, sink)
 }

@@ -1,5 +1,5 @@
 -- The number of pods that a text spells, and what `parse` makes of the text.
-use Rattle.std.proofs.Common.{◌≡◌, ◌≢◌, ◌∙◌, ℕ, ◌<◌, ◌≤◌, ◌^◌, Bool, true, false, codes, if◌then◌else◌, List, [], ◌∷◌, drop, length, get_or, Option, Some, None, option_map, decimal, refl, sym, ap, subst, inl, inr, arith}
+use Rattle.std.proofs.Common.{◌≡◌, ◌≢◌, ◌∙◌, ℕ, ◌<◌, ◌≤◌, ◌^◌, Bool, true, false, codes, if◌then◌else◌, List, [], ◌∷◌, drop, length, nat_le, get_or, Option, Some, None, option_map, decimal, refl, sym, ap, subst, inl, inr, arith}
 use Rattle.std.specs.Str.Parse.{IsNumeral, digits_value, without_leading_plus}
 use Rattle.std.proofs.NetLemmas.Options.{cond_some}
 use Rattle.std.proofs.lemmas.Bool.{and_parts, cases_order}
@@ -9,11 +9,10 @@ use Rattle.std.proofs.lemmas.Option.{none-some, same_Some}
 use Rattle.std.proofs.lemmas.Slice.Eq.{bytes_eq-Decides}
 use Rattle.std.proofs.lemmas.Str.Parse.{digit_at, numerals_by_value, tells_digits, without_leading_plus_none}
 use Rattle.clap.specs.Walk.{Text, is_empty}
-use Rattle.tool_words.specs.Command.{most_pods}
-use Rattle.tool_words.specs.Source.{asks_generator, begins_plainly, count_of, generator_of, is_count, source_of}
-use Rattle.tool_words.specs.Words.{IsSourceWithin}
+use Rattle.tool_words.specs.Command.{most_lists, most_pods}
+use Rattle.tool_words.specs.Source.{IsSourceWithin, IsStopWithin, asks_generator, begins_plainly, count_of, files_of, generated_of, is_count, source_of}
 use Rattle.tool_words.specs.declared.source.Source.{Source}
-use Rattle.tool_words.specs.declared.source.Source.TheVariants.{PodFile, Generator}
+use Rattle.tool_words.specs.declared.source.Source.TheVariants.{Files, Generated}
 
 none_of : {A : Type 0} (o : Option A) → ((x : A) → o ≡ Some x → ⊥) → None ≡ o
 none_of None apart = refl
@@ -107,24 +106,30 @@ unread text plain h = none_decimal text λ n least most is.
 
 -- ---- what PODS asks for is within the limits
 
-nothing : {X : Type 0} (xs : List X) → is_empty xs ≡ true → xs ≡ []
-nothing [] h = refl
-nothing (x ∷ xs) h = absurd (grind (arith, nat_tests, h))
+many : (lists : List Text) → nat_le (length lists) most_lists ≡ true → length lists ≤ most_lists
+many lists few = grind (arith, nat_tests, few)
 
-generated : (number : Text) (lists : List Text) (o : Option ℕ) (s : Source) → count_of number ≡ o → lists ≡ [] → option_map Generator o ≡ Some s → IsSourceWithin lists s
-generated number lists None s spelled none h = absurd (none-some s h)
-generated number lists (Some n) s spelled none h =
+counted_source : (number : Text) (stop_at : Option ℕ) (o : Option ℕ) (s : Source) → IsStopWithin stop_at → count_of number ≡ o
+    → option_map (λ (count : ℕ). Generated count stop_at) o ≡ Some s → IsSourceWithin s
+counted_source number stop_at None s stop spelled h = absurd (none-some s h)
+counted_source number stop_at (Some n) s stop spelled h =
     let (is, least, most) = decimal_count number n spelled in
-    subst (IsSourceWithin lists) (same_Some (Generator n) s h) (least, most, none)
+    subst IsSourceWithin (same_Some (Generated n stop_at) s h) (least, most, stop)
 
-generator : (number : Text) (lists : List Text) (b : Bool) (s : Source) → is_empty lists ≡ b → (if b then option_map Generator (count_of number) else None) ≡ Some s → IsSourceWithin lists s
-generator number lists true s empty h = generated number lists (count_of number) s refl (nothing lists empty) h
-generator number lists false s empty h = absurd (none-some s h)
+of_generated : (number : Text) (stop_at : Option ℕ) (b : Bool) (s : Source) → IsStopWithin stop_at
+    → (if b then option_map (λ (count : ℕ). Generated count stop_at) (count_of number) else None) ≡ Some s → IsSourceWithin s
+of_generated number stop_at true s stop h = counted_source number stop_at (count_of number) s stop refl h
+of_generated number stop_at false s stop h = absurd (none-some s h)
 
-of_source : (pods : Text) (lists : List Text) (b : Bool) (s : Source)
-    → (if b then generator_of (drop (length (codes "gen:")) pods) lists else Some (PodFile pods)) ≡ Some s → IsSourceWithin lists s
-of_source pods lists true s h = generator (drop (length (codes "gen:")) pods) lists (is_empty lists) s refl h
-of_source pods lists false s h = subst (IsSourceWithin lists) (same_Some (PodFile pods) s h) tt
+of_files : (pods : Text) (lists : List Text) (stop_at : Option ℕ) (b : Bool) (s : Source) → IsStopWithin stop_at → nat_le (length lists) most_lists ≡ b
+    → (if b then Some (Files (record { pods = pods; lists = lists; stop_at = stop_at })) else None) ≡ Some s → IsSourceWithin s
+of_files pods lists stop_at true s stop few h = subst IsSourceWithin (same_Some (Files (record { pods = pods; lists = lists; stop_at = stop_at })) s h) (many lists few, stop)
+of_files pods lists stop_at false s stop few h = absurd (none-some s h)
 
-pub source-within : (pods : Text) (lists : List Text) (s : Source) → source_of pods lists ≡ Some s → IsSourceWithin lists s
-source-within pods lists s h = of_source pods lists (asks_generator pods) s h
+of_source : (pods : Text) (lists : List Text) (stop_at : Option ℕ) (b : Bool) (s : Source) → IsStopWithin stop_at
+    → (if b then generated_of (drop (length (codes "gen:")) pods) lists stop_at else files_of pods lists stop_at) ≡ Some s → IsSourceWithin s
+of_source pods lists stop_at true s stop h = of_generated (drop (length (codes "gen:")) pods) stop_at (is_empty lists) s stop h
+of_source pods lists stop_at false s stop h = of_files pods lists stop_at (nat_le (length lists) most_lists) s stop refl h
+
+pub source-within : (pods : Text) (lists : List Text) (stop_at : Option ℕ) (s : Source) → IsStopWithin stop_at → source_of pods lists stop_at ≡ Some s → IsSourceWithin s
+source-within pods lists stop_at s stop h = of_source pods lists stop_at (asks_generator pods) s stop h

@@ -1,12 +1,12 @@
 -- Where the pods come from.
-use Rattle.std.specs.Prelude.{ℕ, ◌&&◌, Bool, nat_eq, nat_le, List, codes, decimal, drop, length, option_map, slice_index, if◌then◌else◌, Option, Some, None}
+use Rattle.std.specs.Prelude.{ℕ, ◌≤◌, ◌&&◌, Bool, nat_eq, nat_le, List, codes, decimal, drop, length, option_map, slice_index, if◌then◌else◌, Option, Some, None, IfSome}
 use Rattle.std.specs.List.{starts_with}
 use Rattle.std.specs.Str.{byte, bytes_eq}
 use Rattle.std.specs.Str.Parse.{digits_value}
 use Rattle.clap.specs.Walk.{Text, is_empty}
-use Rattle.tool_words.specs.Command.{most_pods}
+use Rattle.tool_words.specs.Command.{greatest_entry, most_lists, most_pods}
 use Rattle.tool_words.specs.declared.source.Source.{Source}
-use Rattle.tool_words.specs.declared.source.Source.TheVariants.{PodFile, Generator}
+use Rattle.tool_words.specs.declared.source.Source.TheVariants.{Files, Generated}
 
 -- PODS asks for generated pods
 abbrev pub asks_generator : Text → Bool
@@ -25,10 +25,27 @@ abbrev pub begins_plainly : Text → Bool
 begins_plainly text = nat_le (byte "1") (slice_index text 0) && nat_le (slice_index text 0) (byte "9")
 
 -- generated pods, which no list stands beside
-abbrev pub generator_of : Text → List Text → Option Source
-generator_of number lists = if is_empty lists then option_map Generator (count_of number) else None
+abbrev pub generated_of : Text → List Text → Option ℕ → Option Source
+generated_of number lists stop_at =
+    if is_empty lists then option_map (λ count. Generated count stop_at) (count_of number) else None
 
--- what PODS and the LISTs ask for: so many generated pods, or those of a pod file
-abbrev pub source_of : Text → List Text → Option Source
-source_of pods lists =
-    if asks_generator pods then generator_of (drop (length (codes "gen:")) pods) lists else Some (PodFile pods)
+-- a pod file, with so many lists at most
+abbrev pub files_of : Text → List Text → Option ℕ → Option Source
+files_of pods lists stop_at =
+    if nat_le (length lists) most_lists then Some (Files (record { pods = pods; lists = lists; stop_at = stop_at }))
+    else None
+
+-- what PODS, the LISTs and the stop ask for: so many generated pods, or those of a pod file
+abbrev pub source_of : Text → List Text → Option ℕ → Option Source
+source_of pods lists stop_at =
+    if asks_generator pods then generated_of (drop (length (codes "gen:")) pods) lists stop_at
+    else files_of pods lists stop_at
+
+-- the number of an entry that may be stopped after
+abbrev pub IsStopWithin : Option ℕ → Type 0
+IsStopWithin stop_at = IfSome stop_at (λ n. (1 ≤ n) × (n ≤ greatest_entry))
+
+-- not more lists than may be named; of generated pods, there is one, and not more than may be
+abbrev pub IsSourceWithin : Source → Type 0
+IsSourceWithin (Files named) = (length named.lists ≤ most_lists) × IsStopWithin named.stop_at
+IsSourceWithin (Generated count stop_at) = (1 ≤ count) × (count ≤ most_pods) × IsStopWithin stop_at

@@ -8,9 +8,9 @@
 //! // --trace pods.json net.json
 //! let words = read_words(alloc, words)?;
 //! words.threads         // 1, since --threads isn't given
-//! words.flags.trace     // true
-//! words.source          // Source::PodFile("pods.json")
-//! // gen:10: Source::Generator(10)
+//! words.trace           // true
+//! words.source          // Source::Files(..), with the pods' file "pods.json" and the list "net.json"
+//! // gen:10: Source::Generated { count: 10, stop_at: None }
 //! // --threads 17 pods.json, gen:010: Err(WordsEnd::Usage)
 //! ```
 #![tactic(auto)]
@@ -20,5 +20,5 @@ mod parse;
 pub mod source;
 pub mod words;
 
-pub use source::Source;
-pub use words::{Flags, Words, WordsEnd, read_words};
+pub use source::{Named, Source};
+pub use words::{Words, WordsEnd, read_words};

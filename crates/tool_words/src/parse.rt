@@ -4,14 +4,12 @@ ghost use Rattle.std.specs.Prelude.{◌≡◌, ◌≤◌, IfSome, map, option_ma
 ghost use Rattle.clap.specs.Matches.{found_of};
 ghost use Rattle.clap.specs.Walk.{first_of, rows_of};
 ghost use Rattle.clap.specs.declared.builder.value_parser.ValueParser.TheVariants as parser;
-ghost use Rattle.tool_words.specs.Command.{counts_to, dump_flag, greatest_entry, most_threads, pods_word, stop_at_option, threads_option, trace_flag};
+ghost use Rattle.tool_words.specs.Command.{counts_to, greatest_entry, most_threads, pods_word, stop_at_option, threads_option};
 ghost use Rattle.tool_words.specs.Parse.{Parses, Passes};
-ghost use Rattle.tool_words.specs.Words.{flags_at, has_flag, lists_at, number_at};
+ghost use Rattle.tool_words.specs.Words.{has_flag, lists_at, number_at};
 
-use crate::command::{
-    DUMP_FLAG, LISTS_WORD, PODS_WORD, STOP_AT_OPTION, THREADS_OPTION, TRACE_FLAG, make_command,
-};
-use crate::words::{Flags, WordsEnd};
+use crate::command::{LISTS_WORD, PODS_WORD, STOP_AT_OPTION, THREADS_OPTION, make_command};
+use crate::words::WordsEnd;
 use clap::ArgMatches;
 use clap::error::ErrorKind;
 use cni_addr::Text;
@@ -49,18 +47,7 @@ pub(crate) fn stop_at<'a>(matches: &ArgMatches<'a>) -> Option<u32>
     matches.get_one(STOP_AT_OPTION)
 }
 
-pub(crate) fn flags<'a>(matches: &ArgMatches<'a>) -> Flags
-    requires trace { Passes matches.now trace_flag parser.Bool }
-    requires dump { Passes matches.now dump_flag parser.Bool }
-    ensures { result ≡ flags_at (rows_of (found_of matches.now)) }
-{
-    Flags {
-        trace: flag(matches, TRACE_FLAG),
-        dump: flag(matches, DUMP_FLAG),
-    }
-}
-
-fn flag<'a>(matches: &ArgMatches<'a>, name: &str) -> bool
+pub(crate) fn flag<'a>(matches: &ArgMatches<'a>, name: &str) -> bool
     requires { Passes matches.now name.now parser.Bool }
     ensures { result ≡ has_flag name.now (rows_of (found_of matches.now)) }
 {

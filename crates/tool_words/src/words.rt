@@ -1,36 +1,24 @@
 //! What the words of the program say.
 
-ghost use Rattle.std.specs.Prelude.{◌≡◌, IfOk, map};
+ghost use Rattle.std.specs.Prelude.{◌≡◌, IfOk};
 ghost use Rattle.tool_words.specs.Words.{IsWithinLimits, Reads, words_given};
 
-use crate::parse::{flags, lists, parse, pods, stop_at, threads};
+use crate::command::{DUMP_FLAG, TRACE_FLAG};
+use crate::parse::{flag, lists, parse, pods, stop_at, threads};
 use crate::source::{Source, read_source};
-use cni_addr::{Items, NoMemory, Text};
+use cni_addr::{NoMemory, Text};
 use std::alloc::Global;
-
-/// The most lists that may be named.
-const MOST_LISTS: usize = 64;
 
 /// What the words say.
 #[derive(Drop)]
 pub struct Words {
     /// How many threads are to make a round: the number that `--threads` gives, 1 to 16, and 1 where it gives none.
     pub threads: u8,
-    /// The number, from 1, of the history's entry after which the rest of its round is stopped.
-    pub stop_at: Option<u32>,
-    pub flags: Flags,
-    pub source: Source,
-    /// The network lists' names.
-    pub lists: Items<Text>,
-}
-
-/// What is to be printed besides the answers.
-#[derive(Clone, Copy)]
-pub struct Flags {
     /// The calls are to be printed after the answers.
     pub trace: bool,
     /// The host is to be printed at the end.
     pub dump: bool,
+    pub source: Source,
 }
 
 /// Why the words were not read.
@@ -64,26 +52,11 @@ pub fn read_words(alloc: Global, words: &[Text]) -> Result<Words, WordsEnd>
     let Some(pods) = pods(&matches) else {
         return Err(WordsEnd::Usage);
     };
-    let lists = lists(&matches);
-    if lists.len() > MOST_LISTS {
-        return Err(WordsEnd::Usage);
-    }
-    let source = read_source(alloc, pods, lists)?;
+    let source = read_source(alloc, pods, lists(&matches), stop_at(&matches))?;
     Ok(Words {
         threads: threads(&matches).unwrap_or(1),
-        stop_at: stop_at(&matches),
-        flags: flags(&matches),
+        trace: flag(&matches, TRACE_FLAG),
+        dump: flag(&matches, DUMP_FLAG),
         source,
-        lists: names(alloc, lists)?,
     })
-}
-
-fn names(alloc: Global, names: &[&str]) -> Result<Items<Text>, NoMemory>
-    ensures { IfOk result (λ copies. copies ≡ map (λ s. s.now) names.now) }
-{
-    let mut copies = Items::new(alloc);
-    for name in names {
-        copies.push(Text::of(alloc, name)?)?;
-    }
-    Ok(copies)
 }

@@ -1,4 +1,4 @@
-use Rattle.tool_run.proofs.Endings.{each_status_is_of_its_verdict}
+use Rattle.tool_run.proofs.Verdicts.{each_status_is_of_its_verdict}
 use Rattle.tool_run.proofs.laws.an_undisturbed_status_is_of_its_verdict.Goals as goal
 
 pub returns : goal.returns

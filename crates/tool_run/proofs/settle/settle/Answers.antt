@@ -1,6 +1,6 @@
 use Rattle.std.proofs.lemmas.Result.{err_from_is_err_and}
-use Rattle.tool_run.specs.Seen.{files_seen}
-use Rattle.tool_run.proofs.Dues.{one_thread, settles_made}
+use Rattle.tool_plan.specs.Seen.{files_seen}
+use Rattle.tool_run.proofs.Carried.{one_thread, settles_made}
 use Rattle.tool_run.proofs.settle.settle.Goals as goal
 
 pub returns-in_err-due-clause-settles : goal.returns-in_err-due-clause-settles

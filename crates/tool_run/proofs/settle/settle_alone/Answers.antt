@@ -1,6 +1,6 @@
 use Rattle.std.proofs.lemmas.Result.{err_from_is_err_and}
-use Rattle.tool_run.specs.Seen.{files_seen}
-use Rattle.tool_run.proofs.Dues.{settles_made}
+use Rattle.tool_plan.specs.Seen.{files_seen}
+use Rattle.tool_run.proofs.Carried.{settles_made}
 use Rattle.tool_run.proofs.settle.settle_alone.Goals as goal
 
 pub returns-in_err-due-clause-settles : goal.returns-in_err-due-clause-settles

@@ -1,5 +1,6 @@
-use Rattle.tool_run.specs.Seen.{files_seen, sink_seen}
-use Rattle.tool_run.proofs.Endings.{determined, ends, guaranteed, ordered}
+use Rattle.tool_plan.specs.Seen.{files_seen}
+use Rattle.tool_run.specs.Seen.{sink_seen}
+use Rattle.tool_run.proofs.Endings.{ends, is_run, ordered}
 use Rattle.tool_run.proofs.top.run_alone_over.Goals as goal
 
 pub returns : goal.returns
@@ -10,11 +11,9 @@ returns g c =
     let settled = c.settle_alone-settled in
     let outcome = c.report.result in
     let how = ends words files sink settled.result outcome settled.ensures.settles c.report.ensures in
-    let order = ordered sink settled.result outcome c.report.ensures settled.ensures.order in
     record {
-      ends = how;
-      guaranteed = guaranteed words files sink outcome.status outcome.book c.every_legal_history_is_guaranteed.ensures how;
-      order = order;
-      determined = determined words files sink outcome.status outcome.book c.one_outcome.ensures order how;
+      run = is_run words files sink _ outcome.status outcome.book c.every_legal_history_is_guaranteed.ensures c.one_outcome.ensures
+          (λ alone. ordered sink settled.result outcome c.report.ensures settled.ensures.order) how;
       keeps = settled.ensures.keeps;
+      untouched = settled.ensures.untouched;
     }

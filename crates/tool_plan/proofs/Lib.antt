@@ -1,0 +1,6 @@
+mod Dues
+mod GeneratedPlans
+mod Joined
+mod Lists
+mod Stopping
+mod Whole

@@ -1,0 +1,87 @@
+-- What a step of reading gives, and why it gives nothing.
+use Rattle.std.specs.Prelude.{◌≡◌, ◌⊎◌, ℕ, List, [], ◌∷◌, ◌++◌, Option, Some, Result, Ok, Err, IsOk, ⊤}
+use Rattle.cni_io.specs.Failures.{Rose}
+use Rattle.cni_io.specs.Files.{StoredFiles}
+use Rattle.net_conf.specs.List.{list_of}
+use Rattle.net_conf.specs.declared.list.NetList.{NetList}
+use Rattle.pod_file.specs.PodFile.{pods_of}
+use Rattle.pod_file.specs.declared.pods.Pods.{Pods}
+use Rattle.pod_workers.specs.declared.plan.Plan.{Plan}
+use Rattle.tool_words.specs.declared.source.Source.{Source}
+use Rattle.tool_words.specs.declared.source.Source.TheVariants.{Files, Generated}
+use Rattle.tool_plan.specs.Lines.{unread_line}
+use Rattle.tool_plan.specs.Seen.{FilesSeen}
+use Rattle.tool_plan.specs.Verdict.{Judged, plan_of, stored_lists, stored_pods}
+use Rattle.tool_plan.specs.declared.plan.NoPlan.{NoPlan}
+use Rattle.tool_plan.specs.declared.plan.NoPlan.TheVariants.{Usage, Line, Unread, NoMemory}
+
+-- this holds of the files, where they are told
+abbrev pub WhereTold : Option StoredFiles → (StoredFiles → Type 0) → Type 0
+WhereTold files P = (stored : StoredFiles) → files ≡ Some stored → P stored
+
+-- reading gets to this one of the lists: each before it is taken, where the files are told
+pub record ReachesList (files : Option StoredFiles) (names : List (List ℕ)) (file : List ℕ) : Type 0 where
+  pub before : List (List ℕ)
+  pub after : List (List ℕ)
+  pub names_are : names ≡ before ++ file ∷ after
+  pub taken : WhereTold files (λ stored. IsOk (stored_lists stored before))
+
+-- reading gets to this file: the pod file; or one of the lists, and the pod file is taken, where the files are told
+abbrev pub ReachesFile : Option StoredFiles → Source → List ℕ → Type 0
+ReachesFile files (Files named) file = (file ≡ named.pods)
+    ⊎ (WhereTold files (λ stored. IsOk (stored_pods stored named.pods)) × ReachesList files named.lists file)
+ReachesFile files (Generated count stop_at) file = ⊥
+
+-- a read failed, and the line names a file that reading gets to
+pub record IsUnread (Reached : List ℕ → Type 0) (before now : ℕ) (line : List ℕ) : Type 0 where
+  pub file : List ℕ
+  pub reached : Reached file
+  pub rose : Rose before now
+  pub says : line ≡ unread_line file
+
+-- A step that reads files gives what is defined of the files, where they are told; or the line that is defined of them;
+-- or a read failed, of a file that it gets to; or memory ran out.
+abbrev pub GivesStored : {X Y : Type 0} → (X → Y) → Option StoredFiles → ℕ → ℕ → (List ℕ → Type 0)
+    → (StoredFiles → Judged Y) → Result X NoPlan → Type 0
+GivesStored view files before now Reached wanted (Ok x) = WhereTold files (λ stored. wanted stored ≡ Ok (view x))
+GivesStored view files before now Reached wanted (Err Usage) = ⊥
+GivesStored view files before now Reached wanted (Err (Line line)) =
+    WhereTold files (λ stored. wanted stored ≡ Err line.items)
+GivesStored view files before now Reached wanted (Err (Unread line)) = IsUnread Reached before now line.items
+GivesStored view files before now Reached wanted (Err NoMemory) = ⊤
+
+-- the same of a step that reads no file
+abbrev pub GivesJudged : {X : Type 0} → Result X NoPlan → Judged X → Type 0
+GivesJudged (Ok x) wanted = wanted ≡ Ok x
+GivesJudged (Err Usage) wanted = ⊥
+GivesJudged (Err (Line line)) wanted = wanted ≡ Err line.items
+GivesJudged (Err (Unread line)) wanted = ⊥
+GivesJudged (Err NoMemory) wanted = ⊤
+
+-- the files that are named: the pod file and the lists; where pods are generated, none
+abbrev pub files_named : Source → List (List ℕ)
+files_named (Files named) = named.pods ∷ named.lists
+files_named (Generated count stop_at) = []
+
+-- these are the files, as far as any is named: they are told, or none is named
+abbrev pub AreFilesFor : Source → FilesSeen → StoredFiles → Type 0
+AreFilesFor source files stored = (files.stored ≡ Some stored) ⊎ (files_named source ≡ [])
+
+-- with any such files the source has this plan, or this line that tells why there is none; or a read failed, of a named
+-- file that reading gets to; or memory ran out
+abbrev pub GivesPlan : Source → FilesSeen → Result Plan NoPlan → Type 0
+GivesPlan source files (Ok plan) =
+    (stored : StoredFiles) → AreFilesFor source files stored → plan_of stored source ≡ Ok plan
+GivesPlan source files (Err Usage) = ⊥
+GivesPlan source files (Err (Line line)) =
+    (stored : StoredFiles) → AreFilesFor source files stored → plan_of stored source ≡ Err line.items
+GivesPlan source files (Err (Unread line)) =
+    IsUnread (ReachesFile files.stored source) files.failures_before files.failures_now line.items
+GivesPlan source files (Err NoMemory) = ⊤
+
+-- the list was read from some bytes
+abbrev pub IsReadList : NetList → Type 0
+IsReadList list = (bytes : List ℕ) × (list_of bytes ≡ Ok list)
+
+abbrev pub IsReadPods : Pods → Type 0
+IsReadPods pods = (bytes : List ℕ) × (pods_of bytes ≡ Ok pods)

@@ -1,0 +1,6 @@
+pub mod Causes
+pub mod Dues
+pub mod Lines
+pub mod Refusals
+pub mod Seen
+pub mod Verdict

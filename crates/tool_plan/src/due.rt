@@ -1,0 +1,99 @@
+//! What the words and the files come to, before anything runs.
+
+ghost use Rattle.std.specs.Prelude.{◌≡◌, [], IfOk};
+ghost use Rattle.pod_workers.specs.Plans.{IsWellFormed};
+ghost use Rattle.tool_words.specs.Words.{IsWithinLimits, words_given};
+ghost use Rattle.tool_plan.specs.Causes.{GivesPlan, files_named};
+ghost use Rattle.tool_plan.specs.Dues.{ComesToDue, NameNoFile};
+ghost use Rattle.tool_plan.specs.Seen.{files_seen};
+ghost use Rattle.tool_plan.specs.Verdict.{IsAskedBy, asked_of, command_part_of};
+ghost use Rattle.tool_words.specs.Source.{IsSourceWithin};
+
+use crate::generated::generated_plan;
+use crate::plan::{NoPlan, read_plan};
+use cni_addr::Text;
+use cni_io::Files;
+use pod_text::{Asked, CommandPart};
+use pod_workers::Plan;
+use std::alloc::Global;
+use tool_words::{Source, Words, WordsEnd, read_words};
+
+/// A plan that is to be carried out, and how.
+#[derive(Drop)]
+pub struct Due {
+    /// How many threads are to make a round, 1 to 16.
+    pub threads: u8,
+    pub plan: Plan,
+    /// What is to be printed of it.
+    pub asked: Asked,
+}
+
+/// Reads the words and then the files that they name, if they name any: the pod file first, then the network lists in
+/// their order, up to the first that is refused or can't be read.
+pub fn read_due<F: Files>(alloc: Global, words: &[Text], files: &mut F) -> Result<Due, NoPlan>
+    ensures comes { ComesToDue words.now (files_seen F.files F.failure_count files.old files.new) result }
+    ensures keeps { F.files files.new ≡ F.files files.old }
+    ensures untouched { NameNoFile words.now → files.new ≡ files.old }
+{
+    match read_words(alloc, words) {
+        Ok(taken) => read_due_of(alloc, words, taken, files),
+        Err(WordsEnd::Usage) => Err(NoPlan::Usage),
+        Err(WordsEnd::NoMemory) => Err(NoPlan::NoMemory),
+    }
+}
+
+/// The same, once the words are taken.
+fn read_due_of<F: Files>(
+    alloc: Global,
+    given: &[Text],
+    words: Words,
+    files: &mut F,
+) -> Result<Due, NoPlan>
+    requires taken { words_given given.now ≡ Some words }
+    requires limits { IsWithinLimits words }
+    ensures comes { ComesToDue given.now (files_seen F.files F.failure_count files.old files.new) result }
+    ensures keeps { F.files files.new ≡ F.files files.old }
+    ensures untouched { NameNoFile given.now → files.new ≡ files.old }
+{
+    let plan = plan_for(alloc, files, &words.source)?;
+    Ok(Due {
+        threads: words.threads,
+        plan,
+        asked: asked_of(&words),
+    })
+}
+
+/// The plan that the source asks for, from files or of generated pods.
+#[tactic(auto, using(crate::proofs::Dues::of_files, crate::proofs::Dues::of_generator, crate::proofs::Dues::some_named))]
+fn plan_for<F: Files>(alloc: Global, files: &mut F, source: &Source) -> Result<Plan, NoPlan>
+    requires { IsSourceWithin source.now }
+    ensures gives { GivesPlan source.now (files_seen F.files F.failure_count files.old files.new) result }
+    ensures well_formed { IfOk result IsWellFormed }
+    ensures keeps { F.files files.new ≡ F.files files.old }
+    ensures untouched { files_named source.now ≡ [] → files.new ≡ files.old }
+{
+    match source {
+        Source::Files(named) => read_plan(alloc, files, named),
+        Source::Generated { count, stop_at } => Ok(generated_plan(alloc, *count, *stop_at)?),
+    }
+}
+
+/// What the words ask to be printed.
+fn asked_of(words: &Words) -> Asked
+    ensures { result ≡ asked_of words.now }
+{
+    Asked {
+        commands: command_part_of(&words.source),
+        trace: words.trace,
+        dump: words.dump,
+    }
+}
+
+fn command_part_of(source: &Source) -> CommandPart
+    ensures { result ≡ command_part_of source.now }
+{
+    match source {
+        Source::Files(_) => CommandPart::Lines,
+        Source::Generated { .. } => CommandPart::Summary,
+    }
+}

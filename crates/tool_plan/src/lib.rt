@@ -1,0 +1,26 @@
+//! What the words of the program `cnitool` and the files that they name come to, before anything runs.
+//!
+//! What it promises above: [`read_due`] gives a [`Due`], which is a plan with what is to be printed of it, or why there
+//! is none (`ComesToDue` of `specs/Dues.antt`). Where the files are told, both are those that the definition
+//! `verdict_of` (`specs/Verdict.antt`) makes of words and files; a failed read names a file that reading gets to. Where
+//! pods are generated no file is read, and the plan is the generator's whatever the files. Each plan is well formed.
+//!
+//! ```text
+//! // words: --threads 4 pods.json net.json
+//! let due = read_due(alloc, words, &mut files)?;
+//! due.threads               // 4
+//! due.asked.commands        // CommandPart::Lines
+//! // without net.json: NoPlan::Line of {"error":"missing","file":"net.json"}
+//! ```
+#![tactic(auto)]
+
+pub mod due;
+mod generated;
+mod laws;
+pub mod lines;
+pub mod plan;
+mod refusals;
+
+pub use due::{Due, read_due};
+pub use lines::USAGE;
+pub use plan::NoPlan;

@@ -1,0 +1,50 @@
+-- The book and the text of a plan that was due.
+use Rattle.std.proofs.Common.{◌≡◌, ◌∙◌, ◌≤◌, ℕ, List, length, sym, ap, subst, Ok, Err, Result, IfOk}
+use Rattle.std.proofs.lemmas.Option.{same_Some}
+use Rattle.pod_text.specs.Lines.{text_of}
+use Rattle.pod_workers.specs.Legal.{Legal}
+use Rattle.pod_workers.specs.Order.{IsInFileOrder}
+use Rattle.pod_workers.specs.World.{World}
+use Rattle.pod_workers.specs.declared.plan.Plan.{Plan}
+use Rattle.tool_words.specs.declared.words.Words.{Words}
+use Rattle.tool_plan.specs.Dues.{IsDueOf}
+use Rattle.tool_plan.specs.Seen.{FilesSeen}
+use Rattle.tool_plan.specs.Verdict.{carry}
+use Rattle.tool_plan.specs.declared.due.Due.{Due}
+use Rattle.tool_run.specs.Reports.{CarriesOut, Settles}
+use Rattle.tool_run.specs.Runs.{AskForOneThread}
+use Rattle.tool_run.specs.declared.carry.CarriedOut.{CarriedOut}
+
+-- what was due is what is to be reported
+pub settles_made : {K : Type 0} (words : List (List ℕ)) (files : FilesSeen) (due : Due) (made : CarriedOut K) → IsDueOf words files due → CarriesOut due made → Settles words files (Ok made)
+settles_made words files due made is carries = (
+  due.asked,
+  record {
+    by = is.by;
+    words_are = is.words_are;
+    comes = λ stored at. is.comes stored at ∙ ap (λ (p : Plan). carry p due.asked) (sym carries.plan);
+    asked_is = is.asked_is;
+    over = carries.over;
+    legal = carries.legal;
+  },
+  carries.text,
+)
+
+pub one_thread : (words : List (List ℕ)) (files : FilesSeen) (due : Due) → IsDueOf words files due → AskForOneThread words → due.threads ≡ 1
+one_thread words files due is asked = is.threads_are ∙ ap (λ (w : Words). w.threads) (same_Some is.by asked.0 (sym is.words_are ∙ asked.1)) ∙ asked.2
+
+-- ---- the text of a book
+
+pub carries_out : {K E : Type 0} (due : Due) (book : World) (r : Result (CarriedOut K) E) → book.plan ≡ due.plan → length book.plan.pods.rounds ≤ book.round → Legal book
+    → IfOk r (λ (made : CarriedOut K). made.book ≡ book) → IfOk r (λ (made : CarriedOut K). made.text.items ≡ text_of book due.asked) → IfOk r (CarriesOut due)
+carries_out due book (Ok made) plan over legal is text = record {
+  plan = ap (λ (b : World). b.plan) is ∙ plan;
+  over = subst (λ (b : World). length b.plan.pods.rounds ≤ b.round) (sym is) over;
+  legal = subst Legal (sym is) legal;
+  text = text ∙ ap (λ (b : World). text_of b due.asked) (sym is);
+}
+carries_out due book (Err none) plan over legal is text = tt
+
+pub in_order : {K E : Type 0} (book : World) (r : Result (CarriedOut K) E) → IfOk r (λ (made : CarriedOut K). made.book ≡ book) → IsInFileOrder book → IfOk r (λ (made : CarriedOut K). IsInFileOrder made.book)
+in_order book (Ok made) is order = subst IsInFileOrder (sym is) order
+in_order book (Err none) is order = tt

@@ -1,5 +1,0 @@
-use Rattle.tool_run.proofs.Joined.{read_plan_is_well_formed}
-use Rattle.tool_run.proofs.laws.read_plans_are_well_formed.Goals as goal
-
-pub returns : goal.returns
-returns c = read_plan_is_well_formed c.network_list_laws.ensures.well_formed c.pod_file_laws.ensures.well_formed c.joined_plans_are_well_formed.ensures

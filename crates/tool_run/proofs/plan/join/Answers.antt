@@ -1,8 +1,0 @@
-use Rattle.std.proofs.Common.{sym}
-use Rattle.tool_run.specs.Verdict.{plan_from}
-use Rattle.tool_run.proofs.plan.join.Goals as goal
-
-pub returns-in-Ok-clause-well_formed : goal.returns-in-Ok-clause-well_formed
-returns-in-Ok-clause-well_formed c =
-    c.read_plans_are_well_formed.ensures (plan_from c.args.words.now c.args.pods c.args.lists) c.in-Ok.plan c.requires.lists_read c.requires.pods_read
-    (sym c.in-Ok.ensures)

@@ -1,0 +1,52 @@
+-- What follows of how a run ended, and of a book that is over.
+use Rattle.std.specs.Prelude.{◌≡◌, ◌≢◌, ◌≤◌, ◌⊎◌, ℕ, List, [], ◌∷◌, length, Option, Some, None}
+use Rattle.cni_addr.specs.Lists.{IsAmong}
+use Rattle.cni_io.specs.Files.{StoredFiles}
+use Rattle.pod_workers.specs.Legal.{Legal}
+use Rattle.pod_workers.specs.World.{EachCommand, IsAnswered, World}
+use Rattle.tool_words.specs.Words.{words_given}
+use Rattle.tool_plan.specs.Dues.{AreFiles}
+use Rattle.tool_plan.specs.Seen.{FilesSeen}
+use Rattle.tool_plan.specs.Verdict.{Verdict, usage, line, carry, verdict_of}
+use Rattle.tool_run.specs.Seen.{HasWriteFailure, SinkSeen}
+use Rattle.tool_run.specs.Statuses.{Ends, HasReadAll}
+
+-- a status that a run may have where words and files come to this
+abbrev pub IsStatusOf : Verdict → ℕ → Type 0
+IsStatusOf usage status = status ≡ 2
+IsStatusOf (line bytes) status = status ≡ 3
+IsStatusOf (carry plan asked) status = IsAmong status (0 ∷ 1 ∷ 8 ∷ [])
+
+-- where the files are told or none is named, and no read and no write failed, the status is one of those for what words
+-- and files come to, or 6
+abbrev pub EachStatusIsOfItsVerdict : Type 0
+EachStatusIsOfItsVerdict = (words : List (List ℕ)) (files : FilesSeen) (sink : SinkSeen) (status : ℕ)
+    (book : Option World) → Ends words files sink status book
+    → (stored : StoredFiles) → AreFiles words files stored → HasReadAll words files → (HasWriteFailure sink → ⊥)
+    → IsStatusOf (verdict_of words stored) status ⊎ (status ≡ 6)
+
+-- a run whose words aren't taken says so, unless the sink gave up or memory ran out
+abbrev pub RefusedWordsAreReported : Type 0
+RefusedWordsAreReported =
+    (words : List (List ℕ)) (files : FilesSeen) (sink : SinkSeen) (status : ℕ) (book : Option World)
+    → Ends words files sink status book
+    → words_given words ≡ None → IsAmong status (2 ∷ 5 ∷ 6 ∷ [])
+
+-- what a run leaves where words and files come to this: a book of the plan that is carried out, and else none
+abbrev pub IsBookOf : Verdict → Option World → Type 0
+IsBookOf usage book = book ≡ None
+IsBookOf (line bytes) book = book ≡ None
+IsBookOf (carry plan asked) book = (b : World) × (book ≡ Some b) × (b.plan ≡ plan)
+
+-- where the files are told or none is named, no read failed and memory didn't run out, the book is that of what words
+-- and files come to, also where the sink gave up
+abbrev pub EachBookIsOfItsVerdict : Type 0
+EachBookIsOfItsVerdict = (words : List (List ℕ)) (files : FilesSeen) (sink : SinkSeen) (status : ℕ)
+    (book : Option World) → Ends words files sink status book
+    → (stored : StoredFiles) → AreFiles words files stored → HasReadAll words files → status ≢ 6
+    → IsBookOf (verdict_of words stored) book
+
+-- in a book with every round over each command has an answer
+abbrev pub EachCommandIsAnsweredAtTheEnd : Type 0
+EachCommandIsAnsweredAtTheEnd = (w : World) → Legal w → length w.plan.pods.rounds ≤ w.round
+    → EachCommand w.plan (λ n c. IsAnswered w n)
