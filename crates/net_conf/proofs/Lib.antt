@@ -1,3 +1,5 @@
+pub mod ChainFacts
+pub mod SameKeys
 mod ApartLemmas
 mod Endings
 mod ListFacts

@@ -10,30 +10,38 @@ use Rattle.cni_json.proofs.Endings.{goes, ok_same}
 use Rattle.cni_json.specs.WellFormed.{KeysAscend}
 use Rattle.net_conf.proofs.Endings.{needed_text-ok}
 use Rattle.net_conf.proofs.PluginFacts.{chain_at-ok}
-use Rattle.net_conf.specs.List.{read_or_refused, name_at, switch_at, disable_check_key, disable_gc_key, network_list_at, list_of}
+use Rattle.net_conf.specs.List.{read_or_refused, name_at, header_at, switch_at, disable_check_key, disable_gc_key, network_list_at, list_of}
 use Rattle.net_conf.specs.Names.{is_network_name}
 use Rattle.net_conf.specs.Plugins.{chain_at}
 use Rattle.net_conf.specs.Refusals.{invalid}
 use Rattle.net_conf.specs.Versions.{version_at}
 use Rattle.net_conf.specs.WellFormed.{IsWellFormedList}
+use Rattle.net_conf.specs.declared.list.ListHeader.{ListHeader}
 use Rattle.net_conf.specs.declared.list.NetList.{NetList}
 
 name_at-ok : (d : Data) (name : List ℕ) → name_at d ≡ Ok name → is_network_name name ≡ true
 unfolding name_at
 name_at-ok d name is = needed_text-ok (codes "name") is_network_name (text_field (codes "name") d) name is
 
+-- the name of a list whose head is read is in its grammar
+pub header_at-ok : (d : Data) (header : ListHeader) → header_at d ≡ Ok header → is_network_name header.name ≡ true
+unfolding header_at
+header_at-ok d header is =
+    let form = goes (object_or (invalid (codes "list")) d) _ header is in
+    let version = goes (version_at d) _ header form.rest in
+    let name = goes (name_at d) _ header version.rest in
+    subst (λ h. is_network_name h.name ≡ true) (ok_same name.rest) (name_at-ok d name.value name.first)
+
 network_list_at-ok : (d : Data) (list : NetList) → KeysAscend d → network_list_at d ≡ Ok list → IsWellFormedList list
 unfolding network_list_at
 network_list_at-ok d list order is =
-    let form = goes (object_or (invalid (codes "list")) d) _ list is in
-    let version = goes (version_at d) _ list form.rest in
-    let name = goes (name_at d) _ list version.rest in
-    let check = goes (switch_at disable_check_key d) _ list name.rest in
+    let header = goes (header_at d) _ list is in
+    let check = goes (switch_at disable_check_key d) _ list header.rest in
     let gc = goes (switch_at disable_gc_key d) _ list check.rest in
     let plugins = goes (chain_at d) _ list gc.rest in
     let chain = chain_at-ok d plugins.value order plugins.first in
     subst IsWellFormedList (ok_same plugins.rest) (record {
-      name = name_at-ok d name.value name.first;
+      name = header_at-ok d header.value header.first;
       first = chain.first;
       chained = chain.later;
       types_once = chain.types_once;

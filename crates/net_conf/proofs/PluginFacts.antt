@@ -1,6 +1,6 @@
 -- What the plugins of a list keep that is read.
-use Rattle.std.proofs.Common.{◌≡◌, ℕ, true, false, List, [], ◌∷◌, ◌++◌, codes, Option, Some, None, Ok, refl, sym, ap, subst}
-use Rattle.std.specs.Prelude.{All, map, if◌then◌else◌, ok_or}
+use Rattle.std.proofs.Common.{◌≡◌, ℕ, Bool, true, false, List, [], ◌∷◌, ◌++◌, codes, Option, Some, None, Ok, refl, sym, ap, subst}
+use Rattle.std.specs.Prelude.{All, map, ok_or}
 use Rattle.std.specs.List.{AllByRecursion, IsDistinct, list_any}
 use Rattle.std.specs.Str.{chars}
 use Rattle.std.proofs.lemmas.Bool.{or_parts}
@@ -20,19 +20,20 @@ use Rattle.cni_result.specs.Dns.{dns_of_object}
 use Rattle.net_conf.specs.Accepted.{supported, all_supported}
 use Rattle.net_conf.specs.Bridge.{bridge_rows, bridge_name_of, bridge_name_at, gateway_role_at, bridge_mode_at, bridge_at}
 use Rattle.net_conf.specs.Firewall.{firewall_at}
-use Rattle.net_conf.specs.Ipam.{manager_at, host_local_at, is_empty, read_ipam_of, ipam_at, addressing_at}
+use Rattle.net_conf.specs.Ipam.{manager_at, host_local_at, is_empty, read_ipam_at, read_ipam_of, ipam_at, addressing_at}
 use Rattle.net_conf.specs.Macvlan.{macvlan_rows, master_at, mode_at, macvlan_at}
-use Rattle.net_conf.specs.Members.{flag_at, default_mtu, given_mtu_at, mtu_at, ok_map}
+use Rattle.net_conf.specs.Members.{flag_at, default_mtu, given_mtu_at, mtu_at}
 use Rattle.net_conf.specs.Names.{is_interface_name}
-use Rattle.net_conf.specs.PluginTypes.{HaveTypesOnce, type_eq, type_of_chained}
-use Rattle.net_conf.specs.Plugins.{type_at, first_of, first_at, first_plugin, later_of, is_of_type, not_repeated, later_at, later_plugins, plugins_of, plugins_at, chain_at, wrong_plugins}
+use Rattle.net_conf.specs.Plugin.{plugin_at, plugin_by_type_at}
+use Rattle.net_conf.specs.PluginTypes.{HaveTypesOnce, makes_interface, type_eq, type_of_chained}
+use Rattle.net_conf.specs.Plugins.{type_at, first_of, first_at, first_plugin, later_of, is_of_type, not_repeated, later_at, chained_at, later_plugins, plugins_of, plugins_at, chain_of, chain_at, wrong_plugins}
 use Rattle.net_conf.specs.Portmap.{portmap_at}
 use Rattle.net_conf.specs.Ptp.{ptp_at}
 use Rattle.net_conf.specs.Refusals.{invalid}
 use Rattle.net_conf.specs.Routes.{routes_at}
 use Rattle.net_conf.specs.Sets.{sets_at}
 use Rattle.net_conf.specs.Tuning.{tuning_at}
-use Rattle.net_conf.specs.WellFormed.{IsMtu, IsWellFormedHostLocal, IsWellFormedIpam, IsWellFormedBridge, IsWellFormedPtp, IsWellFormedMacvlan, IsWellFormedFirst, IsWellFormedChained}
+use Rattle.net_conf.specs.WellFormed.{IsMtu, IsWellFormedHostLocal, IsWellFormedIpam, IsWellFormedBridge, IsWellFormedPtp, IsWellFormedMacvlan, IsWellFormedFirst, IsWellFormedChained, IsWellFormedPlugin}
 use Rattle.net_conf.specs.declared.accepted.Accepted.TheVariants.{EmptyText}
 use Rattle.net_conf.specs.declared.chained.Chained.{Chained}
 use Rattle.net_conf.specs.declared.error.ConfError.TheVariants as refusal
@@ -42,6 +43,7 @@ use Rattle.net_conf.specs.declared.first.HostLocalConf.{HostLocalConf}
 use Rattle.net_conf.specs.declared.first.MacvlanConf.{MacvlanConf}
 use Rattle.net_conf.specs.declared.first.PtpConf.{PtpConf}
 use Rattle.net_conf.specs.declared.ipam.Addressing.{Addressing}
+use Rattle.net_conf.specs.declared.plugin.Plugin.{Plugin}
 use Rattle.net_conf.specs.declared.plugins.PluginType.{PluginType}
 use Rattle.net_conf.specs.declared.plugins.PluginType.TheVariants as plugin
 use Rattle.net_conf.specs.declared.plugins.PluginChain.{PluginChain}
@@ -70,8 +72,9 @@ host_local_at-ok d conf is =
       routes = routes_at-ok d routes.value routes.first;
     })
 
-host_local_or_none-ok : (d : Data) (found : Option HostLocalConf) → (if is_empty d then Ok None else ok_map Some (host_local_at d)) ≡ Ok found → IsWellFormedIpam found
-host_local_or_none-ok d found is =
+pub read_ipam_at-ok : (d : Data) (found : Option HostLocalConf) → read_ipam_at d ≡ Ok found → IsWellFormedIpam found
+unfolding read_ipam_at
+read_ipam_at-ok d found is =
     by_outcome (is_empty d) _ _ _ is
     (λ empty same. subst IsWellFormedIpam (ok_same same) tt)
     (λ some same.
@@ -80,7 +83,7 @@ host_local_or_none-ok d found is =
 
 read_ipam_of-ok : (o : Option Data) (found : Option HostLocalConf) → read_ipam_of o ≡ Ok found → IsWellFormedIpam found
 read_ipam_of-ok None found is = subst IsWellFormedIpam (ok_same is) tt
-read_ipam_of-ok (Some d) found is = host_local_or_none-ok d found is
+read_ipam_of-ok (Some d) found is = read_ipam_at-ok d found is
 
 abbrev HasIpam : Addressing → Type 0
 HasIpam addressing = IsWellFormedIpam addressing.ipam
@@ -197,6 +200,13 @@ later_of-ok plugin.Tuning d found order is =
     let conf = mapped _ (tuning_at d) found is in
     subst IsWellFormedChained (ok_same conf.rest) (tuning_at-ok d conf.value order conf.first)
 
+chained_at-ok : (d : Data) (found : Chained) → KeysAscend d → chained_at d ≡ Ok found → IsWellFormedChained found
+unfolding chained_at
+chained_at-ok d found order is =
+    let form = goes (object_or wrong_plugins d) _ found is in
+    let type = goes (type_at d) _ found form.rest in
+    later_of-ok type.value d found order type.rest
+
 -- one more plugin, of a type that none of these has
 once_more : (before : List Chained) (next : Chained) (type : PluginType) → type_of_chained next ≡ type → list_any (is_of_type type) before ≡ false
     → HaveTypesOnce before → HaveTypesOnce (before ++ next ∷ [])
@@ -270,7 +280,7 @@ pub record IsChain (chain : PluginChain) : Type 0 where
 pub chain_at-ok : (d : Data) (chain : PluginChain) → KeysAscend d → chain_at d ≡ Ok chain → IsChain chain
 unfolding chain_at
 chain_at-ok d chain order is =
-    let plugins = goes (plugins_at d) _ chain is in
+    let plugins = goes (plugins_at d) chain_of chain is in
     let one = goes (first_plugin plugins.value) _ chain plugins.rest in
     let others = goes (later_plugins plugins.value) _ chain one.rest in
     subst IsChain (ok_same others.rest) (record {
@@ -278,3 +288,46 @@ chain_at-ok d chain order is =
       later = later_plugins-ok plugins.value others.value (plugins_at-ascends d plugins.value order plugins.first) others.first;
       types_once = later_plugins-once plugins.value others.value others.first;
     })
+
+-- ---- a plugin by itself
+
+plugin_at-ok : (first : Bool) (d : Data) (p : Plugin) → KeysAscend d → plugin_at first d ≡ Ok p → IsWellFormedPlugin p
+plugin_at-ok true d p order is = let conf = mapped _ (first_at d) p is in subst IsWellFormedPlugin (ok_same conf.rest) (first_at-ok d conf.value conf.first)
+plugin_at-ok false d p order is = let conf = mapped _ (chained_at d) p is in subst IsWellFormedPlugin (ok_same conf.rest) (chained_at-ok d conf.value order conf.first)
+
+pub plugin_by_type_at-ok : (d : Data) (p : Plugin) → KeysAscend d → plugin_by_type_at d ≡ Ok p → IsWellFormedPlugin p
+unfolding plugin_by_type_at
+plugin_by_type_at-ok d p order is =
+    let type = goes (type_at d) _ p is in
+    plugin_at-ok (makes_interface type.value) d p order type.rest
+
+-- the types of the two places
+first_of-type : (type : PluginType) (d : Data) (found : First) → first_of type d ≡ Ok found → makes_interface type ≡ true
+first_of-type plugin.Bridge d found is = refl
+first_of-type plugin.Ptp d found is = refl
+first_of-type plugin.Macvlan d found is = refl
+first_of-type plugin.Portmap d found is = cc
+first_of-type plugin.Firewall d found is = cc
+first_of-type plugin.Tuning d found is = cc
+
+later_of-place : (type : PluginType) (d : Data) (found : Chained) → later_of type d ≡ Ok found → makes_interface type ≡ false
+later_of-place plugin.Bridge d found is = cc
+later_of-place plugin.Ptp d found is = cc
+later_of-place plugin.Macvlan d found is = cc
+later_of-place plugin.Portmap d found is = refl
+later_of-place plugin.Firewall d found is = refl
+later_of-place plugin.Tuning d found is = refl
+
+-- a plugin that is read in some place is read by its type
+pub plugin_at-by_type : (first : Bool) (d : Data) (p : Plugin) → plugin_at first d ≡ Ok p → plugin_by_type_at d ≡ Ok p
+unfolding plugin_by_type_at first_at chained_at
+plugin_at-by_type true d p is =
+    let conf = mapped _ (first_at d) p is in
+    let form = goes (object_or wrong_plugins d) _ conf.value conf.first in
+    let type = goes (type_at d) _ conf.value form.rest in
+    rw (type.first, first_of-type type.value d conf.value type.rest) is
+plugin_at-by_type false d p is =
+    let conf = mapped _ (chained_at d) p is in
+    let form = goes (object_or wrong_plugins d) _ conf.value conf.first in
+    let type = goes (type_at d) _ conf.value form.rest in
+    rw (type.first, later_of-place type.value d conf.value type.rest) is

@@ -1,7 +1,7 @@
 -- The configuration of address management (CNI specification 1.1.0, section 1, `ipam`; the `host-local` plugin).
 use Rattle.std.specs.Prelude.{◌&&◌, codes, Bool, true, false, if◌then◌else◌, Result, Ok, Err, Option, Some, None, ⊤}
 use Rattle.std.specs.Str.{bytes_eq}
-use Rattle.serde_json.specs.Data.{Data, string, object, Members, no_members, member}
+use Rattle.serde_json.specs.Data.{Data, null, string, object, Members, no_members, member}
 use Rattle.serde_json.specs.Find.{get}
 use Rattle.serde_json.specs.Written.{compact_text}
 use Rattle.cni_json.specs.Fields.{member_at, object_or}
@@ -43,15 +43,20 @@ abbrev pub all_null : Members → Bool
 all_null no_members = true
 all_null (member key d ms) = is_null d && all_null ms
 
--- an object whose members, if it has any, are null
+-- null, and an object whose members, if it has any, are null
 abbrev pub is_empty : Data → Bool
+is_empty null = true
 is_empty (object ms) = all_null ms
 is_empty d = false
 
--- an absent object, and one in which nothing but null stands, ask for no address
+-- an `ipam` by itself; an empty one asks for no address
+unfoldable pub read_ipam_at : Data → Result (Option HostLocalConf) ConfError
+read_ipam_at d = if is_empty d then Ok None else ok_map Some (host_local_at d)
+
+-- an absent one asks for none either
 abbrev pub read_ipam_of : Option Data → Result (Option HostLocalConf) ConfError
 read_ipam_of None = Ok None
-read_ipam_of (Some d) = if is_empty d then Ok None else ok_map Some (host_local_at d)
+read_ipam_of (Some d) = read_ipam_at d
 
 -- the `ipam` of a plugin's object
 unfoldable pub ipam_at : Data → Result (Option HostLocalConf) ConfError

@@ -14,6 +14,7 @@ use Rattle.net_conf.specs.Refusals.{invalid}
 use Rattle.net_conf.specs.Versions.{version_at}
 use Rattle.net_conf.specs.declared.error.ConfError.{ConfError}
 use Rattle.net_conf.specs.declared.error.ConfError.TheVariants as refusal
+use Rattle.net_conf.specs.declared.list.ListHeader.{ListHeader}
 use Rattle.net_conf.specs.declared.list.NetList.{NetList}
 
 -- bytes that are no JSON, or have another number than whole ones of 64 bits
@@ -50,18 +51,24 @@ disable_check_key = codes "disableCheck"
 abbrev pub disable_gc_key : List ℕ
 disable_gc_key = codes "disableGC"
 
--- a network list
-unfoldable pub network_list_at : Data → Result NetList ConfError
-network_list_at d = do
+-- what a list says of itself before its plugins
+unfoldable pub header_at : Data → Result ListHeader ConfError
+header_at d = do
   _ ← object_or (invalid (codes "list")) d
   version ← version_at d
   name ← name_at d
+  Ok (record { version = version; name = name })
+
+-- a network list
+unfoldable pub network_list_at : Data → Result NetList ConfError
+network_list_at d = do
+  header ← header_at d
   check ← switch_at disable_check_key d
   gc ← switch_at disable_gc_key d
   plugins ← chain_at d
   Ok (record {
-    version = version;
-    name = name;
+    version = header.version;
+    name = header.name;
     disable_check = check;
     disable_gc = gc;
     first = plugins.first;

@@ -1,6 +1,6 @@
 -- The types of plugins, by their names (the `type` of the reference plugins) and by number, and the type of a later
 -- plugin.
-use Rattle.std.specs.Prelude.{ℕ, Bool, ◌==◌, List, codes, Option, find, map}
+use Rattle.std.specs.Prelude.{ℕ, Bool, true, false, ◌==◌, List, codes, Option, find, map}
 use Rattle.std.specs.List.{IsDistinct}
 use Rattle.std.specs.Str.{bytes_eq}
 use Rattle.net_conf.specs.declared.chained.Chained.{Chained}
@@ -34,6 +34,15 @@ type_code plugin.Tuning = 5
 -- two types are the same
 abbrev pub type_eq : PluginType → PluginType → Bool
 type_eq a b = type_code a == type_code b
+
+-- the types that make an interface, and so stand first
+abbrev pub makes_interface : PluginType → Bool
+makes_interface plugin.Bridge = true
+makes_interface plugin.Ptp = true
+makes_interface plugin.Macvlan = true
+makes_interface plugin.Portmap = false
+makes_interface plugin.Firewall = false
+makes_interface plugin.Tuning = false
 
 -- the type that the plugin has
 abbrev pub type_of_chained : Chained → PluginType

@@ -83,6 +83,13 @@ later_at before d = do
   _ ← not_repeated before type
   later_of type d
 
+-- a plugin after the first, whatever else stands before it
+unfoldable pub chained_at : Data → Result Chained ConfError
+chained_at d = do
+  _ ← object_or wrong_plugins d
+  type ← type_at d
+  later_of type d
+
 -- the plugins after the first
 abbrev pub later_plugins : Items → Result (List Chained) ConfError
 later_plugins no_items = Ok []
@@ -98,9 +105,12 @@ unfoldable pub plugins_at : Data → Result Items ConfError
 plugins_at d = plugins_of (list_field (codes "plugins") d)
 
 -- the first plugin, and those after it
-unfoldable pub chain_at : Data → Result PluginChain ConfError
-chain_at d = do
-  plugins ← plugins_at d
+abbrev pub chain_of : Items → Result PluginChain ConfError
+chain_of plugins = do
   first ← first_plugin plugins
   chained ← later_plugins plugins
   Ok (record { first = first; chained = chained })
+
+-- the plugins of a list
+unfoldable pub chain_at : Data → Result PluginChain ConfError
+chain_at d = plugins_at d >>= chain_of

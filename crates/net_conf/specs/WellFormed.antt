@@ -27,6 +27,8 @@ use Rattle.net_conf.specs.declared.first.HostLocalConf.{HostLocalConf}
 use Rattle.net_conf.specs.declared.first.MacvlanConf.{MacvlanConf}
 use Rattle.net_conf.specs.declared.first.PtpConf.{PtpConf}
 use Rattle.net_conf.specs.declared.list.NetList.{NetList}
+use Rattle.net_conf.specs.declared.plugin.Plugin.{Plugin}
+use Rattle.net_conf.specs.declared.plugin.Plugin.TheVariants as plugins
 
 -- ---- addresses
 
@@ -105,6 +107,10 @@ abbrev pub IsWellFormedChained : Chained → Type 0
 IsWellFormedChained (later.Portmap conf) = ⊤
 IsWellFormedChained (later.Firewall conf) = ⊤
 IsWellFormedChained (later.Tuning conf) = IsWellFormedTuning conf
+
+abbrev pub IsWellFormedPlugin : Plugin → Type 0
+IsWellFormedPlugin (plugins.First conf) = IsWellFormedFirst conf
+IsWellFormedPlugin (plugins.Chained conf) = IsWellFormedChained conf
 
 -- ---- the list
 

@@ -44,8 +44,8 @@ impl Refusal for ConfError {
     ghost tells_out_of_memory = { λ n e is. Prim.search rules };
 }
 
-/// The refusal of a key or part.
-pub(crate) fn invalid(alloc: Global, why: &str) -> ConfError
+/// The refusal of a key or part. It keeps a copy of the text, and is [`ConfError::NoMemory`] where that has no room.
+pub fn invalid(alloc: Global, why: &str) -> ConfError
     ensures { TellsAs is_out_of_memory result (refusal.Invalid why.now) }
 {
     Text::of(alloc, why).map_or_else(ConfError::from, |why| ConfError::Invalid { why })

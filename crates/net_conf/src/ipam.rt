@@ -34,8 +34,7 @@ pub fn addressing_of(alloc: Global, plugin: &Value) -> Result<Addressing, ConfEr
     Ok(Addressing { dns, ipam })
 }
 
-/// The configuration of address management, None where the plugin is to give no address: `ipam` is absent, or an object
-/// whose members, if it has any, are null.
+/// The configuration of address management of a plugin's object, None where `ipam` is absent too.
 #[tactic(auto, using(cni_json::proofs::Steps::steps, cni_json::proofs::WholeNumbers::parts_are_whole), unfolding(crate::specs::Ipam::ipam_at))]
 fn ipam(alloc: Global, plugin: &Value) -> Result<Option<HostLocalConf>, ConfError>
     requires { has_float (view plugin.now) ≡ false }
@@ -43,21 +42,29 @@ fn ipam(alloc: Global, plugin: &Value) -> Result<Option<HostLocalConf>, ConfErro
 {
     match member(plugin, "ipam") {
         None => Ok(None),
-        Some(object) => {
-            if is_empty(object) {
-                Ok(None)
-            } else {
-                let conf = host_local(alloc, object)?;
-                Ok(Some(conf))
-            }
-        }
+        Some(value) => read_ipam(alloc, value),
     }
 }
 
-fn is_empty(object: &Value) -> bool
-    ensures { result ≡ defined.is_empty (view object.now) }
+/// The configuration of address management that the value of an `ipam` is, None where it is to give no address: it is
+/// null, or an object whose members, if it has any, are null.
+#[tactic(auto, using(cni_json::proofs::Steps::steps), unfolding(crate::specs::Ipam::read_ipam_at))]
+pub fn read_ipam(alloc: Global, value: &Value) -> Result<Option<HostLocalConf>, ConfError>
+    requires { has_float (view value.now) ≡ false }
+    ensures { Gives is_out_of_memory result (defined.read_ipam_at (view value.now)) }
 {
-    match object {
+    if is_empty(value) {
+        return Ok(None);
+    }
+    let conf = host_local(alloc, value)?;
+    Ok(Some(conf))
+}
+
+fn is_empty(value: &Value) -> bool
+    ensures { result ≡ defined.is_empty (view value.now) }
+{
+    match value {
+        Value::Null => true,
         Value::Object(members) => all_null(members),
         _ => false,
     }

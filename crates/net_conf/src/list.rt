@@ -11,6 +11,13 @@ pub const DISABLE_CHECK_KEY: &str = "disableCheck";
 /// The key of a list that disables GC.
 pub const DISABLE_GC_KEY: &str = "disableGC";
 
+/// What a list says of itself before its plugins: the version that they are asked in, and the network's name.
+#[derive(PartialEq, Eq, Drop)]
+pub struct ListHeader {
+    pub version: Version,
+    pub name: Text,
+}
+
 /// A network: its name, the version that its plugins are asked in, and the plugins in the order of ADD (CNI
 /// specification 1.1.0, section 1, "Configuration format").
 #[derive(PartialEq, Eq, Drop)]

@@ -93,6 +93,16 @@ impl Eq for PluginType {
     ghost laws = { on_equiv type_code nat_eq_equiv };
 }
 
+/// Whether the type's plugins make an interface, and so stand first in a list.
+pub fn makes_interface(plugin_type: PluginType) -> bool
+    ensures { result ≡ plugin_types.makes_interface plugin_type }
+{
+    match plugin_type {
+        PluginType::Bridge | PluginType::Ptp | PluginType::Macvlan => true,
+        PluginType::Portmap | PluginType::Firewall | PluginType::Tuning => false,
+    }
+}
+
 /// The type of a later plugin.
 pub fn type_of_chained(plugin: &Chained) -> PluginType
     ensures { result ≡ plugin_types.type_of_chained plugin.now }
@@ -119,14 +129,16 @@ pub fn plugin_chain(alloc: Global, top: &Value) -> Result<PluginChain, ConfError
     requires { has_float (view top.now) ≡ false }
     ensures { Gives is_out_of_memory result (defined.chain_at (view top.now)) }
 {
-    let plugins = plugins(alloc, top)?;
+    let plugins = plugin_objects(alloc, top)?;
     let first = first_plugin(alloc, plugins)?;
     let chained = later_plugins(alloc, plugins)?;
     Ok(PluginChain { first, chained })
 }
 
+/// The objects of a list's plugins, which aren't looked into, or that `plugins` is [`ConfError::Invalid`]: it is absent
+/// or no list.
 #[tactic(auto, using(cni_json::proofs::Steps::steps, cni_json::proofs::WholeNumbers::parts_are_whole), unfolding(crate::specs::Plugins::plugins_at))]
-fn plugins<'a>(alloc: Global, top: &'a Value) -> Result<&'a [Value], ConfError>
+pub fn plugin_objects<'a>(alloc: Global, top: &'a Value) -> Result<&'a [Value], ConfError>
     requires { has_float (view top.now) ≡ false }
     ensures given { GivesAs is_out_of_memory (λ list. items_view list.now) result
         (defined.plugins_at (view top.entry.now)) }
@@ -195,6 +207,17 @@ fn later(alloc: Global, before: &[Chained], plugin: &Value) -> Result<Chained, C
     later_of(alloc, plugin_type, plugin)
 }
 
+/// A plugin after the first, whatever else stands before it.
+#[tactic(auto, using(cni_json::proofs::Steps::steps), unfolding(crate::specs::Plugins::chained_at))]
+pub fn chained(alloc: Global, plugin: &Value) -> Result<Chained, ConfError>
+    requires { has_float (view plugin.now) ≡ false }
+    ensures { Gives is_out_of_memory result (defined.chained_at (view plugin.now)) }
+{
+    need_object(plugin, || invalid(alloc, "plugins"))?;
+    let plugin_type = plugin_type(alloc, plugin)?;
+    later_of(alloc, plugin_type, plugin)
+}
+
 #[tactic(auto, using(cni_json::proofs::Steps::steps), unfolding(crate::specs::Plugins::not_repeated))]
 fn not_repeated(alloc: Global, before: &[Chained], plugin_type: PluginType) -> Result<(), ConfError>
     ensures { Gives is_out_of_memory result (defined.not_repeated before.now plugin_type) }
@@ -216,8 +239,9 @@ fn is_of_type(plugin: &Chained, plugin_type: PluginType) -> bool
     type_of_chained(plugin) == plugin_type
 }
 
+/// A plugin in the first place.
 #[tactic(auto, using(cni_json::proofs::Steps::steps), unfolding(crate::specs::Plugins::first_at))]
-fn first(alloc: Global, plugin: &Value) -> Result<First, ConfError>
+pub fn first(alloc: Global, plugin: &Value) -> Result<First, ConfError>
     requires { has_float (view plugin.now) ≡ false }
     ensures { Gives is_out_of_memory result (defined.first_at (view plugin.now)) }
 {
@@ -226,8 +250,9 @@ fn first(alloc: Global, plugin: &Value) -> Result<First, ConfError>
     first_of(alloc, plugin_type, plugin)
 }
 
+/// The type that the object names.
 #[tactic(auto, using(cni_json::proofs::Steps::steps), unfolding(crate::specs::Plugins::type_at))]
-fn plugin_type(alloc: Global, plugin: &Value) -> Result<PluginType, ConfError>
+pub fn plugin_type(alloc: Global, plugin: &Value) -> Result<PluginType, ConfError>
     ensures { Gives is_out_of_memory result (defined.type_at (view plugin.now)) }
 {
     match field_str(plugin, "type") {
