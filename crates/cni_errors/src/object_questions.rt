@@ -4,10 +4,8 @@ ghost use Rattle.std.specs.Prelude.{◌≡◌, IfOk};
 ghost use Rattle.cni_errors.specs.ObjectQuestions as asked;
 
 use crate::answer::{Cause, Missed, Question};
-use cni_addr::{Duplicate, NoMemory};
-use kernel_types::{
-    AddrObj, Call, Lease, Link, Object, Probe, RefCounted, RouteObj, Rule, Setting,
-};
+use cni_addr::{Duplicate, NoMemory, RefCounted};
+use kernel_types::{AddrObj, Call, Lease, Link, Object, Probe, RouteObj, Rule, Setting};
 use std::alloc::Global;
 
 /// An object that a check asks for by itself.

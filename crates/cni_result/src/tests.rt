@@ -1,7 +1,6 @@
-//! The calls that no program makes: a result is read, and printed as one line, and a port mapping is read.
+//! The calls that no program makes: a result is read, and printed as one line.
 
-use crate::{ResultError, read_mapping, read_result, result_line};
-use cni_json::read;
+use crate::{ResultError, read_result, result_line};
 use std::alloc::Global;
 use std::test::Fail;
 
@@ -95,38 +94,6 @@ fn the_first_wrong_member_is_told(rt: HostRuntime) -> Result<(), Fail> {
         assert_eq!(rt;
             outcome(rt.alloc(), text)?.as_slice(),
             wrong.as_bytes(),
-            "at {text}"
-        );
-    }
-    Ok(())
-}
-
-/// The port of the host, and whether the mapping is for one address.
-#[test]
-fn a_mapping_is_read(rt: HostRuntime) -> Result<(), Fail> {
-    for (text, found) in [
-        (
-            r#"{"containerPort":0,"hostIP":"::","hostPort":65535,"name":7,"protocol":"sctp"}"#,
-            Some((65535, true)),
-        ),
-        (
-            r#"{"containerPort":80,"hostIP":null,"hostPort":8080,"protocol":"tcp"}"#,
-            Some((8080, false)),
-        ),
-        (
-            r#"{"containerPort":80,"hostIP":"","hostPort":8080,"protocol":"tcp"}"#,
-            None,
-        ),
-        (
-            r#"{"containerPort":80,"hostPort":65536,"protocol":"tcp"}"#,
-            None,
-        ),
-        (r#"{"containerPort":80,"hostPort":8080}"#, None),
-    ] {
-        let entry = read(rt.alloc(), text.as_bytes())?;
-        assert_eq!(rt;
-            read_mapping(&entry).map(|mapping| (mapping.host_port, mapping.host_ip.is_some())),
-            found,
             "at {text}"
         );
     }
