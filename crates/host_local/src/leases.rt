@@ -75,10 +75,10 @@ fn given_by(addr: &Addr, range: &Range) -> Given
 }
 
 /// What the address means by the first range of the set that holds it, if one does.
-fn find_given(set: &RangeSet, addr: &Addr) -> Option<Given>
+fn find_given(set: &RefCounted<RangeSet>, addr: &Addr) -> Option<Given>
     ensures { result ≡ leases.given_by_set set.now addr.now }
 {
-    match range_with(set.ranges.as_slice(), addr) {
+    match range_with(set.get().ranges.as_slice(), addr) {
         Some(range) => Some(given_by(addr, range)),
         None => None,
     }
@@ -93,15 +93,16 @@ pub fn given_of(
 ) -> Result<Vec<Given>, NoMemory>
     ensures { IfOk result (λ given. given.items ≡ leases.given_of sets.now addrs.now) }
 {
-    Ok(
-        sets.iter()
-            .zip(addrs)
-            .filter_map(|(set, addr)| find_given(set.get(), addr))
-            .collect(alloc)?,
-    )
+    let mut given = Vec::new(alloc);
+    for (set, addr) in sets.iter().zip(addrs) {
+        if let Some(found) = find_given(set, addr) {
+            given.push(found)?;
+        }
+    }
+    Ok(given)
 }
 
-fn given_by_set(set: &RangeSet, addr: &Addr) -> Given
+fn given_by_set(set: &RefCounted<RangeSet>, addr: &Addr) -> Given
     requires { is_candidate set.now addr.now ≡ true }
     ensures { leases.given_by_set set.now addr.now ≡ Some result }
 {
@@ -118,7 +119,7 @@ pub fn given(conf: &HostLocalConf, set: u32, addr: &Addr) -> Given
     ensures { leases.given_at conf.now.sets set addr.now ≡ Some result }
 {
     match conf.sets.as_slice().get(set as usize) {
-        Some(set) => given_by_set(set.get(), addr),
+        Some(set) => given_by_set(set, addr),
         None => unreachable!(),
     }
 }
