@@ -78,10 +78,6 @@ def is_mtu(value):
     return is_number(value) and (value == 0 or 68 <= value <= 65535)
 
 
-def is_queue_length(value):
-    return is_number(value) and 0 <= value < 2**32
-
-
 def is_mac(value):
     return is_text(value) and (value == "" or MAC.fullmatch(value) is not None)
 
@@ -162,7 +158,7 @@ OF_PLUGIN = {
         "mac": (is_mac, "write six bytes, such as 0a:01:02:03:04:05"),
         "mtu": MTU,
         **dict.fromkeys(("promisc", "allmulti"), TRUTH),
-        "txQLen": (is_queue_length, "write a number of 32 bits, without quotes"),
+        "txQLen": (lambda it: is_number(it) and 0 <= it < 2**32, "write a number of 32 bits, without quotes"),
     },
 }
 
@@ -373,10 +369,6 @@ def of_versions(value):
         yield Refusal(("cniVersion",), 1, f"incompatible CNI version: {said}", reason, write)
 
 
-def is_switch(value):
-    return is_truth(value) or value in ("true", "false")
-
-
 def of_list(value):
     yield from of_versions(value)
     name = value.get("name")
@@ -384,7 +376,7 @@ def of_list(value):
         remedy = "write letters, digits, _ . and -, none of these three first"
         yield invalid(("name",), "name", f"{text_of(name)} is no name", remedy)
     for key in ("disableCheck", "disableGC"):
-        if value.get(key) is not None and not is_switch(value[key]):
+        if value.get(key) not in (None, "true", "false") and not is_truth(value[key]):
             yield invalid((key,), key, f"{text_of(value[key])} isn't taken", TRUTH[1])
     plugins = value.get("plugins")
     if plugins is None and "type" in value:

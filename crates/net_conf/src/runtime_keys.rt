@@ -33,7 +33,7 @@ pub fn asks_for_mappings(object: &Value) -> bool
 }
 
 fn is_true(found: Option<&Value>) -> bool
-    ensures { result ≡ capabilities.is_true (option_map (λ v. view v.now) found) }
+    ensures { result ≡ capabilities.is_true (option_map (λ v. view v.now) found.entry) }
 {
     matches!(found, Some(Value::Bool(true)))
 }
