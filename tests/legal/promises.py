@@ -81,6 +81,16 @@ def moments(run):
                 yield f"{it} lies on no link of its owner"
 
 
+def lasts(run):
+    """Each address that a pool leased last is a candidate of its set."""
+    for host in (it.after for it in run.entries if it.call[0] == "LeaseNext"):
+        for it in host.of["last"]:
+            address = ipaddress.ip_address(it["address"])
+            ranges = run.lists[it["network"]].sets[it["set"]]
+            if not any(within(address, each) and address != each["gateway"] for each in ranges):
+                yield f"{it} is no candidate"
+
+
 def asked_for(run):
     """An attachment has only what its last ADD that began asks for, its links as made or as wanted."""
     for it in told(run, "ADD"):
@@ -202,8 +212,7 @@ def entries(run):
         tag = f"{given['network']}/{given.get('container', '')}/{given.get('ifname', 'eth0')}"
         for it in [*removed, *added]:
             if it["kind"] == "last":
-                own_pool = entry.call[0] == "LeaseNext" and it["network"] == given["network"]
-                right = own_pool
+                right = entry.call[0] == "LeaseNext" and it["network"] == given["network"]
             elif verb == "GC":
                 right = it in removed and is_of(given["network"], it) and is_stale(given.get("valid", []), it["tag"])
             else:
@@ -239,6 +248,8 @@ def most_calls(it):
     """The most calls that a command with an entry makes."""
     if it.net is None:
         return 1
+    if it.verb == "VERSION":
+        return 0
     host, kinds = it.entries[0].before, len(it.net.kinds())
     if it.verb == "ADD":
         addresses = [next(candidates(ranges)) for ranges in it.net.sets]
@@ -264,7 +275,7 @@ def bounds(run):
             yield f"command {it.command.number} makes {len(it.entries)} calls"
 
 
-PARTS = [moments, asked_for, adds, dels, checks, collections, entries, statuses, bounds]
+PARTS = [moments, lasts, asked_for, adds, dels, checks, collections, entries, statuses, bounds]
 
 
 def broken_parts(run):
