@@ -109,6 +109,13 @@ def sources(names):
     return [Source(name, it) for name, it in given.items() if not names or name in names]
 
 
+def misquoted(texts):
+    """The vectors that README.md shows and no file has."""
+    for line in (VECTORS / "README.md").read_text(encoding="utf-8").splitlines():
+        if line.startswith('    {"') and not any(line.strip() in text for text in texts):
+            yield f"README.md: {line.strip()}"
+
+
 def main():
     words = [it for it in sys.argv[1:] if it != "--check"]
     schema, texts, wrong = read_json(VECTORS / "schema.json"), {}, []
@@ -117,6 +124,7 @@ def main():
         text = text_of(recording)
         texts[VECTORS / f"{source.name}.json"] = text
         wrong += recording.unlawful + [f"{source.name}: {it}" for it in misfits(json.loads(text), schema)]
+    wrong += misquoted([texts.get(it) or it.read_text(encoding="utf-8") for it in VECTORS.glob("*.json")])
     vectors = sum(len(case["vectors"]) for it in texts.values() for case in json.loads(it)["cases"])
     for it in wrong:
         print(it)
