@@ -32,18 +32,16 @@ LISTS = [
     network_list("bare", {"type": "bridge", "promiscMode": True}, TUNING, FIREWALL),
     {**network_list("kept", {**bridge(subnet="10.1.0.0/29"), "mtu": 9000}, PORTMAP), "disableGC": True},
 ]
-# what the opening may have: a master, and what stands where a bridge is to be
-LINKS = [
-    {"name": "eth1", "kind": "device"},
-    {"name": "cni0", "kind": "device"},
-    {"name": "cni0", "kind": "bridge", "mtu": 900},
-]
+# what the opening has: mostly a master, and at times what stands where a bridge is to be
+MASTER = {"name": "eth1", "kind": "device"}
+IN_THE_WAY = [{"name": "cni0", "kind": "device"}, {"name": "cni0", "kind": "bridge", "mtu": 900}]
 SPACES = ["/ns/a", "/ns/b", "/ns/c", "/ns/d"]
 CONTAINERS = ["c1", "c2", "c3", "c4", "c5"]
 # how often each verb is drawn, of those that may share a round and of those that may not
-TOGETHER = {"ADD": 12, "DEL": 5, "CHECK": 5, "VERSION": 1}
+TOGETHER = {"ADD": 12, "DEL": 6, "CHECK": 4, "VERSION": 1}
 ALONE = {"GC": 4, "STATUS": 2, "NSADD": 1, "NSDEL": 2, "DROP": 2, "FLUSH": 1}
 VERBS = {**TOGETHER, **ALONE}
+OUTSIDE = ["NSDEL", "DROP", "FLUSH"]
 WRONG = [
     {"container": "-c"},
     {"netns": ""},
@@ -68,9 +66,9 @@ def broken_off(rng):
 
 
 def attachment(rng, lists):
-    place = rng.randrange(len(CONTAINERS))
+    place, number = rng.randrange(len(CONTAINERS)), rng.randrange(len(lists))
     names = {"container": CONTAINERS[place], "netns": (SPACES + SPACES)[place]}
-    return {"network": rng.choice(lists)["name"], **names, "ifname": rng.choice(["eth0", "eth0", "eth0", "eth1"])}
+    return {"network": lists[number]["name"], **names, "ifname": f"eth{number if rng.random() < 0.8 else 0}"}
 
 
 def command(rng, verb, lists, attachments):
@@ -78,13 +76,13 @@ def command(rng, verb, lists, attachments):
     if verb in ("NSADD", "NSDEL"):
         return {**told, "netns": rng.choice([*SPACES, "/ns/z"])}
     if verb == "DROP":
-        return {**told, "netns": rng.choice(SPACES), "ifname": rng.choice(["eth0", "eth0", "eth1"])}
+        return {**told, "netns": rng.choice(SPACES), "ifname": rng.choice(["eth0", "eth0", "eth1", "eth2"])}
     if verb == "FLUSH":
         return {**told, "table": rng.choice(["nat", "filter"])}
     if verb in ("GC", "STATUS"):
         told["network"] = rng.choice(lists)["name"]
-        valid = [{"containerID": it, "ifname": "eth0"} for it in CONTAINERS if rng.random() < 0.5]
-        return {**told, "valid": valid}
+        kept = [it for it in attachments if rng.random() < 0.5]
+        return {**told, "valid": [{"containerID": it["container"], "ifname": it["ifname"]} for it in kept]}
     told |= rng.choice(attachments)
     if rng.random() < 0.5:
         told["portMappings"] = [mapping(rng) for _ in range(rng.randrange(3))]
@@ -95,16 +93,23 @@ def a_round(rng, *of):
     verb = rng.choices(list(VERBS), VERBS.values())[0]
     if verb in ALONE:
         return [command(rng, verb, *of)]
-    verbs = [verb, *(rng.choice(["ADD", "ADD", "DEL", "CHECK", "CHECK"]) for _ in range(rng.randrange(5)))]
+    verbs = [verb, *(rng.choice(["ADD", "ADD", "ADD", "DEL", "DEL", "CHECK"]) for _ in range(rng.randrange(5)))]
     return [command(rng, it, *of) for it in verbs]
+
+
+def rounds_of(rng, lists, attachments):
+    """A round, and after a change from outside mostly CHECKs of all attachments."""
+    first = a_round(rng, lists, attachments)
+    changed = first[0]["verb"] in OUTSIDE and rng.random() < 0.7
+    return [first, [{"verb": "CHECK", **it} for it in attachments]] if changed else [first]
 
 
 def drawn(rng):
     """Words and files of a run."""
     lists = rng.sample(LISTS, rng.randrange(2, 4))
-    links = [rng.choice(LINKS)] if rng.random() < 0.7 else []
-    attachments = [attachment(rng, lists) for _ in range(rng.randrange(2, 7))]
-    rounds = [a_round(rng, lists, attachments) for _ in range(rng.randrange(3, 14))]
+    links = [MASTER] * (rng.random() < 0.8) + [rng.choice(IN_THE_WAY)] * (rng.random() < 0.2)
+    attachments = [attachment(rng, lists) for _ in range(rng.randrange(3, 9))]
+    rounds = [it for _ in range(rng.randrange(3, 14)) for it in rounds_of(rng, lists, attachments)]
     opening = {"namespaces": SPACES[: rng.choice([3, 4, 4, 4])], "links": links}
     lists_by_file = {f"list{number}.json": it for number, it in enumerate(lists)}
     files = {"pods.json": {"opening": opening, "rounds": rounds}, **lists_by_file}
