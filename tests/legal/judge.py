@@ -1,11 +1,20 @@
+#!/usr/bin/env python3
 """Whether a run is lawful: each entry of its trace is the next call of its command, given the replies so far, and is
 replied as the kernel must after the calls before it; rounds come in order, and in a round the commands of a container
 in file order; stops and faults are where they were asked for; and answers, status and dump follow.
 
 A model of its own says so (kernel.py, plugins.py, scripts.py), which knows nothing of the program's sources.
+
+    cnitool --trace WORDS | judge.py --trace WORDS
+
+says it of one run, by what that prints, and ends with 1 where it isn't lawful.
 """
 
 import json
+import pathlib
+import sys
+
+sys.dont_write_bytecode = True
 
 from kernel import FAULT, Host
 from plugins import NetList, without_null
@@ -138,7 +147,8 @@ def differences(what, got, due):
 
 
 def complaints(run, words, status, lines):
-    """What isn't lawful, a text each; the run is carried out as far as it is. The words ask for a trace."""
+    """What isn't lawful, a text each; the run is carried out as far as it is. The words ask for a trace. No status is
+    given where it isn't known."""
     answers, trace, dump = parts_of(lines)
     if lines != [*answers, *trace, *dump]:
         yield "lines of another kind or order"
@@ -151,6 +161,28 @@ def complaints(run, words, status, lines):
         yield f"commands {run.open_commands()} aren't over at the end"
         return
     yield from differences("answer", answers, [it.line() for it in run.commands])
-    if status != run.status():
+    if status not in (None, run.status()):
         yield f"status {status}, due is {run.status()}"
     yield from differences("dump", dump, [*map(line_of, run.host.dump())] if "--dump" in words else [])
+
+
+def files_in(words):
+    """The files among the program's words."""
+    numbers = [place + 1 for place, it in enumerate(words) if it in ("--threads", "--stop-at")]
+    return [it for place, it in enumerate(words) if place not in numbers and not it.startswith("--")]
+
+
+def main():
+    words = sys.argv[1:]
+    pods, *lists = (json.loads(pathlib.Path(it).read_text(encoding="utf-8")) for it in files_in(words))
+    run = Run(pods, lists, stop_at_of(words))
+    lines = sys.stdin.read().split("\n")[:-1]
+    wrong = [*complaints(run, words, None, lines)]
+    for it in wrong:
+        print(it)
+    print(f"judge: {len(run.entries)} calls, {'not lawful' if wrong else 'lawful'}")
+    return 1 if wrong else 0
+
+
+if __name__ == "__main__":
+    sys.exit(main())
