@@ -145,6 +145,8 @@ def in_turn(program, words, files, swept):
             elif ended.stdout != text:
                 yield "the run that was refused nothing prints another text"
             number += 1
+    if not seen:
+        yield "no memory was refused: the program takes it from elsewhere"
     print(f"{sum(seen.values())} refused: " + ", ".join(f"status {it} {seen[it]} times" for it in sorted(seen)))
 
 
