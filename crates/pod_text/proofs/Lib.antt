@@ -1,3 +1,3 @@
-mod Parts
 mod Rounds
 mod Whole
+mod WithoutHost
