@@ -1,11 +1,11 @@
 #!/usr/bin/env python3
 """Crashes the last command of a pod file after each of its calls, and prints what survives.
 
-    tools/crashes.py PROGRAM PODS [LIST ..]
+    tools/crashes.py [--svg] PROGRAM PODS [LIST ..]
 
 A line a call: how many objects of each kind belong to the command's attachment, or of a GC to its network, when the
-command is stopped behind that call, and how it ends when it is tried again. The program runs once for each line. Ends
-with 0, or with the status of a run that wasn't carried out.
+command is stopped behind that call, and how it ends when it is tried again. `--svg` draws the same. The program runs
+twice for each line. Ends with 0, or with the status of a run that wasn't carried out.
 """
 
 import collections
@@ -17,12 +17,14 @@ import tempfile
 
 sys.dont_write_bytecode = True
 
+from diagram import COLOURS, FAINT, LINE_HEIGHT, PAD, PLAIN, SVG, escape, width_of
 from runs import CARRIED_OUT, run, values_with
 from show import about, outcome
 from table import table
 
 KINDS = ("link", "address", "route", "rule", "setting", "lease", "cached")
 COLUMNS = ("calls", "last call", *KINDS, "tried again")
+LEFT, *_ = COLOURS
 
 
 def run_of(rounds, pods, program, lists):
@@ -50,10 +52,36 @@ def crashes(calls, pods, program, lists):
         yield dict(zip(COLUMNS, (number, call["call"], *(left[it] or None for it in KINDS), again)))
 
 
+def cell(x, y, width, column, value):
+    """A cell of the picture: of a kind a box with how many are left, if any."""
+    if column in KINDS and value:
+        yield f'<rect x="{x}" y="{y - 12}" width="{width}" height="15" rx="3" fill="{LEFT}"/>'
+        yield f'<text x="{x + width // 2}" y="{y}" fill="#ffffff" text-anchor="middle">{value}</text>'
+    elif value:
+        yield f'<text x="{x}" y="{y}" fill="{PLAIN}">{escape(str(value))}</text>'
+
+
+def picture(rows):
+    """The table as SVG."""
+    widths = [max(width_of(str(it)) for it in (column, *(row[column] or "" for row in rows))) for column in COLUMNS]
+    places = [PAD + sum(widths[:number]) + 2 * PAD * number for number in range(len(COLUMNS))]
+    height = LINE_HEIGHT * (len(rows) + 1) + 2 * PAD
+    right = places[-1] + widths[-1] + PAD
+    drawn = [SVG.format(right, height), "<title>What each crash leaves</title>"]
+    drawn.append(f'<rect width="{right}" height="{height}" fill="#ffffff"/>')
+    for x, column in zip(places, COLUMNS):
+        drawn.append(f'<text x="{x}" y="{PAD + 12}" fill="{FAINT}">{column}</text>')
+    for number, row in enumerate(rows, 1):
+        y = PAD + 12 + LINE_HEIGHT * number
+        drawn += [it for x, width, key in zip(places, widths, COLUMNS) for it in cell(x, y, width, key, row[key])]
+    return "\n".join([*drawn, "</svg>"])
+
+
 def main():
-    if len(sys.argv) < 3 or sys.argv[2].startswith(("-", "gen:")):
+    words = [it for it in sys.argv[1:] if it != "--svg"]
+    if len(words) < 2 or words[1].startswith(("-", "gen:")):
         sys.exit(__doc__)
-    program, file, *lists = sys.argv[1:]
+    program, file, *lists = words
     pods = json.loads(pathlib.Path(file).read_text(encoding="utf-8"))
     whole = run_of(pods.get("rounds"), pods, program, lists)
     if whole.returncode not in CARRIED_OUT:
@@ -61,7 +89,8 @@ def main():
         return whole.returncode
     number = sum(map(len, pods["rounds"]))
     calls = [it for it in values_with("call", whole.stdout) if it["n"] == number]
-    print("\n".join(table(list(crashes(calls, pods, program, lists)), list(COLUMNS))))
+    rows = list(crashes(calls, pods, program, lists))
+    print(picture(rows) if "--svg" in sys.argv else "\n".join(table(rows, list(COLUMNS))))
     return 0
 
 
