@@ -3,9 +3,9 @@
 ghost use Rattle.std.specs.Prelude.{◌≡◌};
 ghost use Rattle.cni_addr.specs.declared.address.Family.TheVariants.{V4};
 
-use cni_addr::{Addr, Cidr, Duplicate, Family, NoMemory, RangeSet, RefCounted, Text};
+use cni_addr::{Addr, Cidr, Family, NoMemory, RangeSet, RefCounted, Text};
 use cni_result::Version;
-use host_local::{given, given_of, ipam_result, lease_at, lease_calls, release_kinds};
+use host_local::{given, ipam_result, lease_calls, release_kinds};
 use ip_pool::contains_candidate;
 use kernel_types::{Att, Call, Given, Kind};
 use net_conf::{First, HostLocalConf, NetList, read_list};
@@ -13,8 +13,6 @@ use std::alloc::Global;
 use std::test::Fail;
 
 const TEN_88: u32 = 0x0a58_0000;
-
-const TEN_89: u32 = 0x0a59_0000;
 
 /// The address of this number in the network.
 fn address(network: u32, number: u32) -> Addr
@@ -84,17 +82,6 @@ fn is_lease(call: &Call, att: &Att, number: u32, set: &RefCounted<RangeSet>) -> 
     }
 }
 
-/// Whether there is a set at this place and a call that leases from it, or neither.
-fn leases_at(conf: &HostLocalConf, att: &Att, number: u32) -> Result<bool, NoMemory> {
-    let sets = conf.sets.as_slice();
-    let call = lease_at(sets, att.copy()?, number)?;
-    Ok(match (&call, sets.get(number as usize)) {
-        (Some(call), Some(set)) => is_lease(call, att, number, set),
-        (None, None) => true,
-        _ => false,
-    })
-}
-
 /// Whether there are two sets, and two calls that lease from one after the other.
 fn leases_from_two(alloc: Global, conf: &HostLocalConf, att: &Att) -> Result<bool, NoMemory> {
     let calls = lease_calls(alloc, conf, att)?;
@@ -113,25 +100,8 @@ fn each_set_is_leased_from_once(rt: HostRuntime) -> Result<(), Fail> {
         return Err("addresses".into());
     };
     let att = container(rt.alloc())?;
-    for number in 0..3u32 {
-        let leases = leases_at(conf, &att, number)?;
-        assert!(rt; leases, "set {number}");
-    }
     let both = leases_from_two(rt.alloc(), conf, &att)?;
     assert!(rt; both && release_kinds() == [Kind::Leases]);
-    Ok(())
-}
-
-#[test]
-fn an_address_is_given_by_the_range_of_its_set(rt: HostRuntime) -> Result<(), Fail> {
-    let list = two_sets(rt.alloc())?;
-    let Some(conf) = ipam_of(&list) else {
-        return Err("addresses".into());
-    };
-    let addrs = [address(TEN_88, 9), address(TEN_89, 2)];
-    let both = given_of(rt.alloc(), conf.sets.as_slice(), &addrs)?;
-    let meant = [means(TEN_88, 9), means(TEN_89, 2)];
-    assert!(rt; both.as_slice() == meant.as_slice());
     Ok(())
 }
 
