@@ -167,7 +167,6 @@ fn push_parts<K: Kernel + Drop>(
 }
 
 /// Appends each part, where none tells of the host.
-#[tactic(auto, using(crate::proofs::WithoutHost::without_host))]
 fn push_without_host<K: Kernel + Drop>(
     alloc: Global,
     book: &Book<K>,
