@@ -5,9 +5,8 @@ ghost use Rattle.net_conf.specs.WellFormed.{IsWellFormedList};
 ghost use Rattle.pod_file.specs.WellFormed.{IsWellFormedPods};
 ghost use Rattle.pod_workers.specs.Plans.{IsWellFormed};
 
-use cni_addr::{Duplicate, Items, NoMemory};
+use cni_addr::{Duplicate, Items, NoMemory, RefCounted};
 use kernel_tables::TableKernel;
-use kernel_types::RefCounted;
 use net_conf::{NetList, network_list_laws, read_list};
 use pod_file::{Pods, pod_file_laws, read_pods};
 use pod_workers::{Book, Plan, joined_plans_are_well_formed};
