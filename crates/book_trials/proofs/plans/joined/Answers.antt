@@ -1,5 +1,0 @@
-use Rattle.std.proofs.Common.{None, sym}
-use Rattle.book_trials.proofs.plans.joined.Goals as goal
-
-pub returns-in-Ok : goal.returns-in-Ok
-returns-in-Ok c = c.joined_plans_are_well_formed.ensures (record { lists = c.args.lists; pods = c.args.pods; stop_at = None }) c.in-Ok.plan (sym c.in-Ok.ensures) c.requires.lists c.requires.pods
