@@ -9,6 +9,7 @@ use Rattle.cni_errors.specs.declared.answer.Answer.{Answer}
 use Rattle.cni_errors.specs.declared.answer.Answer.TheVariants as answers
 use Rattle.cni_errors.specs.declared.answer.Cause.{Cause}
 use Rattle.cni_errors.specs.declared.answer.Cause.TheVariants as causes
+use Rattle.cni_verbs.specs.Replies.{is_granted}
 use Rattle.kernel_types.specs.declared.object.Att.{Att}
 use Rattle.kernel_types.specs.declared.object.Host.{Host}
 use Rattle.kernel_types.specs.declared.object.Link.{Link}
@@ -26,12 +27,6 @@ use Rattle.pod_laws.specs.Moments.{has_fault}
 use Rattle.pod_laws.specs.Answers.{EachIsOrRefused, EachIsWhere, EachRefusal, IsFirstToFail, IsRefusedByFields}
 
 -- ---- the first refusal
-
--- a reply after which an ADD goes on
-abbrev pub is_granted : Reply → Bool
-is_granted Done = true
-is_granted (Leased addr) = true
-is_granted reply = false
 
 abbrev pub lets_go_on : Entry → Bool
 lets_go_on e = is_granted e.reply

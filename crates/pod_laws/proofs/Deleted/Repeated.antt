@@ -26,6 +26,7 @@ use Rattle.plugin_base.specs.Calls.{is_call_of}
 use Rattle.plugin_base.specs.Share.{Share, share_of, no_objects}
 use Rattle.plugin_base.proofs.Refusals.{refused-same, refused-lease}
 use Rattle.cni_verbs.specs.AddCalls.{is_done}
+use Rattle.cni_verbs.specs.Replies.{is_granted}
 use Rattle.cni_errors.specs.CommandFields.{att_of}
 use Rattle.cni_verbs.specs.Script.{State, AtBegin, BeforeLeases, Leasing, AfterLeases, ReadingCache, Deleting, FindingEntry, Asking, Changing, Collecting, Over, Calls, turn}
 use Rattle.plugin_chain.specs.Wanted.{deletion}
@@ -39,7 +40,7 @@ use Rattle.pod_workers.proofs.Sound.{sound_host}
 use Rattle.pod_laws.specs.AskedFor.{begins, is_begin_of}
 use Rattle.pod_laws.specs.Moments.{IsGone, is_of, own_entries, until_last}
 use Rattle.pod_laws.specs.Single.{EachEntry}
-use Rattle.pod_laws.specs.Refused.{is_granted, lets_go_on}
+use Rattle.pod_laws.specs.Refused.{lets_go_on}
 use Rattle.pod_laws.specs.Repeated.{GoneStaysGone, IsWithoutMaking, RepeatedDeletionsLeave, makes_nothing}
 use Rattle.pod_laws.proofs.Deleted.Entries.{each_deletion_is_own}
 use Rattle.pod_laws.proofs.Histories.EachEntry.{DoesNow, DoesOutside, each-entry}

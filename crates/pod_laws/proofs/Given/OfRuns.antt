@@ -24,6 +24,7 @@ use Rattle.cni_verbs.specs.Endings.{answer_of}
 use Rattle.cni_errors.specs.Answers.{error_of}
 use Rattle.cni_errors.specs.CommandFields.{att_of}
 use Rattle.cni_verbs.specs.Mappings.{mappings_of}
+use Rattle.cni_verbs.specs.Replies.{is_granted}
 use Rattle.cni_verbs.specs.Script.{State, Collecting, Over, leases_in}
 use Rattle.cni_verbs.specs.Sweep.{Work}
 use Rattle.plugin_chain.specs.Wanted.{result_of_add, sets_of, wanted}
@@ -41,7 +42,7 @@ use Rattle.pod_workers.proofs.Listed.{listed_network}
 use Rattle.pod_laws.specs.Added.{WasAdded, HasMade}
 use Rattle.pod_laws.specs.Deleted.{WasDeleted, HasDeleted, IsUndeletedFor, IsYes, NothingFails, WasNotDeleted, AnswersOfDel, UnfailedIsDeleted}
 use Rattle.pod_laws.specs.Moments.{has_fault, host_at_end, own_entries}
-use Rattle.pod_laws.specs.Refused.{is_granted, lets_go_on, IsCause, no_namespace, name_taken, pool_empty, no_master, fault, IsResult, NothingRefuses, UnrefusedIsAdded, WasRefused, IsRefusedFor, AnswersOfAdd, BeginLeavesTheHost}
+use Rattle.pod_laws.specs.Refused.{lets_go_on, IsCause, no_namespace, name_taken, pool_empty, no_master, fault, IsResult, NothingRefuses, UnrefusedIsAdded, WasRefused, IsRefusedFor, AnswersOfAdd, BeginLeavesTheHost}
 use Rattle.pod_laws.specs.Answers.{EachIsOrRefused, EachIsWhere, EachRefusal, IsRefusedAnswer, is_cut_off}
 use Rattle.pod_laws.proofs.Added.Achieved.{Achieved, IsAddedWith, achieved-end, achieved-start, achieved-step}
 use Rattle.pod_laws.proofs.Questions.Asking.{fault-last}

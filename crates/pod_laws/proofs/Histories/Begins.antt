@@ -24,6 +24,7 @@ use Rattle.plugin_base.specs.Calls.{is_plugin_call_of, is_call_of}
 use Rattle.plugin_base.specs.Share.{Share}
 use Rattle.plugin_base.proofs.OtherCalls.{call-apart}
 use Rattle.cni_verbs.specs.AddCalls.{is_done}
+use Rattle.cni_verbs.specs.Replies.{is_granted}
 use Rattle.cni_errors.specs.CommandFields.{att_of}
 use Rattle.cni_verbs.specs.Script.{State, AtBegin, BeforeLeases, Leasing, AfterLeases, ReadingCache, Deleting, Over, Calls, turn}
 use Rattle.plugin_chain.specs.Wanted.{deletion}
@@ -39,7 +40,7 @@ use Rattle.pod_workers.proofs.OfPlugins.{LeftAreOfPlugins}
 use Rattle.pod_workers.proofs.Splits.{none-or-some, split_nil}
 use Rattle.pod_laws.specs.AskedFor.{begins, is_begin_of, last_begun}
 use Rattle.pod_laws.specs.Moments.{own_entries}
-use Rattle.pod_laws.specs.Refused.{is_granted, lets_go_on}
+use Rattle.pod_laws.specs.Refused.{lets_go_on}
 use Rattle.pod_laws.proofs.Refused.Causes.{IsPluginReply, begin-may}
 use Rattle.pod_laws.proofs.Histories.Entries.{apart-entry, is_of-own, own_entries-own, own_entries-other, no-entries}
 use Rattle.pod_laws.proofs.Histories.States.{IsOtherVerb, is_question, not-both}

@@ -20,11 +20,12 @@ use Rattle.kernel_types.specs.declared.call.Call.TheVariants.{Begin, BridgeEnsur
 use Rattle.kernel_types.specs.declared.call.Reply.{Reply}
 use Rattle.kernel_types.specs.declared.call.Reply.TheVariants.{Done, NoNs, NoLink, Taken, Empty, Leased, Gone, Has, Owners, Entry as Kept, Fault}
 use Rattle.plugin_base.specs.Calls.{is_plugin_call_of}
+use Rattle.cni_verbs.specs.Replies.{is_granted}
 use Rattle.cni_verbs.specs.Script.{cause_of}
 use Rattle.cni_errors.specs.declared.answer.Cause.{Cause}
 use Rattle.cni_errors.specs.declared.answer.Cause.TheVariants as causes
 use Rattle.pod_workers.specs.World.{reply_to}
-use Rattle.pod_laws.specs.Refused.{is_granted, IsCause, no_namespace, name_taken, pool_empty, no_master, fault}
+use Rattle.pod_laws.specs.Refused.{IsCause, no_namespace, name_taken, pool_empty, no_master, fault}
 use Rattle.pod_laws.proofs.Added.Footing.{IsMacvlan}
 
 -- ---- the replies that a plugin's call may get

@@ -27,6 +27,7 @@ use Rattle.plugin_base.specs.Calls.{is_plugin_call_of}
 use Rattle.plugin_base.specs.Share.{Share, share_of, no_objects}
 use Rattle.plugin_base.proofs.Deletions.{gone-none, gone-links, no-links}
 use Rattle.cni_errors.specs.CommandFields.{att_of, add_refusal, del_refusal}
+use Rattle.cni_verbs.specs.Replies.{is_granted}
 use Rattle.cni_verbs.specs.Script.{State, AtBegin, BeforeLeases, Leasing, AfterLeases, ReadingCache, Deleting, FindingEntry, Asking, Changing, Collecting, Over, Calls, before_of, back_of, after_leases, leasing, before_leases, deleting, faulted, cause_of, at_begin, at_call_before, at_lease, at_call_after, at_cache, at_deletion, advance, unless_refused, start_of, turn}
 use Rattle.plugin_chain.specs.Wanted.{sets_of, kinds_of, deletion}
 use Rattle.cni_errors.specs.declared.answer.Cause.{Cause}
@@ -39,7 +40,7 @@ use Rattle.pod_workers.proofs.Sound.{sound_host}
 use Rattle.pod_workers.proofs.StepsLeft.{host-made}
 use Rattle.pod_laws.specs.Deleted.{HasDeleted, IsUndeletedFor}
 use Rattle.pod_laws.specs.Moments.{has_fault, own_entries}
-use Rattle.pod_laws.specs.Refused.{is_granted, lets_go_on, FirstRefusal, IsRefusedFor}
+use Rattle.pod_laws.specs.Refused.{lets_go_on, FirstRefusal, IsRefusedFor}
 use Rattle.pod_laws.proofs.Refused.Causes.{Refuses, begin-refused, plugin-refused, lease-refused}
 use Rattle.pod_laws.proofs.Histories.Entries.{pushed}
 use Rattle.pod_laws.proofs.Added.Footing.{IsMacvlan}
