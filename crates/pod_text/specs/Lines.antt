@@ -1,6 +1,6 @@
 -- What is printed of a world: one JSON object a line, for the commands in file order or for their numbers, for the
--- history, and for the host.
-use Rattle.std.specs.Prelude.{ℕ, ◌+◌, Bool, true, false, ◌||◌, List, [], ◌∷◌, ◌++◌, codes, Option, Some, None, if◌then◌else◌}
+-- requests to plugins, for the history, for the host, and for packets.
+use Rattle.std.specs.Prelude.{ℕ, ◌+◌, ◌==◌, Bool, true, false, not, ◌||◌, List, [], ◌∷◌, ◌++◌, length, codes, Option, Some, None, if◌then◌else◌}
 use Rattle.std.specs.List.{flat_map}
 use Rattle.serde_json.specs.Data.{Data, boolean, object, Members, no_members, put}
 use Rattle.cni_json.specs.Json.{line_of}
@@ -13,11 +13,14 @@ use Rattle.cni_errors.specs.declared.answer.Answer.{Answer}
 use Rattle.cni_errors.specs.declared.answer.Answer.TheVariants.{Added, Yes, Skipped, Versions, Refused, OutOfMemory, Stopped}
 use Rattle.cni_errors.specs.declared.answer.Skip.{Skip}
 use Rattle.cni_errors.specs.declared.answer.Skip.TheVariants as skips
+use Rattle.exec_protocol.specs.Raw.{RawView}
 use Rattle.kernel_text.specs.Dump.{dump_of}
 use Rattle.kernel_text.specs.Replies.{trace_data}
 use Rattle.net_conf.specs.List.{disable_check_key, disable_gc_key}
 use Rattle.pod_file.specs.Commands.{verb_text}
 use Rattle.pod_file.specs.declared.command.Command.{Command}
+use Rattle.pod_text.specs.Fates.{fates_from}
+use Rattle.pod_text.specs.Requests.{all_requests}
 use Rattle.pod_text.specs.Summary.{summary_line}
 use Rattle.pod_text.specs.declared.asked.Asked.{Asked}
 use Rattle.pod_text.specs.declared.asked.CommandPart.{CommandPart}
@@ -88,6 +91,11 @@ trace_lines w = trace_from 1 w.history
 abbrev pub where_asked : Bool → List ℕ → List ℕ
 where_asked asked lines = if asked then lines else []
 
+-- the lines of the requests, by the lists that were handed over where these lines were asked for
+abbrev pub requests_asked : Option (List RawView) → World → List ℕ
+requests_asked None w = []
+requests_asked (Some raws) w = all_requests raws w
+
 -- ---- the text
 
 -- what is printed of the commands
@@ -99,12 +107,16 @@ abbrev pub is_summary : CommandPart → Bool
 is_summary Lines = false
 is_summary Summary = true
 
--- some part tells of the host: its lines, or the number of its leases
+-- some part tells of the host: its lines, the number of its leases, or what becomes of packets
 abbrev pub shows_host : Asked → Bool
-shows_host asked = asked.dump || is_summary asked.commands
+shows_host asked = asked.dump || is_summary asked.commands || not (length asked.packets == 0)
 
--- the part on the commands, then the history's lines and the host's where they are asked for
+-- the part on the commands, then the lines of the requests, of the history and of the host where they are asked for,
+-- then those of the packets
 unfoldable pub text_of : World → Asked → List ℕ
 text_of w asked =
-    command_part asked.commands w ++ where_asked asked.trace (trace_lines w)
+    command_part asked.commands w
+    ++ requests_asked asked.requests w
+    ++ where_asked asked.trace (trace_lines w)
     ++ where_asked asked.dump (dump_of (host_of w))
+    ++ fates_from 0 (host_of w) asked.packets

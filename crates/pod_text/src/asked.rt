@@ -1,5 +1,9 @@
 //! What is asked for in the text of a book.
 
+use cni_addr::Items;
+use exec_protocol::RawList;
+use packet_probe::Packet;
+
 /// What is printed of the commands.
 #[derive(Clone, Copy, Debug, PartialEq, Eq)]
 pub enum CommandPart {
@@ -13,8 +17,13 @@ pub enum CommandPart {
 #[derive(Drop)]
 pub struct Asked {
     pub commands: CommandPart,
+    /// Where the requests to plugins are asked for, the plan's lists as they were read: a line for each request that
+    /// a command which was done made of a plugin.
+    pub requests: Option<Items<RawList>>,
     /// A line for each call of the history.
     pub trace: bool,
     /// A line for each object of the host.
     pub dump: bool,
+    /// A line for each of these: what becomes of it by the host's rules.
+    pub packets: Items<Packet>,
 }
