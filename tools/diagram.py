@@ -16,6 +16,10 @@ import json
 import sys
 from xml.sax.saxutils import escape
 
+sys.dont_write_bytecode = True
+
+from rules import command_of, is_ipv6
+
 COLOURS = ("#0067a5", "#c4500c", "#00805a", "#9c3d8f", "#8a6500", "#3f51b5")
 PLAIN = "#333333"
 FAINT = "#777777"
@@ -128,27 +132,6 @@ class Dump:
     def settings_of(self, place):
         """The settings of a namespace, each with its owner."""
         return [(f"{it['key']} = {it['value']}", it["tag"]) for it in self.of("setting", ns=place)]
-
-
-def is_ipv6(rule):
-    return any(":" in rule.get(it, "").removeprefix("DNAT").rpartition(":")[0] for it in ("src", "dst", "target"))
-
-
-def match_of(rule):
-    """What a rule matches, as iptables takes it."""
-    words = [f"-p {rule['protocol']}"] if "protocol" in rule else []
-    words += [f"-s {rule['src']}"] if "src" in rule else []
-    words += [("! " if "not_dst" in rule else "") + f"-d {rule['dst']}"] if "dst" in rule else []
-    words += [f"--dport {rule['dport']}"] if "dport" in rule else []
-    words += ["-m conntrack --ctstate RELATED,ESTABLISHED"] if "established" in rule else []
-    return " ".join(words)
-
-
-def command_of(rule):
-    """A rule as the command that appends it, in three parts."""
-    command = "ip6tables" if is_ipv6(rule) else "iptables"
-    target = rule["target"].replace("DNAT ", "DNAT --to-destination ")
-    return [f"{command} -t {rule['table']} -A {rule['chain']}", match_of(rule), f"-j {target}"]
 
 
 def port_of(rule):

@@ -1,6 +1,6 @@
 #!/usr/bin/env python3
-"""Runs a built program on the rows of rows.json and of ../readers, and on a list and a pod file that are cut off behind
-each of their bytes, and compares what it writes and its status.
+"""Runs a built program on the rows of rows.json, requests.json, packets.json and of ../readers, and on a list and a pod
+file that are cut off behind each of their bytes, and compares what it writes and its status.
 
     run.py [PROGRAM [WORD]]    the rows whose names hold WORD; without one, all; fails where there is none
 
@@ -9,6 +9,7 @@ A row has the files that lie where the program runs, the words, and what is expe
     status      the exit status
     stdout      all lines
     answers     the lines of the commands, which come first
+    packets     the lines of the packets, which come last
     ends_with   the last of these lines
     calls       by command number: how many calls it made, or their kinds in order (the words ask for a trace)
     replies     by command number: the replies to its calls, in order (the words ask for a trace)
@@ -20,9 +21,9 @@ A row has the files that lie where the program runs, the words, and what is expe
     stdout_to   the file that standard output goes to, in place of a pipe that is read
     for_each    the row stands for as many as these lists have places: `<K>` is what the list K has at the row's place
 
-A file is a JSON value that is written compactly, or `@NAME`, one of the lists; or {"text": ..}, {"size": N} or
-{"directory": true}; or {"before": .., "repeated": .., "times": N, "after": ..}, texts, of which the second stands N
-times, between commas.
+A file is a JSON value that is written compactly, or `@NAME`, one of the lists of rows.json; or {"text": ..},
+{"size": N} or {"directory": true}; or {"before": .., "repeated": .., "times": N, "after": ..}, texts, of which the
+second stands N times, between commas.
 In a line `<HV N/C/I>`, `<MH N/C/I>` and `<MC N/C/I>` are the host end's name, its MAC and the container end's MAC of
 the attachment of container C to network N by interface I, and `<ML NAME>` is the MAC of another link; they are derived
 here.
@@ -209,7 +210,8 @@ def differences(row, status, out):
             yield f"leased: {got}"
         answers = [LEASED.sub("<LEASED>", line) for line in answers]
     last = answers[-len(row.get("ends_with", answers)) :]
-    for key, got in (("stdout", lines), ("answers", answers), ("ends_with", last)):
+    packets = [line for line, value in zip(lines, read) if "packet" in value]
+    for key, got in (("stdout", lines), ("answers", answers), ("packets", packets), ("ends_with", last)):
         if key in row and got != [expanded(line) for line in row[key]]:
             yield f"{key}: {json.dumps(got)}"
     yield from trace_differences(row, [value for value in read if "call" in value])
@@ -231,7 +233,8 @@ def main():
     program = program_of(sys.argv[1:])
     word = sys.argv[2] if len(sys.argv) > 2 else ""
     table = read_json(TOP / "tests/rows/rows.json")
-    told = (each for row in table["rows"] for each in each_of(row))
+    more = [row for file in ("requests", "packets") for row in read_json(TOP / f"tests/rows/{file}.json")]
+    told = (each for row in [*table["rows"], *more] for each in each_of(row))
     rows = [row for row in [*told, *reader_rows(), *cut_rows(table)] if word in row["name"]]
     failed = count_failed((row["name"], wrong_in(program, row, table["lists"])) for row in rows)
     print(f"rows: {len(rows) - failed} passed, {failed} failed")
