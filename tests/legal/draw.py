@@ -37,6 +37,8 @@ MASTER = {"name": "eth1", "kind": "device"}
 IN_THE_WAY = [{"name": "cni0", "kind": "device"}, {"name": "cni0", "kind": "bridge", "mtu": 900}]
 SPACES = ["/ns/a", "/ns/b", "/ns/c", "/ns/d"]
 CONTAINERS = ["c1", "c2", "c3", "c4", "c5"]
+# what each run is to print besides answers
+ASKED = ["--trace", "--dump", "--requests"]
 # how often each verb is drawn, of those that may share a round and of those that may not
 TOGETHER = {"ADD": 12, "DEL": 6, "CHECK": 4, "VERSION": 1}
 ALONE = {"GC": 4, "STATUS": 2, "NSADD": 1, "NSDEL": 2, "DROP": 2, "FLUSH": 1}
@@ -114,4 +116,4 @@ def drawn(rng):
     lists_by_file = {f"list{number}.json": it for number, it in enumerate(lists)}
     files = {"pods.json": {"opening": opening, "rounds": rounds}, **lists_by_file}
     stopped = ["--stop-at", str(rng.randrange(1, 120))] if rng.random() < 0.3 else []
-    return ["--threads", str(rng.randrange(1, 17)), *stopped, "--trace", "--dump", *files], files
+    return ["--threads", str(rng.randrange(1, 17)), *stopped, *ASKED, *files], files

@@ -1,7 +1,7 @@
 #!/usr/bin/env python3
 """Whether a run is lawful: each entry of its trace is the next call of its command, given the replies so far, and is
 replied as the kernel must after the calls before it; rounds come in order, and in a round the commands of a container
-in file order; stops and faults are where they were asked for; and answers, status and dump follow.
+in file order; stops and faults are where they were asked for; and answers, status, requests and dump follow.
 
 A model of its own says so (kernel.py, plugins.py, scripts.py), which knows nothing of the program's sources.
 
@@ -18,6 +18,7 @@ sys.dont_write_bytecode = True
 
 from kernel import FAULT, Host
 from plugins import NetList, without_null
+from protocol import request_lines
 from scripts import script_of
 
 SUCCESS, FAILURE = 0, 1
@@ -131,9 +132,10 @@ def stop_at_of(words):
 
 
 def parts_of(lines):
-    """The lines of the answers, of the trace and of the dump."""
+    """The lines of the answers, of the requests, of the trace and of the dump."""
     values = [json.loads(it) for it in lines]
-    return [[it for it, value in zip(lines, values) if key in value] for key in ("verb", "call", "kind")]
+    keys = ("verb", "request", "call", "kind")
+    return [[it for it, value in zip(lines, values) if key in value] for key in keys]
 
 
 def differences(what, got, due):
@@ -149,8 +151,8 @@ def differences(what, got, due):
 def complaints(run, words, status, lines):
     """What isn't lawful, a text each; the run is carried out as far as it is. The words ask for a trace. No status is
     given where it isn't known."""
-    answers, trace, dump = parts_of(lines)
-    if lines != [*answers, *trace, *dump]:
+    answers, requests, trace, dump = parts_of(lines)
+    if lines != [*answers, *requests, *trace, *dump]:
         yield "lines of another kind or order"
     for line in trace:
         wrong = run.step(json.loads(line))
@@ -163,6 +165,7 @@ def complaints(run, words, status, lines):
     yield from differences("answer", answers, [it.line() for it in run.commands])
     if status not in (None, run.status()):
         yield f"status {status}, due is {run.status()}"
+    yield from differences("request", requests, [*map(line_of, request_lines(run))] if "--requests" in words else [])
     yield from differences("dump", dump, [*map(line_of, run.host.dump())] if "--dump" in words else [])
 
 

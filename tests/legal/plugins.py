@@ -64,6 +64,7 @@ class NetList:
     """A network list: what its plugins ask for, and its result."""
 
     def __init__(self, conf):
+        self.objects = conf["plugins"]
         conf = without_null(conf)
         named = [conf.get("cniVersion"), *conf.get("cniVersions", [])]
         self.version = max(it for it in VERSIONS if it in named)
@@ -116,9 +117,10 @@ class NetList:
                     routes.append({"dst": dst, "gw": address_text(gateway)})
         return routes
 
-    def result(self, att, addresses):
+    def result(self, att, addresses, chained=None):
+        """The result after so many chained plugins, or after all of them."""
         given, interfaces = self.given(addresses), self.interfaces(att)
-        for it in self.chained:
+        for it in self.chained[:chained]:
             if it["type"] == "tuning":
                 named = {"mac": it["mac"].lower()} if it.get("mac") else {}
                 sized = {"mtu": it["mtu"]} if it.get("mtu") and self.version == "1.1.0" else {}

@@ -18,7 +18,7 @@ sys.dont_write_bytecode = True
 sys.path.insert(0, str(pathlib.Path(__file__).resolve().parent.parent))
 sys.path.insert(0, str(pathlib.Path(__file__).resolve().parent.parent / "rows"))
 
-from draw import drawn
+from draw import ASKED, drawn
 from judge import Run, complaints, stop_at_of
 from program import FAILURE, SUCCESS, TOP, compact, count_failed, lines_of, program_of, read_json, run_on
 from promises import broken, broken_parts
@@ -26,7 +26,6 @@ from run import content_of, each_of
 from wrong import altered, broken_histories, in_another_order, sample
 
 COUNT, SEED = 200, 1
-ASKED = ["--trace", "--dump"]
 
 
 def carried_out(words, files, status, lines):
@@ -56,11 +55,12 @@ def read(content):
 def rows():
     """The rows that are answered, each by its name with its words and files."""
     table = read_json(TOP / "tests/rows/rows.json")
-    for row in (each for it in table["rows"] for each in each_of(it)):
+    more = read_json(TOP / "tests/rows/requests.json")
+    for row in (each for it in [*table["rows"], *more] for each in each_of(it)):
         files = {name: content_of(it, table["lists"]) for name, it in row.get("files", {}).items()}
         if row["status"] in (SUCCESS, FAILURE) and "stdout_to" not in row and "pods.json" in files:
             words = [str(it) for it in row["words"] if it not in ASKED]
-            yield row["name"], ["--trace", "--dump", *words], {name: read(it) for name, it in files.items()}
+            yield row["name"], [*ASKED, *words], {name: read(it) for name, it in files.items()}
 
 
 def of_rows(program):

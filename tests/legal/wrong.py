@@ -3,6 +3,7 @@ that its calls came to."""
 
 import json
 
+from draw import ASKED
 from judge import line_of
 from program import bridge, network_list
 
@@ -28,7 +29,7 @@ def sample():
     ]
     pods = {"opening": {"namespaces": ["/ns/a", "/ns/b"]}, "rounds": rounds}
     files = {"pods.json": pods, "dual.json": DUAL, "net.json": PODS}
-    return ["--stop-at", "79", "--trace", "--dump", *files], files
+    return ["--stop-at", "79", *ASKED, *files], files
 
 
 def place_of(lines, **members):
@@ -105,6 +106,23 @@ def altered_answers(lines):
     yield "an answer is missing", without(lines, at(3))
 
 
+def altered_requests(lines):
+    """What no plugin would be handed."""
+
+    def at(n, plugin):
+        return place_of(lines, n=n, plugin=plugin)
+
+    def without_key(place, key):
+        request = json.loads(lines[place])["request"]
+        return other(lines, place, request={name: it for name, it in request.items() if name != key})
+
+    yield "a later plugin is handed no result", without_key(at(1, 1), "prevResult")
+    yield "mappings aren't handed on", without_key(at(1, 1), "runtimeConfig")
+    yield "a collection keeps nothing", without_key(at(9, 0), "cni.dev/valid-attachments")
+    yield "the second plugin is asked first", moved(lines, at(1, 1), at(1, 0))
+    yield "a plugin isn't asked", without(lines, at(3, 0))
+
+
 def altered_dumps(lines):
     """What the calls don't leave."""
 
@@ -124,7 +142,7 @@ RULE = line_of({"chain": "CNI-MASQ", "kind": "rule", "table": "nat", "tag": "dua
 
 def altered(status, lines):
     """Each wrong run by its name, with its status and lines."""
-    for alterations in (altered_traces, altered_answers, altered_dumps):
+    for alterations in (altered_traces, altered_answers, altered_requests, altered_dumps):
         for name, changed in alterations(lines):
             yield name, status, changed
     yield "the status says that nothing was refused", 1 - status, lines
