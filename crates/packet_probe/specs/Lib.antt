@@ -1,0 +1,4 @@
+pub mod Fate
+pub mod PacketFile
+pub mod Refusals
+pub mod Value
