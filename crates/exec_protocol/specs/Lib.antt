@@ -1,2 +1,3 @@
+pub mod DataCode
 pub mod Raw
 pub mod Request

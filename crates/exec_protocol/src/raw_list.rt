@@ -1,14 +1,14 @@
 //! A network list that keeps the objects of its plugins.
 
-ghost use Rattle.std.specs.Prelude.{◌≡◌, All, map};
+ghost use Rattle.std.specs.Prelude.{◌≡◌, All, IfOk, map};
 ghost use Rattle.serde_json.specs.View.{view};
 ghost use Rattle.cni_json.specs.Outcome.{Gives};
 ghost use Rattle.exec_protocol.specs.Raw.{IsPluginObject, IsRaw, raw_of};
 ghost use Rattle.net_conf.specs.Refusals.{is_out_of_memory};
 
-use cni_addr::RefCounted;
+use cni_addr::{NoMemory, RefCounted};
 use cni_json::Value;
-use net_conf::{ConfError, NetList};
+use net_conf::{ConfError, NetList, decode, network_list, plugin_objects};
 use std::alloc::Global;
 use std::marker::Model;
 
@@ -22,14 +22,18 @@ pub struct RawList {
 
 impl Model for RawList {
     ghost use Rattle.std.specs.Prelude.{map};
-    ghost use Rattle.serde_json.specs.View.{view};
+    ghost use Rattle.std.specs.Coded.{codes};
+    ghost use Rattle.serde_json.specs.View as json;
+    ghost use Rattle.exec_protocol.specs.DataCode.{data_code};
     ghost use Rattle.exec_protocol.specs.Raw.{IsRaw, RawView};
 
     ghost Value = { RawView };
 
-    ghost view = { λ r. record { list = r.list; objects = map view r.objects.items } };
+    ghost coded = { Prim.hlevel (codes, data_code) };
 
-    ghost invariant = { λ r. IsRaw (record { list = r.list; objects = map view r.objects.items }) };
+    ghost view = { λ r. record { list = r.list; objects = map json.view r.objects.items } };
+
+    ghost invariant = { λ r. IsRaw (record { list = r.list; objects = map json.view r.objects.items }) };
 }
 
 impl RawList {
@@ -38,8 +42,13 @@ impl RawList {
     pub fn read(alloc: Global, bytes: &[u8]) -> Result<RawList, ConfError>
         ensures { Gives is_out_of_memory result (raw_of bytes.now) }
     {
-        let _ = (alloc, bytes);
-        Err(ConfError::NoMemory)
+        let top = decode(alloc, bytes)?;
+        let list = network_list(alloc, &top)?;
+        let objects = copies(alloc, plugin_objects(alloc, &top)?)?;
+        Ok(RawList {
+            list: RefCounted::of(alloc, list)?,
+            objects,
+        })
     }
 
     /// The list.
@@ -63,4 +72,14 @@ impl RawList {
     {
         let _raw = &self.list;
     }
+}
+
+fn copies(alloc: Global, objects: &[Value]) -> Result<Vec<Value>, NoMemory>
+    ensures { IfOk result (λ twins. map view twins.items ≡ map view objects.now) }
+{
+    let mut twins = Vec::with_capacity(alloc, objects.len())?;
+    for object in objects {
+        twins.push(object.clone()?)?;
+    }
+    Ok(twins)
 }
