@@ -1,4 +1,4 @@
-"""What the scripts of tools/ share on packet rules: how a rule is written for iptables, and which packets it matches."""
+"""What the scripts of tools/ share on packet rules: how one is written for iptables, and which packets it matches."""
 
 import ipaddress
 

@@ -157,7 +157,7 @@ def rounds_of(*commands):
 def runs():
     """Each run by its name: its words, its files, and whether its last command takes back all that is owned."""
     lists = read_json(TOP / "tests/rows/rows.json")["lists"]
-    words = ["--trace", "--dump", "pods.json", "net.json"]
+    words = ["--trace", "--dump", "--requests", "pods.json", "net.json"]
     mapped = {"portMappings": [{"hostPort": 8080, "containerPort": 80, "protocol": "tcp"}]}
     add = command("ADD", "podman", "c1", "/ns/a")
     delete = command("DEL", "podman", "c1", "/ns/a")
@@ -167,13 +167,14 @@ def runs():
     podman = {"pods.json": rounds_of({**add, **mapped}, delete, delete), "net.json": lists["PODMAN"]}
     swept = {"pods.json": rounds_of(*halves, sweep, sweep), "net.json": pods}
     published = [{**it, "network": "published"} for it in ({**add, **mapped}, delete, delete)]
-    both = {"pods.json": rounds_of(*published), "net.json": lists["DUAL_PUBLISHED"]}
-    dumped = {"pods.json": rounds_of(command("ADD", "pods", "c1", "/ns/a")), "net.json": pods}
+    packet = {"protocol": "tcp", "src": "192.0.2.7", "dst": "198.51.100.1", "dport": 8080}
+    both = {"pods.json": rounds_of(*published), "net.json": lists["DUAL_PUBLISHED"], "packets.json": [packet] * 3}
+    added = {**both, "pods.json": rounds_of(published[0])}
     yield "an ADD of four plugins and its deletions", words, podman, True
-    yield "an ADD of both families and its deletions", words, both, True
+    yield "an ADD of both families and its deletions", ["--probe", "packets.json", *words], both, True
     yield "collections after half-made ADDs", words, swept, True
     yield "no command", ["pods.json"], {"pods.json": NO_PODS}, False
-    yield "an ADD, its trace and its dump", words, dumped, False
+    yield "an ADD, and all that is printed of it", ["--probe", "packets.json", *words], added, False
 
 
 def main():

@@ -1,5 +1,5 @@
 #!/usr/bin/env python3
-"""Runs the program on lists and pod files with something changed in them, and looks how each run ends.
+"""Runs the program on lists, pod files and packet files with something changed in them, and looks how each run ends.
 
     mutations.py [PROGRAM [COUNT [SEED]]]
 
@@ -90,9 +90,10 @@ def sources():
     """The files of the examples and of the rows, with the words of their run."""
     for folder in sorted(it for it in (TOP / "examples").iterdir() if (it / "net.json").exists()):
         files = {it.name: it.read_bytes() for it in folder.glob("*.json")}
-        yield files, ["--trace", "--dump", "pods.json", "net.json"]
+        yield files, ["--trace", "--dump", "--requests", "pods.json", "net.json"]
     table = read_json(TOP / "tests/rows/rows.json")
-    for row in (made for it in table["rows"] for made in each_of(it)):
+    more = [row for file in ("requests", "packets") for row in read_json(TOP / f"tests/rows/{file}.json")]
+    for row in (made for it in [*table["rows"], *more] for made in each_of(it)):
         given = {name: content_of(it, table["lists"]) for name, it in row.get("files", {}).items()}
         if given and all(isinstance(it, (bytes, dict, list)) for it in given.values()):
             files = {name: bytes_of(it) for name, it in given.items()}

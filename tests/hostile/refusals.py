@@ -3,9 +3,11 @@
 
     refusals.py [PROGRAM]
 
-- memory:  the address space is limited, in steps from where the program begins to where it has enough;
+- memory:  the address space is limited, in steps from where the program begins to where it has enough, once for
+           commands that need much, and once for a text that does;
 - output:  a full device, a pipe that nobody reads, one whose reader stops halfway, and none at all;
-- files:   a folder, a file without permission, one that is missing, and lists of 16,777,216 and 16,777,217 bytes.
+- files:   a folder, a file without permission, one that is missing, and lists of 16,777,216 and 16,777,217 bytes; and
+           the first three in place of a packet file.
 
 Nothing may be printed but what the status allows: the whole text (0 and 1), the text with an answer that tells want of
 memory (8), one line (3 and 4), a prefix of the text (5), or nothing (6).
@@ -79,21 +81,22 @@ FILES = {
         "opening": {"namespaces": [f"/ns/{i}" for i in range(ADDS)]},
         "rounds": [[publishing(i)] for i in range(ADDS)],
     },
+    "packets.json": [{"protocol": "tcp", "src": f"10.0.0.{i}", "dst": "192.0.2.7", "dport": 443} for i in range(250)],
     "folder": DIRECTORY,
 }
-WORDS = ["--dump", "pods.json", "net.json"]
+WORDS = ["--dump", "--requests", "--probe", "packets.json", "pods.json", "net.json"]
 # what answers little: long answers or a dump take more memory than the commands do, so that none would be refused any
 SHORT_WORDS = ["published.json", "ports.json"]
 
 
-def limited(program, folder, size):
+def limited(program, words, folder, size):
     """A run with so many bytes of address space."""
 
     def limit():
         resource.setrlimit(resource.RLIMIT_AS, (size, size))
 
     return subprocess.run(
-        [program, *SHORT_WORDS],
+        [program, *words],
         cwd=folder,
         stdout=subprocess.PIPE,
         stderr=subprocess.DEVNULL,
@@ -123,39 +126,47 @@ def error_code(line):
     return json.loads(line).get("error", {}).get("code")
 
 
-def wrong_of_memory(ended, text):
-    """What is wrong with how a run ended that has little memory."""
+def wrong_of_memory(ended, text, commands):
+    """What is wrong with how a run of so many commands ended that has little memory."""
     if ended.returncode == SUCCESS and ended.stdout == text:
         return None
     if ended.returncode == MEMORY and ended.stdout == b"":
         return None
     if ended.returncode == COMMAND_MEMORY:
         answers = [it for it in lines_of(ended.stdout) if "verb" in json.loads(it)]
-        if len(answers) == ADDS and any(error_code(it) == OUT_OF_MEMORY for it in answers):
+        if len(answers) == commands and any(error_code(it) == OUT_OF_MEMORY for it in answers):
             return None
     return f"status {ended.returncode}, {len(ended.stdout)} bytes"
 
 
-def memory(program, folder, _):
-    """Complaints about runs in little memory, and how often each status came."""
+def in_little_memory(program, words, commands, folder, wanted):
+    """Complaints about runs of so many commands in little memory; how often each status came, of which these must."""
     page = resource.getpagesize()
-    text = run(program, SHORT_WORDS, folder).stdout
+    text = run(program, words, folder).stdout
 
     def first_limit(passes, low, high):
-        return first_that(lambda it: passes(limited(program, folder, it * page)), low, high)
+        return first_that(lambda it: passes(limited(program, words, folder, it * page)), low, high)
 
     enough = first_limit(lambda it: it.returncode == SUCCESS, 1, MOST_PAGES)
     none = first_limit(has_begun, 1, enough) + MARGIN
     seen = {}
     for size in steps_between(none, enough):
-        ended = limited(program, folder, size * page)
+        ended = limited(program, words, folder, size * page)
         seen[ended.returncode] = seen.get(ended.returncode, 0) + 1
-        wrong = wrong_of_memory(ended, text)
+        wrong = wrong_of_memory(ended, text, commands)
         if wrong:
             yield f"{size * page} bytes: {wrong}"
     print("memory: " + ", ".join(f"status {it} {count} times" for it, count in sorted(seen.items())))
-    if not {MEMORY, COMMAND_MEMORY} <= seen.keys():
-        yield "no run, or no command of a run, was refused memory"
+    if not wanted <= seen.keys():
+        yield f"not seen: {sorted(wanted - seen.keys())}"
+
+
+def memory(program, folder, _):
+    yield from in_little_memory(program, SHORT_WORDS, ADDS, folder, {MEMORY, COMMAND_MEMORY})
+
+
+def memory_of_text(program, folder, _):
+    yield from in_little_memory(program, WORDS, PODS, folder, {MEMORY})
 
 
 def output_to(program, folder, stdout, read):
@@ -213,13 +224,19 @@ def files(program, folder, text):
     wanted = {
         "a folder": (run(program, ["pods.json", "folder"], folder), READ, read_error("folder")),
         "a missing file": (run(program, ["pods.json", "absent.json"], folder), REFUSED, missing),
-        "the most bytes": (run(program, ["--dump", "pods.json", "most.json"], folder), SUCCESS, text),
+        "the most bytes": (run(program, [*WORDS[:-1], "most.json"], folder), SUCCESS, text),
         "a byte more": (run(program, ["pods.json", "more.json"], folder), REFUSED, large),
         "no permission": (without_permission(program, folder), READ, read_error("net.json")),
+        "packets in a folder": (run(program, ["--probe", "folder", *WORDS[-2:]], folder), READ, read_error("folder")),
+        "missing packets": (run(program, ["--probe", "absent.json", *WORDS[-2:]], folder), REFUSED, missing),
+        "a byte of packets more": (run(program, ["--probe", "more.json", *WORDS[-2:]], folder), REFUSED, large),
     }
     for name, (ended, status, printed) in wanted.items():
         if (ended.returncode, ended.stdout) != (status, printed):
             yield f"{name}: status {ended.returncode}, {ended.stdout[:200]}"
+
+
+TRIED = {"memory": memory, "memory of the text": memory_of_text, "output": output, "files": files}
 
 
 def main():
@@ -228,7 +245,7 @@ def main():
         text = run(program, WORDS, folder).stdout
         failed = count_failed(
             (name, list(tried(program, folder, text)))
-            for name, tried in (("memory", memory), ("output", output), ("files", files))
+            for name, tried in TRIED.items()
         )
     print(f"refusals: {failed} wrong")
     sys.exit(failed > 0)
