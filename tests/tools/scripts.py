@@ -6,6 +6,7 @@
 - table:       objects of one kind, in columns;
 - show:        each way in which a command ends, and a file that is refused;
 - crashes:     with each call no less is left, and at the last what the dump has;
+- fates:       each row of packets is read as the program reads it, and another fate is told apart;
 - changes:     what the calls of a run changed, one after another, leads from the opening to the last dump;
 - pictures:    each is XML, the same twice, and says each name and address; frames are within one another or apart;
 - completion:  the options of README's table.
@@ -142,6 +143,21 @@ def status_unread(words, folder):
         return run(sys.executable, words, folder, stdout=unread).returncode
 
 
+def fates(program):
+    """The rules that decide in each row that has packets, and in one of which a line is another."""
+    lists = read_json(TOP / "tests/rows/rows.json")["lists"]
+    for row in read_json(TOP / "tests/rows/packets.json"):
+        if "packets" not in row:
+            continue
+        with in_folder({name: content_of(it, lists) for name, it in row["files"].items()}) as folder:
+            printed = run(program, ["--dump", *row["words"]], folder).stdout
+            for text, status in ((printed, 0), (printed.replace(b'"rewritten":true', b'"rewritten":false'), 1)):
+                words = [str(TOOLS / "fates.py"), "packets.json"]
+                ended = subprocess.run(words, input=text, cwd=folder, capture_output=True, check=False)
+                if ended.returncode != status and (status == 0 or text != printed):
+                    yield f"{row['name']}: status {ended.returncode}, {ended.stderr.decode('utf-8')[-200:]}"
+
+
 def changes(program):
     if output_of("changes.py", [TOP / "no-such-program", "pods.json"]) != ("", 1):
         yield "a program that isn't there is run"
@@ -213,7 +229,7 @@ def completion(_):
 
 def main():
     program = program_of(sys.argv[1:])
-    tried = (table, show, crashes, changes, pictures, completion)
+    tried = (table, show, crashes, fates, changes, pictures, completion)
     failed = count_failed((it.__name__, list(it(program))) for it in tried)
     print(f"tools: {failed} wrong")
     return 1 if failed else 0
