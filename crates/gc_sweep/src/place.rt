@@ -72,8 +72,8 @@ impl SweepPlace {
         !self.has_owner() && next_stage(self.stage).is_none()
     }
 
-    /// The next call, or none where nothing is left to do: it asks for the owners of the next sweep's kind, or makes the
-    /// step of the owner at hand. It takes the memory of one call, whose texts are shared.
+    /// The next call, or none where nothing is left to do: it asks for the owners of the next sweep's kind, or makes
+    /// the step of the owner at hand. It takes the memory of one call, whose texts are shared.
     pub fn next_call(
         &self,
         alloc: Global,
