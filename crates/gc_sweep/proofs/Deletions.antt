@@ -21,6 +21,8 @@ use Rattle.kernel_types.proofs.Deletes.{IsSound-rule_del, IsSound-setting_del, I
 use Rattle.kernel_types.proofs.DropsOwn.{TouchesOwn-RemovesOwn, RemovesOwn-rule_del, RemovesOwn-setting_del, RemovesOwn-lease_del, RemovesOwn-cache_del, RemovesOwn-link_del}
 use Rattle.kernel_types.proofs.ListLemmas.{without_first-none, list_any-find_none, list_any-map, passes-find}
 use Rattle.kernel_types.proofs.Removal.{IsSound-link_del, goes_with-itself}
+use Rattle.plugin_base.specs.Share.{Share, share_of, no_objects}
+use Rattle.plugin_base.proofs.Deletions.{empty_none}
 use Rattle.plugin_chain.specs.Wanted.{deletion}
 use Rattle.gc_sweep.specs.Keep.{IsWithin}
 use Rattle.gc_sweep.proofs.Lists.{any-found, count_found, count_without_first}
@@ -91,3 +93,17 @@ deletes a Leases h sound =
     deletes_first a Leases h (λ x. x.tag) h.leases (λ xs. record h { leases = xs }) _ _ refl refl refl refl (λ p c. omega arith) (IsSound-lease_del h a sound) (RemovesOwn-lease_del h a)
 deletes a Cached h sound =
     deletes_first a Cached h (λ x. x.tag) h.cached (λ xs. record h { cached = xs }) _ _ refl refl refl refl (λ p c. omega arith) (IsSound-cache_del h a sound) (RemovesOwn-cache_del h a)
+
+-- ---- an attachment that has nothing
+
+without-none : (att : Att) (k : Host) (o : Option Link) → find (λ l. is_own att l.tag) k.links ≡ o → list_any (λ l. is_own att l.tag) k.links ≡ false → (without_link k o).0 ≡ k
+without-none att k None found none = refl
+without-none att k (Some link) found none = absurd (let there = any-found (λ l. is_own att l.tag) (λ l. is_own att l.tag) k.links link found (passes-find (λ l. is_own att l.tag) k.links link found) in let e : true ≡ false = sym there ∙ none in cc)
+
+-- where nothing is the attachment's, a deletion leaves the host
+pub deletion-none : (att : Att) (k : Host) (kind : Kind) → share_of att k ≡ no_objects → (apply k (deletion att kind)).0 ≡ k
+deletion-none att k Links none = without-none att k (find (λ l. is_own att l.tag) k.links) refl (empty_none (λ l. is_own att l.tag) k.links (ap (λ (s : Share). s.links) none))
+deletion-none att k Rules none = ap (λ l. record k { rules = l }) (without_first-none (λ r. is_own att r.tag) k.rules (empty_none (λ r. is_own att r.tag) k.rules (ap (λ (s : Share). s.rules) none)))
+deletion-none att k Settings none = ap (λ l. record k { settings = l }) (without_first-none (λ r. is_own att r.tag) k.settings (empty_none (λ r. is_own att r.tag) k.settings (ap (λ (s : Share). s.settings) none)))
+deletion-none att k Leases none = ap (λ l. record k { leases = l }) (without_first-none (λ r. is_own att r.tag) k.leases (empty_none (λ r. is_own att r.tag) k.leases (ap (λ (s : Share). s.leases) none)))
+deletion-none att k Cached none = ap (λ l. record k { cached = l }) (without_first-none (λ r. is_own att r.tag) k.cached (empty_none (λ r. is_own att r.tag) k.cached (ap (λ (s : Share). s.cached) none)))

@@ -81,7 +81,7 @@ yes_clean : (faults : List ℕ) → swept faults ≡ Yes → faults ≡ []
 yes_clean [] h = refl
 yes_clean (k ∷ ks) h = cc
 
-excused_kind : (gc : Gc) (h : Host) (es : List Made) (js : List Job) (ss : List Sweep) (k : Host) → WorkKept gc h es js ss k → js ≡ [] → ss ≡ [] → (kind : Kind) → list_all (is_excused gc.network gc.valid es kind) (tags_of k kind) ≡ true
+pub excused_kind : (gc : Gc) (h : Host) (es : List Made) (js : List Job) (ss : List Sweep) (k : Host) → WorkKept gc h es js ss k → js ≡ [] → ss ≡ [] → (kind : Kind) → list_all (is_excused gc.network gc.valid es kind) (tags_of k kind) ≡ true
 excused_kind gc h es js ss k v none last kind =
     let c : list_all (is_covered gc es [] [] kind) (tags_of k kind) ≡ true = rw (none, last) at (v.covered kind) in
     list_all-weaker (is_covered gc es [] [] kind) (is_excused gc.network gc.valid es kind) (λ t w. grind (arith, w)) (tags_of k kind) c
@@ -104,7 +104,7 @@ address_excused gc es links all a Outside h = refl
 address_excused gc es links all a Base h = refl
 address_excused gc es links all a (Own b) h = link_excused gc es links a.ns a.link (Own b) all h
 
-excused_all : (gc : Gc) (es : List Made) (k : Host) → IsSound k → ((kind : Kind) → list_all (is_excused gc.network gc.valid es kind) (tags_of k kind) ≡ true) → AreExcused gc.network gc.valid es k
+pub excused_all : (gc : Gc) (es : List Made) (k : Host) → IsSound k → ((kind : Kind) → list_all (is_excused gc.network gc.valid es kind) (tags_of k kind) ≡ true) → AreExcused gc.network gc.valid es k
 excused_all gc es k sound all =
     let links : list_all (λ (l : Link). is_excused gc.network gc.valid es Links l.tag) k.links ≡ true = sym (list_all-map (is_excused gc.network gc.valid es Links) (λ (l : Link). l.tag) k.links) ∙ all Links in
     record {

@@ -1,9 +1,20 @@
--- Hosts that only lost objects.
-use Rattle.std.proofs.Common.{true, refl, ◌∙◌}
-use Rattle.kernel_types.specs.Isolation.{RemovesOwn}
+-- Hosts that only lost objects, and what makes them lose some: deletions, and changes from outside.
+use Rattle.std.proofs.Common.{◌≡◌, true, false, not, Some, refl, sym, ◌∙◌, subst, inl, inr}
+use Rattle.kernel_types.specs.Allowed.{IsAllowed}
+use Rattle.kernel_types.specs.Apply.{apply}
+use Rattle.kernel_types.specs.Isolation.{RemovesOwn, deletes_for, is_from_outside}
+use Rattle.kernel_types.specs.Sound.{IsSound}
 use Rattle.kernel_types.specs.Terms.{is_own}
+use Rattle.kernel_types.specs.Touch.{AddsNamespace, RemovesUnshared, is_base}
 use Rattle.kernel_types.specs.declared.object.Att.{Att}
 use Rattle.kernel_types.specs.declared.object.Host.{Host}
+use Rattle.kernel_types.specs.declared.call.Kind.{Kind}
+use Rattle.kernel_types.specs.declared.call.Kind.TheVariants as kinds
+use Rattle.kernel_types.specs.declared.call.Call.{Call}
+use Rattle.kernel_types.specs.declared.call.Call.TheVariants.{NsChange, Outside}
+use Rattle.kernel_types.proofs.DropsOwn.{RemovesOwn-apply}
+use Rattle.kernel_types.proofs.EveryCall.{Touches-apply}
+use Rattle.plugin_chain.specs.Wanted.{deletion}
 use Rattle.gc_sweep.specs.Keep.{IsWithin, OnlyRemoves}
 use Rattle.gc_sweep.proofs.Lists.{drops, drops-same, drops-trans}
 
@@ -29,6 +40,31 @@ removes-own att old new d = record {
   cached = drops (λ c. is_own att c.tag) old.cached new.cached d.cached;
 }
 
+removes-unshared : (old new : Host) → RemovesUnshared old new → OnlyRemoves old new
+removes-unshared old new d = record {
+  links = drops (λ l. not (is_base l.tag)) old.links new.links d.links;
+  addresses = drops (λ a. not (is_base a.tag)) old.addresses new.addresses d.addresses;
+  routes = drops (λ r. not (is_base r.tag)) old.routes new.routes d.routes;
+  rules = drops (λ r. not (is_base r.tag)) old.rules new.rules d.rules;
+  settings = drops (λ s. not (is_base s.tag)) old.settings new.settings d.settings;
+  leases = drops-same old.leases new.leases d.leases;
+  cached = drops-same old.cached new.cached d.cached;
+}
+
+removes-namespace : (old new : Host) → AddsNamespace old new → OnlyRemoves old new
+removes-namespace old new adds = elim adds [
+  | inl e ↦ subst (OnlyRemoves old) (sym e) (removes-nothing old)
+  | inr more ↦ let P : Host → Type 0 = λ h. OnlyRemoves old h in subst P (sym more.2) (let none = removes-nothing old in record {
+    links = none.links;
+    addresses = none.addresses;
+    routes = none.routes;
+    rules = none.rules;
+    settings = none.settings;
+    leases = none.leases;
+    cached = none.cached;
+  })
+]
+
 removes-trans : (a b c : Host) → OnlyRemoves c b → OnlyRemoves b a → OnlyRemoves c a
 removes-trans a b c p q = record {
   links = drops-trans (λ l. true) c.links b.links a.links p.links q.links;
@@ -39,6 +75,24 @@ removes-trans a b c p q = record {
   leases = drops-trans (λ l. true) c.leases b.leases a.leases p.leases q.leases;
   cached = drops-trans (λ c. true) c.cached b.cached a.cached p.cached q.cached;
 }
+
+-- ---- calls
+
+pub deletes-deletion : (att : Att) (kind : Kind) → deletes_for (deletion att kind) ≡ Some att
+deletes-deletion att kinds.Links = refl
+deletes-deletion att kinds.Rules = refl
+deletes-deletion att kinds.Settings = refl
+deletes-deletion att kinds.Leases = refl
+deletes-deletion att kinds.Cached = refl
+
+pub removes-deletion : (att : Att) (host : Host) (kind : Kind) → IsSound host → OnlyRemoves host (apply host (deletion att kind)).0
+removes-deletion att host kind sound = removes-own att host (apply host (deletion att kind)).0 (RemovesOwn-apply host (deletion att kind) att sound (deletes-deletion att kind))
+
+pub removes-outside : (host : Host) (call : Call) → IsSound host → IsAllowed host call → is_from_outside call ≡ true → OnlyRemoves host (apply host call).0
+removes-outside host (NsChange name true) sound allowed is = removes-namespace host (apply host (NsChange name true)).0 (Touches-apply host (NsChange name true) sound allowed)
+removes-outside host (NsChange name false) sound allowed is = removes-unshared host (apply host (NsChange name false)).0 (Touches-apply host (NsChange name false) sound allowed)
+removes-outside host (Outside change) sound allowed is = removes-unshared host (apply host (Outside change)).0 (Touches-apply host (Outside change) sound allowed)
+removes-outside host _ sound allowed is = cc
 
 -- ---- within
 

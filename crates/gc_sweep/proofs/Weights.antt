@@ -2,7 +2,7 @@
 use Rattle.std.specs.Prelude.{ℕ, ◌+◌, ◌*◌, Bool, List, [], ◌∷◌, length, filter}
 use Rattle.kernel_types.specs.declared.object.Tag.{Tag}
 use Rattle.kernel_types.specs.declared.object.Host.{Host}
-use Rattle.cni_verbs.specs.Sweep.{Job, Sweep}
+use Rattle.cni_verbs.specs.Sweep.{Job, Sweep, Work}
 
 -- a sweep asks for the owners, and makes its steps for each
 abbrev pub sweep_weight : ℕ → Sweep → ℕ
@@ -28,3 +28,13 @@ total p h =
 
 abbrev pub weight : ℕ → (Tag → Bool) → List Job → List Sweep → Host → ℕ
 weight m p js ss h = sweeps_weight m ss + jobs_weight js + total p h
+
+-- ---- the calls that are left, by the objects of any host
+
+-- the objects of a host that are deleted one by one
+abbrev pub objects_in : Host → ℕ
+objects_in host = length host.links + length host.rules + length host.settings + length host.leases + length host.cached
+
+-- a sweep names no more owners than there are objects, and each object is deleted once
+abbrev pub collection_left : Work → Host → ℕ
+collection_left work host = sweeps_weight (objects_in host) work.sweeps + jobs_weight work.jobs + objects_in host

@@ -1,4 +1,5 @@
 pub mod Bound
+pub mod Deletions
 pub mod Keep
 pub mod Sweep
 pub mod Trace

@@ -1,23 +1,28 @@
 -- What an index of a valid list finds.
-use Rattle.std.specs.Prelude.{◌≡◌, Bool, false, List, ℕ, Option}
-use Rattle.std.specs.HashMap as map
-use Rattle.std.specs.HashSet as set
-use Rattle.std.specs.HashSet.{HashSet}
-use Rattle.std.specs.Option.{option_map_or}
-use Rattle.std.specs.Str.{bytes_eq}
+use Rattle.std.specs.Prelude.{◌≡◌, ℕ, List}
+use Rattle.std.specs.Cmp.Lexicographic.{slice_cmp}
+use Rattle.std.specs.List.Sorted.{IsSortedBy}
+use Rattle.std.specs.Ordering.{is_lt, nat_cmp, ordering_then}
+use Rattle.std.specs.declared.cmp.Ordering.{Ordering}
 use Rattle.kernel_types.specs.declared.object.Att.{Att}
 use Rattle.pod_file.specs.declared.command.ValidAtt.{ValidAtt}
 use Rattle.cni_verbs.specs.Sweep.{is_valid}
-use Rattle.gc_sweep.specs.declared.valid.ValidIndex.{ValidIndex}
 
--- the interface is among these, if there are any
-abbrev pub is_among : {S : Type 0} → Option (HashSet (List ℕ) S) → List ℕ → Bool
-is_among names ifname = option_map_or (λ ns. set.contains bytes_eq ns ifname) names false
+-- a container and an interface of it, which name an attachment
+abbrev pub Names : Type 0
+Names = List ℕ × List ℕ
 
--- the index has the attachment's interface at its container
-abbrev pub is_indexed : ValidIndex → Att → Bool
-is_indexed index att = is_among (map.get bytes_eq index.interfaces att.container) att.ifname
+-- by the containers, and then by the interfaces
+abbrev pub names_cmp : Names → Names → Ordering
+names_cmp p q = ordering_then (slice_cmp nat_cmp p.0 q.0) (slice_cmp nat_cmp p.1 q.1)
+
+abbrev pub names_of : ValidAtt → Names
+names_of v = (v.container, v.ifname)
+
+-- in the order of their names
+abbrev pub AreInOrder : List ValidAtt → Type 0
+AreInOrder valid = IsSortedBy (λ v w. is_lt (names_cmp (names_of v) (names_of w))) valid
 
 -- it has the attachments that the list names, and no others
-abbrev pub IsIndexOf : List ValidAtt → ValidIndex → Type 0
-IsIndexOf valid index = (att : Att) → is_indexed index att ≡ is_valid valid att
+abbrev pub IsIndexOf : List ValidAtt → List ValidAtt → Type 0
+IsIndexOf valid index = (att : Att) → is_valid index att ≡ is_valid valid att

@@ -5,6 +5,9 @@
 //! what such owners still have. A fault ends the part that it stands in and never the GC, and the answer
 //! names each.
 //!
+//! A sweep that belongs to no network list is a [`SweepPlace`] alone, for any kinds, with the [`ValidIndex`] of the
+//! attachments that stay.
+//!
 //! To the book above it promises that a run is seen as the list, the command and the script's state
 //! (`specs/Progress.antt` of `cni_verbs`), that its next call and its answer are the script's, and that
 //! [`GcRun::take`] takes memory for a fault's number and a copy of the owners alone. The [`laws`] say what any such run
@@ -27,4 +30,6 @@ mod place;
 pub mod run;
 mod valid;
 
+pub use place::SweepPlace;
 pub use run::GcRun;
+pub use valid::ValidIndex;

@@ -32,15 +32,19 @@ pub(crate) enum OwnerStep {
 }
 
 /// The sweep at hand, its owners, the number of the one at hand, and the number of that one's step.
+///
+/// Which steps an owner has depends on the kinds of a DEL, so all calls of one GC are given the same kinds
+/// (`IsPlace` in `specs/View.antt`), and [`SweepPlace::take`] the index of the same valid list.
 #[derive(Drop)]
-pub(crate) struct SweepPlace {
-    pub stage: Stage,
-    pub owners: Vec<Att>,
-    pub at: usize,
-    pub step: usize,
+pub struct SweepPlace {
+    pub(crate) stage: Stage,
+    pub(crate) owners: Vec<Att>,
+    pub(crate) at: usize,
+    pub(crate) step: usize,
 }
 
 impl SweepPlace {
+    /// The place before the first call. Takes no memory.
     pub fn start(alloc: Global) -> SweepPlace
         ensures work { (kinds : List Kind) → work_of kinds result ≡ record { jobs = []; sweeps = all_sweeps kinds } }
         ensures range { (kinds : List Kind) → IsPlace kinds result }
@@ -66,6 +70,79 @@ impl SweepPlace {
             → result ≡ has_no_work (jobs_left kinds self.now) (sweeps_after kinds self.now.stage) }
     {
         !self.has_owner() && next_stage(self.stage).is_none()
+    }
+
+    /// The next call, or none where nothing is left to do: it asks for the owners of the next sweep's kind, or makes
+    /// the step of the owner at hand. It takes the memory of one call, whose texts are shared.
+    pub fn next_call(
+        &self,
+        alloc: Global,
+        network: &Text,
+        kinds: &[Kind],
+    ) -> Result<Option<RefCounted<Call>>, NoMemory>
+        requires { IsPlace kinds.now self.now }
+        ensures { IfOk result (λ call. call
+            ≡ call_of_work network.now (jobs_left kinds.now self.now) (sweeps_after kinds.now self.now.stage)) }
+    {
+        if self.has_owner() {
+            let step = owner_step_at(kinds, self.stage, self.step);
+            let call = call_of(&self.owners[self.at], step)?;
+            Ok(Some(RefCounted::of(alloc, call)?))
+        } else {
+            match next_stage(self.stage) {
+                Some(stage) => {
+                    let network = network.copy()?;
+                    let kind = kind_of_stage(stage);
+                    Ok(Some(RefCounted::of(alloc, Call::OwnersOf { network, kind })?))
+                }
+                None => Ok(None),
+            }
+        }
+    }
+
+    /// Goes on as a reply to the next call says. Owners that it tells are copied, and each is looked up among the valid
+    /// ones; any other reply takes the same few steps. It can run out of memory only for that copy, and then the place
+    /// stays.
+    pub fn take(
+        &mut self,
+        kinds: &[Kind],
+        valid: &ValidIndex,
+        reply: &Reply,
+    ) -> Result<(), NoMemory>
+        requires { IsPlace kinds.now self.old }
+        ensures work { OnOk result ((list : List ValidAtt) → IsIndexOf list valid.now
+            → HasTaken kinds.now list reply.now self.old self.new) }
+        ensures range { IsPlace kinds.now self.new }
+        ensures err { OnErr result ((self.new ≡ self.old) × (is_fault reply.now ≡ false)) }
+        ensures frees { holds_text_or_list reply.now ≡ false → IsOk result }
+    {
+        if self.has_owner() {
+            match reply {
+                Reply::Gone(false) | Reply::Entry(_) => {
+                    step_done(kinds, self);
+                    Ok(())
+                }
+                Reply::Fault => {
+                    owner_done(kinds, self);
+                    Ok(())
+                }
+                _ => Ok(()),
+            }
+        } else {
+            match reply {
+                Reply::Owners(owners) => {
+                    let owners = owners.copy()?;
+                    next_sweep(kinds, valid, self, owners);
+                    Ok(())
+                }
+                Reply::Fault => {
+                    let alloc = *self.owners.allocator();
+                    next_sweep(kinds, valid, self, Items::new(alloc));
+                    Ok(())
+                }
+                _ => Ok(()),
+            }
+        }
     }
 }
 
@@ -135,33 +212,6 @@ fn call_of(att: &Att, step: OwnerStep) -> Result<Call, NoMemory>
     })
 }
 
-/// The next call, or none where nothing is left to do.
-pub(crate) fn next_call(
-    alloc: Global,
-    network: &Text,
-    kinds: &[Kind],
-    place: &SweepPlace,
-) -> Result<Option<RefCounted<Call>>, NoMemory>
-    requires { IsPlace kinds.now place.now }
-    ensures { IfOk result (λ call. call
-        ≡ call_of_work network.now (jobs_left kinds.now place.now) (sweeps_after kinds.now place.now.stage)) }
-{
-    if place.has_owner() {
-        let step = owner_step_at(kinds, place.stage, place.step);
-        let call = call_of(&place.owners[place.at], step)?;
-        Ok(Some(RefCounted::of(alloc, call)?))
-    } else {
-        match next_stage(place.stage) {
-            Some(stage) => {
-                let network = network.copy()?;
-                let kind = kind_of_stage(stage);
-                Ok(Some(RefCounted::of(alloc, Call::OwnersOf { network, kind })?))
-            }
-            None => Ok(None),
-        }
-    }
-}
-
 // ---- one reply
 
 fn drop_valid(owners: &mut Vec<Att>, valid: &ValidIndex)
@@ -223,49 +273,5 @@ fn next_sweep(kinds: &[Kind], valid: &ValidIndex, place: &mut SweepPlace, owners
             place.stage = stage;
         }
         None => place.owners.clear(),
-    }
-}
-
-/// Goes on as a reply to the next call says. It can run out of memory only for a copy of the owners that a reply tells,
-/// and then the place stays.
-pub(crate) fn take(
-    kinds: &[Kind],
-    valid: &ValidIndex,
-    place: &mut SweepPlace,
-    reply: &Reply,
-) -> Result<(), NoMemory>
-    requires { IsPlace kinds.now place.old }
-    ensures work { OnOk result ((list : List ValidAtt) → IsIndexOf list valid.now
-        → HasTaken kinds.now list reply.now place.old place.new) }
-    ensures range { IsPlace kinds.now place.new }
-    ensures err { OnErr result ((place.new ≡ place.old) × (is_fault reply.now ≡ false)) }
-    ensures frees { holds_text_or_list reply.now ≡ false → IsOk result }
-{
-    if place.has_owner() {
-        match reply {
-            Reply::Gone(false) | Reply::Entry(_) => {
-                step_done(kinds, place);
-                Ok(())
-            }
-            Reply::Fault => {
-                owner_done(kinds, place);
-                Ok(())
-            }
-            _ => Ok(()),
-        }
-    } else {
-        match reply {
-            Reply::Owners(owners) => {
-                let owners = owners.copy()?;
-                next_sweep(kinds, valid, place, owners);
-                Ok(())
-            }
-            Reply::Fault => {
-                let alloc = *place.owners.allocator();
-                next_sweep(kinds, valid, place, Items::new(alloc));
-                Ok(())
-            }
-            _ => Ok(()),
-        }
     }
 }

@@ -8,7 +8,7 @@ ghost use Rattle.cni_verbs.specs.Script.{IsOpen, next_call, faults_after, swept}
 ghost use Rattle.gc_sweep.specs.Sweep.{is_early};
 ghost use Rattle.gc_sweep.specs.View.{ending_in};
 
-use crate::place::{SweepPlace, next_call, take};
+use crate::place::SweepPlace;
 use crate::valid::ValidIndex;
 use cni_addr::{Duplicate, Items, NoMemory, RefCounted};
 use cni_errors::{Answer, Cause, Ending, plain_answer};
@@ -49,7 +49,8 @@ impl GcRun {
     ///
     /// It shares the list, copies the command, and keeps both until it is dropped. Texts are shared too, so that takes
     /// time and memory in proportion to the valid attachments, port mappings and faults of the command. Besides it
-    /// indexes the valid ones, and makes the kinds of a DEL, of which each plugin of the list has three at most.
+    /// indexes the valid ones ([`ValidIndex::of`]), and makes the kinds of a DEL, of which each plugin of the list has
+    /// three at most.
     pub fn start(
         alloc: Global,
         list: &RefCounted<NetList>,
@@ -81,12 +82,8 @@ impl GcRun {
             Ok(None)
         } else {
             let alloc = *self.place.owners.allocator();
-            next_call(
-                alloc,
-                &self.command.network,
-                self.kinds.as_slice(),
-                &self.place,
-            )
+            self.place
+                .next_call(alloc, &self.command.network, self.kinds.as_slice())
         }
     }
 
@@ -101,7 +98,7 @@ impl GcRun {
     {
         let faulty = is_fault(reply);
         note_fault(&mut self.faults, self.made + 1, faulty)?;
-        take(self.kinds.as_slice(), &self.valid, &mut self.place, reply)?;
+        self.place.take(self.kinds.as_slice(), &self.valid, reply)?;
         self.made += 1;
         Ok(())
     }

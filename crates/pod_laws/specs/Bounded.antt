@@ -10,7 +10,8 @@ use Rattle.plugin_base.specs.Share.{Share}
 use Rattle.pod_file.specs.Commands.{is_of_network}
 use Rattle.pod_file.specs.declared.command.Command.{Command}
 use Rattle.pod_file.specs.declared.command.Verb.TheVariants as verbs
-use Rattle.pod_workers.specs.CallCounts.{AddsInAtMost, deletions_of, most_calls}
+use Rattle.gc_sweep.specs.Deletions.{deletions_of}
+use Rattle.pod_workers.specs.CallCounts.{AddsInAtMost, most_calls}
 use Rattle.pod_workers.specs.Legal.{Legal}
 use Rattle.pod_workers.specs.Plans.{Placed, commands_of, list_for}
 use Rattle.pod_workers.specs.World.{World, own_replies}

@@ -2,11 +2,10 @@
 
 ghost use Rattle.std.specs.Prelude.{◌<◌, length};
 
-use cni_addr::{Duplicate, Text};
 use kernel_model::Kernel;
 use pod_workers::Book;
 use std::alloc::Global;
-use std::collections::HashMap;
+use std::collections::BTreeMap;
 
 /// A command that a worker steps to its answer.
 #[derive(Clone, Copy)]
@@ -25,10 +24,10 @@ pub(crate) fn share_out<K: Kernel + Drop>(
     requires some { 0 < workers }
     requires left { book.now.round < length book.now.plan.pods.rounds }
 {
-    let mut containers: HashMap<Text, usize> = HashMap::new(alloc);
+    let mut containers: BTreeMap<&str, usize> = BTreeMap::new(alloc);
     let mut owned = Vec::new(alloc);
     for command in book.current_round() {
-        let place = place_of(&mut containers, &command.container)?;
+        let place = place_of(&mut containers, command.container.as_str())?;
         if book.answer(command.number).is_none() {
             let worker = place % workers as usize;
             owned
@@ -42,12 +41,13 @@ pub(crate) fn share_out<K: Kernel + Drop>(
     Some(owned)
 }
 
-/// The container's number, which is the next one where it is new.
-fn place_of(containers: &mut HashMap<Text, usize>, container: &Text) -> Option<usize> {
+/// The container's number, which is the next one where it is new. Whoever writes a plan chooses its containers, and
+/// could choose many of one hash, so they are looked up by their order.
+fn place_of<'a>(containers: &mut BTreeMap<&'a str, usize>, container: &'a str) -> Option<usize> {
     if let Some(place) = containers.get(container).copied() {
         return Some(place);
     }
     let next = containers.len();
-    containers.insert(container.copy().ok()?, next).ok()?;
+    containers.insert(container, next).ok()?;
     Some(next)
 }

@@ -1,18 +1,13 @@
 -- The most calls that a run still makes, by what is left to do and by what its attachment has.
 use Rattle.std.specs.Prelude.{ℕ, ◌+◌, ◌-◌, ◌*◌, List, [], ◌∷◌, length}
 use Rattle.kernel_types.specs.declared.object.CachedObj.{CachedObj}
-use Rattle.kernel_types.specs.declared.object.Host.{Host}
 use Rattle.net_conf.specs.declared.list.NetList.{NetList}
 use Rattle.pod_file.specs.declared.command.Command.{Command}
 use Rattle.plugin_base.specs.Share.{Share}
 use Rattle.cni_verbs.specs.Questions.{check_questions}
 use Rattle.cni_verbs.specs.Script.{State, AtBegin, BeforeLeases, Leasing, AfterLeases, ReadingCache, Deleting, FindingEntry, Asking, Changing, Collecting, Over, before_of}
-use Rattle.cni_verbs.specs.Sweep.{Work}
-use Rattle.gc_sweep.proofs.Weights.{jobs_weight, sweeps_weight}
 use Rattle.plugin_chain.specs.Wanted.{kinds_of, sets_of}
-use Rattle.pod_workers.specs.CallCounts.{deletions_of}
-
--- ---- the calls that are left
+use Rattle.gc_sweep.specs.Deletions.{deletions_of}
 
 -- of so many calls of an ADD, those after its last lease
 abbrev pub most_after : ℕ → NetList → Command → ℕ
@@ -41,13 +36,3 @@ calls_left most list c (Asking next left) s = 1 + length left
 calls_left most list c (Changing change) s = 1
 calls_left most list c (Collecting work faults) s = 0
 calls_left most list c (Over ending given) s = 0
-
--- ---- a GC
-
--- the objects of a host that are deleted one by one
-abbrev pub objects_in : Host → ℕ
-objects_in host = length host.links + length host.rules + length host.settings + length host.leases + length host.cached
-
--- a sweep names no more owners than there are objects, and each object is deleted once
-abbrev pub collection_left : Work → Host → ℕ
-collection_left work host = sweeps_weight (objects_in host) work.sweeps + jobs_weight work.jobs + objects_in host

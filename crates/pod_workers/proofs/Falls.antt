@@ -28,9 +28,10 @@ use Rattle.cni_verbs.specs.Script.{State, AtBegin, BeforeLeases, Leasing, AfterL
 use Rattle.plugin_chain.specs.Wanted.{deletion, kinds_of, sets_of}
 use Rattle.cni_errors.specs.declared.answer.Ending.{Ending}
 use Rattle.cni_errors.specs.declared.answer.Question.{Question}
-use Rattle.pod_workers.specs.CallCounts.{AddsInAtMost, deletions_of}
+use Rattle.gc_sweep.specs.Deletions.{deletions_of}
+use Rattle.gc_sweep.proofs.Deletable.{begin-none, call-more, deletion-falls, lease-more}
+use Rattle.pod_workers.specs.CallCounts.{AddsInAtMost}
 use Rattle.pod_workers.proofs.CallsLeft.{calls_left, making, most_after, questions_by}
-use Rattle.pod_workers.proofs.Deletable.{begin-none, call-more, deletion-falls, lease-more}
 use Rattle.pod_workers.proofs.Elements.{find-first, first_of}
 use Rattle.pod_workers.proofs.MostCalls.{back-within, most-splits}
 

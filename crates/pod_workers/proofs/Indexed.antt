@@ -1,9 +1,13 @@
 -- What the index of a plan says of one more command, and of who may step.
-use Rattle.std.proofs.Common.{◌≡◌, ℕ, suc, ◌+◌, ◌<◌, ◌≤◌, Bool, true, false, cond, List, [], ◌∷◌, ◌++◌, length, get_or, map, take, Option, Some, None, option_and_then, slice_get, refl, sym, ◌∙◌, ap, subst, arith, inl, inr}
+use Rattle.std.proofs.Common.{◌≡◌, ℕ, suc, ◌+◌, ◌<◌, ◌≤◌, Bool, true, false, cond, List, [], ◌∷◌, ◌++◌, length, get_or, map, take, Option, Some, None, option_and_then, slice_get, refl, sym, ◌∙◌, ap, subst, arith, inl, inr, Bor}
 use Rattle.std.proofs.lemmas.List.{append-nil, append_assoc, length-append, map-append, length-take-le, take_more, take_all}
 use Rattle.std.proofs.lemmas.Option.{none-some, slice_get_read, slice_get-get_or}
 use Rattle.std.proofs.lemmas.Bool.{false≢true}
 use Rattle.std.proofs.lemmas.Slice.Eq.{bytes_eq-Decides}
+use Rattle.std.specs.BTreeMap as tree
+use Rattle.std.specs.BTreeMap.{BTreeMap}
+use Rattle.std.specs.Cmp.Lexicographic.{slice_cmp}
+use Rattle.std.specs.Ordering.{nat_cmp}
 use Rattle.std.specs.Str.{bytes_eq}
 use Rattle.pod_file.specs.declared.command.Command.{Command}
 use Rattle.pod_workers.specs.Index.{AreBefore, IsIndex, IsLatest, IsPlaced, NoneOf}
@@ -64,6 +68,10 @@ pub index-nothing : (rounds : List (List Command)) → IsIndex rounds [] []
 index-nothing rounds = record { long = refl; each = λ n c p at_n place_n. absurd (none-some c at_n) }
 
 -- ---- the commands of one round
+
+-- the number that the map has for this text
+abbrev pub at_text : BTreeMap (Bor (List ℕ)) ℕ → List ℕ → Option ℕ
+at_text numbers text = tree.get_by (λ k. slice_cmp nat_cmp text k.now) numbers
 
 -- these commands of a round, and all before the round, are in the index, and the last of each container is known
 pub record IsIndexedTo (rounds : List (List Command)) (before : List Placed) (round : ℕ) (some : List Command) (places : List Place) (latest : List ℕ → Option ℕ) : Type 0 where

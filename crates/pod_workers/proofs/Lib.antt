@@ -3,7 +3,6 @@ pub mod Alone
 pub mod AnswersDue
 pub mod Asked
 pub mod CallsLeft
-pub mod Deletable
 pub mod Each
 pub mod Elements
 pub mod Facts
@@ -25,7 +24,6 @@ pub mod StepsLeft
 pub mod WellFormedPlans
 mod Appended
 mod Clauses
-mod Collected
 mod DoneBefore
 mod FileOrder
 mod Indexed

@@ -25,15 +25,16 @@ use Rattle.kernel_types.specs.declared.call.Reply.TheVariants.{Fault}
 use Rattle.net_conf.specs.declared.list.NetList.{NetList}
 use Rattle.pod_file.specs.declared.command.Command.{Command}
 use Rattle.plugin_base.specs.Share.{share_of}
+use Rattle.gc_sweep.proofs.Collected.{fault-falls, work-falls}
+use Rattle.gc_sweep.proofs.Weights.{collection_left}
 use Rattle.pod_workers.specs.CallCounts.{AddsInAtMost, most_calls}
-use Rattle.pod_workers.proofs.CallsLeft.{calls_left, collection_left}
+use Rattle.pod_workers.proofs.CallsLeft.{calls_left}
 use Rattle.pod_workers.specs.Legal.{Legal}
 use Rattle.pod_workers.specs.Plans.{Placed, commands_of, list_for}
 use Rattle.pod_workers.specs.World.{World, IsReady, IsReadyNumber, answered, done, entry_of, host_of, after_entry, next_of, own_replies, reply_to, with_entry}
 use Rattle.pod_workers.specs.declared.plan.Next.{Next}
 use Rattle.pod_workers.specs.declared.plan.Next.TheVariants as next
 use Rattle.pod_workers.specs.declared.plan.StepEnd.{StepEnd}
-use Rattle.pod_workers.proofs.Collected.{fault-falls, work-falls}
 use Rattle.pod_workers.proofs.Falls.{IsOwnNext, fault-as, falls-advance, replies-as}
 use Rattle.pod_workers.proofs.Histories.{after-append, replies_of-own, slice_get-set_same}
 use Rattle.pod_workers.proofs.MostCalls.{adds_in_most_calls}

@@ -1,31 +1,15 @@
--- How many deletions take away what an attachment has, and how many calls an ADD makes at most.
-use Rattle.std.specs.Prelude.{ℕ, ◌+◌, ◌≤◌, not, List, length, filter, sum_by}
+-- How many calls an ADD makes at most.
+use Rattle.std.specs.Prelude.{ℕ, ◌+◌, ◌≤◌, List, length, sum_by}
 use Rattle.cni_addr.specs.declared.address.Addr.{Addr}
 use Rattle.cni_result.specs.declared.cached.PortMapping.{PortMapping}
-use Rattle.kernel_types.specs.Terms.{is_host_ns}
-use Rattle.kernel_types.specs.declared.object.Link.{Link}
 use Rattle.net_conf.specs.declared.chained.Chained.{Chained}
 use Rattle.net_conf.specs.declared.list.NetList.{NetList}
 use Rattle.pod_file.specs.declared.command.Command.{Command}
-use Rattle.plugin_base.specs.Share.{Share}
 use Rattle.cni_verbs.specs.AddCalls.{calls_of_add}
 use Rattle.cni_verbs.specs.Mappings.{mappings_of}
 use Rattle.plugin_chain.specs.Plugins.{chained_plugin_of, plugin_of}
 use Rattle.cni_verbs.specs.Script.{before_of}
 use Rattle.plugin_chain.specs.Wanted.{sets_of}
-
--- ---- deletions
-
--- Links that aren't in the host's own namespace. One that is there is one end of a veth pair, and goes with the other
--- end.
-abbrev pub inner_links : List Link → List Link
-inner_links links = filter (λ l. not (is_host_ns l.ns)) links
-
--- how many deletions take all of a share away, a pair of links as one. Addresses and routes go with their links.
-abbrev pub deletions_of : Share → ℕ
-deletions_of s = length (inner_links s.links) + length s.rules + length s.settings + length s.leases + length s.cached
-
--- ---- the calls of an ADD
 
 -- whatever addresses it is leased, an ADD makes no more calls than so many
 abbrev pub AddsInAtMost : NetList → Command → ℕ → Type 0

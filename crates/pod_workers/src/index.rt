@@ -6,11 +6,11 @@ ghost use Rattle.pod_file.specs.declared.command.Command.{Command};
 ghost use Rattle.pod_workers.specs.Index.{AreBefore, IsIndex, command_at_place, lets_through, may_step_by};
 ghost use Rattle.pod_workers.specs.Plans.{Placed, in_round, placed_from};
 
-use cni_addr::{Duplicate, Items, NoMemory, Text};
+use cni_addr::{Items, NoMemory};
 use cni_errors::Answer;
 use pod_file::Command;
 use std::alloc::Global;
-use std::collections::HashMap;
+use std::collections::BTreeMap;
 
 /// A command's round and its place in it, and the place of the command before it of its container in the round.
 #[derive(Clone, Copy)]
@@ -33,7 +33,8 @@ pub(crate) fn index_of(alloc: Global, rounds: &[Items<Command>]) -> Result<Vec<P
     Ok(places)
 }
 
-/// Appends the places of one round's commands.
+/// Appends the places of one round's commands. Whoever writes a plan chooses its containers, and could choose many of
+/// one hash, so they are looked up by their order.
 fn index_round(
     alloc: Global,
     round: u32,
@@ -46,11 +47,12 @@ fn index_round(
         → IsIndex rounds before places.old.items
         → IsIndex rounds (before ++ map (in_round round) commands.now) places.new.items) }
 {
-    let mut latest: HashMap<Text, u32> = HashMap::new(alloc);
+    let mut latest: BTreeMap<&str, u32> = BTreeMap::new(alloc);
     for (within, command) in commands.iter().enumerate() {
         let number = places.len() as u32;
-        let previous = latest.get(&command.container).copied();
-        latest.insert(command.container.copy()?, number)?;
+        let container = command.container.as_str();
+        let previous = latest.get(container).copied();
+        latest.insert(container, number)?;
         places.push(Place {
             round,
             within: within as u32,

@@ -30,7 +30,7 @@ use Rattle.plugin_chain.specs.Wanted.{bridge_of, calls_before, links_made}
 use Rattle.pod_laws.specs.Apart.{GrowsAtEnd}
 use Rattle.pod_laws.specs.AskedFor.{AreAmong, links_after_part, AreLinksOf, AreAskedFor}
 use Rattle.pod_laws.proofs.Added.Achieved.{with_leases, wanted_by, no_leases}
-use Rattle.pod_laws.proofs.Shares.Removes.{OnlyRemoves}
+use Rattle.gc_sweep.specs.Keep.{OnlyRemoves}
 use Rattle.plugin_chain.proofs.PluginLaws.{first_laws}
 use Rattle.plugin_chain.proofs.WantedShare.{adds-links, makes-wanted}
 

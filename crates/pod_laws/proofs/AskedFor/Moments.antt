@@ -36,7 +36,7 @@ use Rattle.pod_workers.proofs.Histories.{after-append, replies_of-own, replies_o
 use Rattle.pod_workers.proofs.Order.{other_number, ready_is}
 use Rattle.pod_workers.proofs.OfPlugins.{LeftAreOfPlugins}
 use Rattle.pod_workers.proofs.Sound.{sound_host}
-use Rattle.pod_workers.proofs.Deletable.{done_or_not, leased_or_not}
+use Rattle.gc_sweep.proofs.Deletable.{done_or_not, leased_or_not}
 use Rattle.pod_laws.specs.AskedFor.{begins, is_begin_of, AreAskedFor, HasNothingUnasked, IsAskedFor, NothingIsUnasked}
 use Rattle.pod_laws.specs.Moments.{objects_after, own_entries}
 use Rattle.pod_laws.proofs.Added.Achieved.{Achieved, achieved-start, achieved-step, begun-none, leased-done, leased-push, leased-same, leased_in, leases-one, leases-push, own-made, with_leases}
@@ -44,9 +44,10 @@ use Rattle.pod_laws.proofs.Histories.Begins.{all-last, begin-apart, deletion-no_
 use Rattle.pod_laws.proofs.Refused.Causes.{begin-may, plugin-may}
 use Rattle.pod_laws.proofs.Histories.Entries.{is_of-own, own_entries-own}
 use Rattle.pod_laws.proofs.Added.Prefixes.{asked-after_leases, asked-before_leases, asked-leasing, asked-removes}
-use Rattle.pod_laws.proofs.Shares.OfKinds.{share-removes_none}
+use Rattle.gc_sweep.proofs.OfKinds.{share-removes_none}
 use Rattle.pod_laws.proofs.AskedFor.Quiet.{plugin-no_lease, lease-no_lease, deletion-no_lease, question-no_lease, outside-no_lease}
-use Rattle.pod_laws.proofs.Shares.Removes.{OnlyRemoves, removes-deletion, removes-nothing}
+use Rattle.gc_sweep.specs.Keep.{OnlyRemoves}
+use Rattle.gc_sweep.proofs.Removes.{removes-deletion, removes-nothing}
 use Rattle.pod_laws.proofs.Histories.States.{LeftFit, is_question, question-leaves, asked-is_question}
 use Rattle.pod_laws.proofs.Histories.Runs.{every-run-now, own-state}
 use Rattle.pod_laws.proofs.Histories.Steps.{Changes, GoesOn, by-entries, on-entry}

@@ -23,7 +23,8 @@ use Rattle.cni_errors.specs.declared.answer.Ending.{Ending}
 use Rattle.cni_errors.specs.declared.answer.Ending.TheVariants.{Yes, Skipped, Refused}
 use Rattle.cni_errors.specs.declared.answer.Question.{Question}
 use Rattle.cni_errors.specs.declared.answer.Skip.TheVariants as skips
-use Rattle.pod_workers.specs.CallCounts.{deletions_of, most_calls}
+use Rattle.gc_sweep.specs.Deletions.{deletions_of}
+use Rattle.pod_workers.specs.CallCounts.{most_calls}
 use Rattle.pod_workers.proofs.CallsLeft.{calls_left}
 use Rattle.pod_workers.specs.Legal.{Legal}
 use Rattle.pod_workers.specs.Plans.{Placed, commands_of, list_for}

@@ -54,7 +54,7 @@ use Rattle.pod_workers.specs.Plans.{Placed, IsWellFormed, list_named}
 use Rattle.pod_workers.specs.World.{World, after, after_entry, entry_of, host_of, replies_of}
 use Rattle.pod_workers.specs.declared.plan.Entry.{Entry}
 use Rattle.pod_workers.specs.declared.plan.Plan.{Plan}
-use Rattle.pod_workers.proofs.Deletable.{done_or_not}
+use Rattle.gc_sweep.proofs.Deletable.{done_or_not}
 use Rattle.pod_workers.proofs.Elements.{find-first, first_of}
 use Rattle.pod_workers.proofs.Prefixes.{each_prefix}
 use Rattle.pod_workers.proofs.Histories.{after-append}
@@ -65,8 +65,9 @@ use Rattle.pod_laws.specs.Moments.{own_entries}
 use Rattle.pod_laws.proofs.Added.Achieved.{Achieved, achieved-start, achieved-step}
 use Rattle.pod_laws.proofs.AskedFor.Moments.{nothing_is_unasked}
 use Rattle.pod_laws.proofs.Added.Bridges.{BridgeIn, HasBridge, all-bridges, bridge-entered}
-use Rattle.pod_laws.proofs.Shares.OfKinds.{still_none}
-use Rattle.pod_laws.proofs.Shares.Removes.{OnlyRemoves, removes-deletion}
+use Rattle.gc_sweep.specs.Keep.{OnlyRemoves}
+use Rattle.gc_sweep.proofs.OfKinds.{still_none}
+use Rattle.gc_sweep.proofs.Removes.{removes-deletion}
 use Rattle.pod_laws.proofs.Histories.Runs.{every-run-now, own-state}
 use Rattle.pod_laws.proofs.Histories.States.{LeftFit, asked-is_question, is_question, question-leaves}
 use Rattle.pod_laws.proofs.Histories.Steps.{Changes, ChangesKeep, EntriesKeep, GoesOn, by-entries, on-entry}

@@ -1,29 +1,22 @@
 -- Each entry of a DEL removes own objects alone, and changes nothing where there are none.
-use Rattle.std.proofs.Common.{◌≡◌, true, false, List, Option, Some, None, refl, sym, ◌∙◌, ap, subst}
-use Rattle.std.specs.Prelude.{find}
-use Rattle.std.specs.List.{list_any}
+use Rattle.std.proofs.Common.{◌≡◌, List, refl, ap, subst}
 use Rattle.net_conf.specs.declared.list.NetList.{NetList}
 use Rattle.pod_file.specs.declared.command.Command.{Command}
 use Rattle.pod_file.specs.declared.command.Verb.TheVariants as verbs
 use Rattle.kernel_types.specs.Apply.{apply}
-use Rattle.kernel_types.specs.Apply.Calls.{without_link}
 use Rattle.kernel_types.specs.Sound.{IsSound}
-use Rattle.kernel_types.specs.Terms.{is_own}
 use Rattle.kernel_types.proofs.DropsOwn.{RemovesOwn-apply, RemovesOwn-nothing}
-use Rattle.kernel_types.proofs.ListLemmas.{passes-find, without_first-none}
 use Rattle.kernel_types.specs.declared.object.Att.{Att}
 use Rattle.kernel_types.specs.declared.object.Host.{Host}
-use Rattle.kernel_types.specs.declared.object.Link.{Link}
 use Rattle.kernel_types.specs.declared.call.Kind.{Kind}
-use Rattle.kernel_types.specs.declared.call.Kind.TheVariants as kinds
 use Rattle.kernel_types.specs.declared.call.Call.{Call}
 use Rattle.kernel_types.specs.declared.call.Call.TheVariants.{CacheGet}
-use Rattle.plugin_base.specs.Share.{Share, share_of, no_objects}
-use Rattle.plugin_base.proofs.Deletions.{empty_none}
+use Rattle.plugin_base.specs.Share.{Share, share_of}
 use Rattle.cni_errors.specs.CommandFields.{att_of}
 use Rattle.cni_verbs.specs.Script.{State, AtBegin, BeforeLeases, Leasing, AfterLeases, ReadingCache, Deleting, Over, Calls, turn}
 use Rattle.plugin_chain.specs.Wanted.{deletion}
-use Rattle.gc_sweep.proofs.Lists.{any-found}
+use Rattle.gc_sweep.proofs.Deletions.{deletion-none}
+use Rattle.gc_sweep.proofs.Removes.{deletes-deletion}
 use Rattle.pod_file.specs.Commands.{is_of_network}
 use Rattle.pod_workers.specs.World.{host_of}
 use Rattle.pod_workers.specs.declared.plan.Entry.{Entry}
@@ -31,25 +24,12 @@ use Rattle.pod_workers.proofs.Sound.{sound_host}
 use Rattle.pod_laws.specs.Deleted.{DeletesOwnAlone, EachDeletionIsOwn}
 use Rattle.pod_laws.specs.Moments.{own_entries}
 use Rattle.pod_laws.proofs.Histories.EachEntry.{DoesByVerb, each-entry_of}
-use Rattle.pod_laws.proofs.Shares.Removes.{deletes-deletion}
 use Rattle.pod_laws.proofs.Histories.Runs.{every-run-now, own-state}
 use Rattle.pod_laws.proofs.Histories.States.{IsOtherVerb, not-both}
 use Rattle.pod_laws.proofs.Histories.Steps.{on-entry}
 use Rattle.pod_laws.proofs.Refused.Undoing.{Undoing, undone-start, undone-step}
 
 -- ---- one entry
-
-without-none : (att : Att) (k : Host) (o : Option Link) → find (λ l. is_own att l.tag) k.links ≡ o → list_any (λ l. is_own att l.tag) k.links ≡ false → (without_link k o).0 ≡ k
-without-none att k None found none = refl
-without-none att k (Some link) found none = absurd (let there = any-found (λ l. is_own att l.tag) (λ l. is_own att l.tag) k.links link found (passes-find (λ l. is_own att l.tag) k.links link found) in let e : true ≡ false = sym there ∙ none in cc)
-
--- where nothing is the attachment's, a deletion leaves the host
-deletion-none : (att : Att) (k : Host) (kind : Kind) → share_of att k ≡ no_objects → (apply k (deletion att kind)).0 ≡ k
-deletion-none att k kinds.Links none = without-none att k (find (λ l. is_own att l.tag) k.links) refl (empty_none (λ l. is_own att l.tag) k.links (ap (λ (s : Share). s.links) none))
-deletion-none att k kinds.Rules none = ap (λ l. record k { rules = l }) (without_first-none (λ r. is_own att r.tag) k.rules (empty_none (λ r. is_own att r.tag) k.rules (ap (λ (s : Share). s.rules) none)))
-deletion-none att k kinds.Settings none = ap (λ l. record k { settings = l }) (without_first-none (λ r. is_own att r.tag) k.settings (empty_none (λ r. is_own att r.tag) k.settings (ap (λ (s : Share). s.settings) none)))
-deletion-none att k kinds.Leases none = ap (λ l. record k { leases = l }) (without_first-none (λ r. is_own att r.tag) k.leases (empty_none (λ r. is_own att r.tag) k.leases (ap (λ (s : Share). s.leases) none)))
-deletion-none att k kinds.Cached none = ap (λ l. record k { cached = l }) (without_first-none (λ r. is_own att r.tag) k.cached (empty_none (λ r. is_own att r.tag) k.cached (ap (λ (s : Share). s.cached) none)))
 
 deletes-nothing : (att : Att) (k : Host) → DeletesOwnAlone att k k
 deletes-nothing att k = record { removes = RemovesOwn-nothing att k; repeated = λ none. refl }

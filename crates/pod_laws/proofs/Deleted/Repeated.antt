@@ -48,8 +48,9 @@ use Rattle.pod_laws.proofs.Histories.Entries.{is_of-own, own_entries-own}
 use Rattle.pod_laws.proofs.Deleted.FirstEntries.{BeginsFirst, begins_first}
 use Rattle.pod_laws.proofs.Deleted.InTurn.{in_turn}
 use Rattle.pod_laws.proofs.Given.OfRuns.{was_deleted}
-use Rattle.pod_laws.proofs.Shares.OfKinds.{share-removes_none}
-use Rattle.pod_laws.proofs.Shares.Removes.{OnlyRemoves, removes-deletion, removes-nothing}
+use Rattle.gc_sweep.specs.Keep.{OnlyRemoves}
+use Rattle.gc_sweep.proofs.OfKinds.{share-removes_none}
+use Rattle.gc_sweep.proofs.Removes.{removes-deletion, removes-nothing}
 use Rattle.pod_laws.proofs.Histories.Runs.{every-run-now, own-state}
 use Rattle.pod_laws.proofs.Histories.States.{LeftFit, is_question, not-both, question-leaves, asked-is_question}
 use Rattle.pod_laws.proofs.Histories.Steps.{GoesOn, on-entry}

@@ -28,7 +28,8 @@ use Rattle.pod_workers.specs.World.{World, after_entry, host_of, own_replies, en
 use Rattle.pod_workers.proofs.Order.{alone_apart}
 use Rattle.pod_workers.proofs.OfPlugins.{IsOutside, LeftAreOfPlugins, LeftIsOutside, left-are-of_plugins, left-is-outside}
 use Rattle.pod_workers.proofs.Sound.{sound_host}
-use Rattle.pod_laws.proofs.Shares.Removes.{OnlyRemoves, removes-nothing, removes-outside}
+use Rattle.gc_sweep.specs.Keep.{OnlyRemoves}
+use Rattle.gc_sweep.proofs.Removes.{removes-nothing, removes-outside}
 use Rattle.pod_laws.proofs.Histories.States.{LeftFit, is_question, left-fit, question-leaves, asked-is_question}
 use Rattle.pod_laws.proofs.Histories.Steps.{Changes, GoesOn, on-entry}
 

@@ -44,8 +44,8 @@ use Rattle.pod_laws.specs.Refused.{lets_go_on, FirstRefusal, IsRefusedFor}
 use Rattle.pod_laws.proofs.Refused.Causes.{Refuses, begin-refused, plugin-refused, lease-refused}
 use Rattle.pod_laws.proofs.Histories.Entries.{pushed}
 use Rattle.pod_laws.proofs.Added.Footing.{IsMacvlan}
-use Rattle.pod_laws.proofs.Shares.OfKinds.{HasKindsAlone, HasKindsAlone-removes}
-use Rattle.pod_laws.proofs.Shares.Removes.{removes-deletion}
+use Rattle.gc_sweep.proofs.OfKinds.{HasKindsAlone, HasKindsAlone-removes}
+use Rattle.gc_sweep.proofs.Removes.{removes-deletion}
 use Rattle.pod_laws.proofs.Added.Stands.{no_link-now}
 use Rattle.pod_laws.proofs.Histories.States.{IsAside, IsNoResult, IsOtherVerb, aside-advance, aside-start, by-aside}
 use Rattle.pod_laws.proofs.Histories.Runs.{AfterEntry, IsRunFact, StartsWith, own-state}

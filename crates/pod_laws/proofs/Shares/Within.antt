@@ -40,10 +40,10 @@ use Rattle.pod_workers.proofs.Histories.{after-append}
 use Rattle.pod_workers.proofs.AddCalls.{leases-kinds_of}
 use Rattle.pod_workers.proofs.OfPlugins.{LeftAreOfPlugins, left-are-of_plugins}
 use Rattle.pod_workers.proofs.Sound.{sound_host, if-listed}
-use Rattle.pod_workers.proofs.Deletable.{done_or_not, leased_or_not}
+use Rattle.gc_sweep.proofs.Deletable.{done_or_not, leased_or_not}
 use Rattle.pod_laws.specs.Moments.{objects_after}
-use Rattle.pod_laws.proofs.Shares.OfKinds.{HasKindsAlone, HasKindsAlone-nothing, HasKindsAlone-call, HasKindsAlone-removes}
-use Rattle.pod_laws.proofs.Shares.Removes.{removes-deletion}
+use Rattle.gc_sweep.proofs.OfKinds.{HasKindsAlone, HasKindsAlone-nothing, HasKindsAlone-call, HasKindsAlone-removes}
+use Rattle.gc_sweep.proofs.Removes.{removes-deletion}
 use Rattle.pod_laws.proofs.Histories.States.{LeftFit, is_question, left-fit, question-leaves, asked-is_question}
 use Rattle.pod_laws.proofs.Histories.Steps.{Changes, GoesOn, by-entries, on-entry}
 use Rattle.pod_laws.proofs.Histories.Turns.{AsksOrCollects, removes-changed, turn-of, work-turn}

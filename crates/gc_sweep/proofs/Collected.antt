@@ -31,8 +31,7 @@ use Rattle.cni_verbs.specs.Sweep.{Gc, Job, AskCached, Delete, Step, Sweep, after
 use Rattle.plugin_chain.specs.Wanted.{deletion}
 use Rattle.gc_sweep.proofs.Calls.{jobs_weight-after, jobs_weight-map}
 use Rattle.gc_sweep.proofs.Lists.{fewer_filter, length-found, length-without_first}
-use Rattle.gc_sweep.proofs.Weights.{jobs_weight, sweeps_weight}
-use Rattle.pod_workers.proofs.CallsLeft.{collection_left, objects_in}
+use Rattle.gc_sweep.proofs.Weights.{collection_left, jobs_weight, objects_in, sweeps_weight}
 
 -- ---- no more owners than objects
 

@@ -39,8 +39,8 @@ use Rattle.plugin_base.proofs.KeyLists.{filter-map_kept}
 use Rattle.plugin_base.proofs.OwnCalls.{share-own, share-lease, share-begin}
 use Rattle.plugin_base.proofs.Refusals.{refused-same, refused-lease}
 use Rattle.plugin_chain.specs.Wanted.{deletion}
+use Rattle.gc_sweep.specs.Deletions.{deletions_of}
 use Rattle.gc_sweep.proofs.Lists.{any-found, count_append, count_without_first, fewer_filter}
-use Rattle.pod_workers.specs.CallCounts.{deletions_of}
 
 -- ---- counts
 

@@ -14,9 +14,9 @@ use Rattle.kernel_types.specs.declared.call.Call.{Call}
 use Rattle.kernel_types.specs.declared.call.Call.TheVariants.{VethAdd, MacvlanAdd, LinkSet, AddrAdd, RouteAdd, RuleAppend, SettingSet, CachePut}
 use Rattle.plugin_base.specs.Share.{Share, share_of, no_objects, share_after_call}
 use Rattle.plugin_base.proofs.Deletions.{empty_none}
-use Rattle.gc_sweep.proofs.Lists.{list_all-drops}
 use Rattle.plugin_base.specs.Calls.{has_kind, is_of_kinds}
-use Rattle.pod_laws.proofs.Shares.Removes.{OnlyRemoves}
+use Rattle.gc_sweep.specs.Keep.{OnlyRemoves}
+use Rattle.gc_sweep.proofs.Lists.{list_all-drops}
 
 -- ---- a share within kinds
 

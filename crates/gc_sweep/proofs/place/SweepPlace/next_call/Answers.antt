@@ -3,11 +3,11 @@ use Rattle.std.proofs.lemmas.Bool.Decides.{nat_tests}
 use Rattle.std.proofs.lemmas.Option.{slice_get_read}
 use Rattle.gc_sweep.specs.View.{sweep_of, sweeps_after, step_of}
 use Rattle.gc_sweep.proofs.Places.{next_here}
-use Rattle.gc_sweep.proofs.place.next_call.Goals as goal
+use Rattle.gc_sweep.proofs.place.SweepPlace.next_call.Goals as goal
 
 pub returns-in_ok-of : goal.returns-in_ok-of
 returns-in_ok-of c =
-    let p = c.args.place.now in
+    let p = c.args.self.now in
     let ks = c.args.kinds.now in
     let sweep = sweep_of ks p.stage in
     let here : p.at < length p.owners.items = grind (arith, nat_tests, c.has_owner.ensures, c.if-has_owner.true) in
