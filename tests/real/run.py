@@ -1,7 +1,8 @@
 #!/usr/bin/env python3
 """Runs a pod file on real plugins beside the program, and names each difference.
 
-    run.py PODS LIST ..             on the plugins of CNI_PATH, /usr/lib/cni where it isn't given
+    run.py PODS LIST ..             on the plugins of CNI_PATH, /usr/lib/cni where it isn't given, and the program
+                                    PROGRAM, the one that ./test built where it isn't given
     run.py --again VERSION [WORD]   makes the recordings of plugins of this version anew, of all scenarios or of those
                                     whose names hold WORD, and says which changed
     run.py --kept [PROGRAM]         holds a program to the recordings, without plugins
@@ -29,6 +30,8 @@ from program import compact, program_of, read_json
 from recording import Recorded, Recorder
 
 PLUGINS = os.environ.get("CNI_PATH", "/usr/lib/cni")
+# the program, where it isn't the one that ./test built
+PROGRAM = [os.environ["PROGRAM"]] if "PROGRAM" in os.environ else []
 RECORDINGS = HERE / "recordings"
 
 
@@ -53,7 +56,7 @@ def once(files):
     """A pod file and its lists, on the plugins that are there."""
     begin()
     pods, *lists = (read_json(pathlib.Path(it)) for it in files)
-    beside = Beside(program_of([]), pods, lists)
+    beside = Beside(program_of(PROGRAM), pods, lists)
     beside.carry_out(real_host(beside))
     table, wrong = read_differences(), 0
     for it in beside.found:
@@ -80,7 +83,7 @@ def again(version, word=""):
         kept = read_json(path)
         if not is_for(version, kept["lists"]):
             continue
-        beside = Beside(program_of([]), kept["pods"], kept["lists"])
+        beside = Beside(program_of(PROGRAM), kept["pods"], kept["lists"])
         recorder = Recorder(real_host(beside))
         beside.carry_out(recorder)
         told = recorder.told(compact(kept["lists"]))
