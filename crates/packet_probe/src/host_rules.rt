@@ -38,6 +38,6 @@ impl Ruleset {
     pub fn fate(&self, packet: &Packet) -> Fate
         ensures { result ≡ defined.fate_by self.now packet.now }
     {
-        fate_by(self.rules.as_slice(), packet)
+        fate_by(&self.rules, packet)
     }
 }

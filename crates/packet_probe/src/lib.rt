@@ -30,6 +30,7 @@ mod error;
 mod host_rules;
 pub mod packet;
 mod read;
+mod rule;
 
 pub use chains::fate;
 pub use error::PacketsError;
