@@ -5,7 +5,7 @@ use Rattle.serde_json.specs.declared.value.Value.{Value}
 use Rattle.packet_probe.specs.PacketFile.{member_count}
 
 -- as many as the list of their values
-member_count-items_view : (vs : List Value) → member_count (items_view vs) ≡ length vs
+pub member_count-items_view : (vs : List Value) → member_count (items_view vs) ≡ length vs
 member_count-items_view [] = refl
 member_count-items_view (v ∷ vs) = grind (arith, member_count-items_view vs)
 

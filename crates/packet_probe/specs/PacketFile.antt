@@ -67,8 +67,12 @@ member_count no_items = 0
 member_count (item d ds) = member_count ds + 1
 
 -- a list that is too long is refused before any of its packets
+abbrev pub few_packets : Items → Result (List Packet) PacketsError
+few_packets items =
+    if nat_le (member_count items) most_packets then each_after next_packet [] items else Err refusal.List
+
 unfoldable pub packets_at : Data → Result (List Packet) PacketsError
-packets_at (array items) = if nat_le (member_count items) most_packets then each_after next_packet [] items else Err refusal.List
+packets_at (array items) = few_packets items
 packets_at d = Err refusal.List
 
 -- bytes that are no JSON, or have another number than whole ones of 64 bits

@@ -34,15 +34,24 @@ pub fn read_packets(alloc: Global, bytes: &[u8]) -> Result<Items<Packet>, Packet
     }
 }
 
-#[tactic(auto, using(crate::proofs::Members::counted), unfolding(crate::specs::PacketFile::packets_at))]
+#[tactic(auto, using(cni_json::proofs::Steps::steps), unfolding(crate::specs::PacketFile::packets_at))]
 fn packets(alloc: Global, top: &Value) -> Result<Items<Packet>, PacketsError>
     ensures { Gives is_out_of_memory result (defined.packets_at (view top.now)) }
 {
     match top {
-        Value::Array(members) if members.len() <= MOST_PACKETS => {
-            all_packets(alloc, members.as_slice())
-        }
+        Value::Array(members) => few_packets(alloc, members.as_slice()),
         _ => Err(PacketsError::List),
+    }
+}
+
+#[tactic(auto, using(crate::proofs::Members::counted))]
+fn few_packets(alloc: Global, list: &[Value]) -> Result<Items<Packet>, PacketsError>
+    ensures { Gives is_out_of_memory result (defined.few_packets (items_view list.now)) }
+{
+    if list.len() <= MOST_PACKETS {
+        all_packets(alloc, list)
+    } else {
+        Err(PacketsError::List)
     }
 }
 
