@@ -28,6 +28,7 @@
 mod chains;
 mod error;
 mod host_rules;
+mod kinds;
 pub mod packet;
 mod read;
 mod rule;
