@@ -1,3 +1,4 @@
+pub mod Matching
 mod Filing
 mod Found
 mod KindMatches
