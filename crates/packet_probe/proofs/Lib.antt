@@ -1,0 +1,8 @@
+pub mod Matching
+mod Filing
+mod Found
+mod KindMatches
+mod KindOrder
+mod Members
+mod Networks
+mod Places

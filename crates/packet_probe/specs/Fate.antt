@@ -46,14 +46,18 @@ is_to false addr network = contains network addr
 abbrev pub is_from : Addr → Cidr → Bool
 is_from addr network = contains network addr
 
+-- where the packet comes from, and where it goes
+abbrev pub fits_way : Packet → Rule → Bool
+fits_way p rule = asks (is_from p.src) rule.src && asks (is_to rule.not_dst p.dst) rule.dst
+
+-- its protocol, its port and its connection
+abbrev pub fits_use : Packet → Rule → Bool
+fits_use p rule =
+    asks (proto_eq p.protocol) rule.protocol
+    && (asks (λ port. p.dport == port) rule.dport && (not rule.established || p.established))
+
 abbrev pub matches : Packet → Rule → Bool
-matches p rule =
-    speaks_of p.dst.family rule
-    && (asks (is_from p.src) rule.src
-    && (asks (is_to rule.not_dst p.dst) rule.dst
-    && (asks (proto_eq p.protocol) rule.protocol
-    && (asks (λ port. p.dport == port) rule.dport
-    && (not rule.established || p.established)))))
+matches p rule = speaks_of p.dst.family rule && (fits_way p rule && fits_use p rule)
 
 -- ---- a chain
 
@@ -89,11 +93,13 @@ is_masquerade (targets.Dnat addr port) = false
 abbrev pub masquerades : Rule → Bool
 masquerades rule = is_masquerade rule.target
 
--- by any rule of a published port, or else by the first of the containers' networks
+-- by the first rule of the containers' networks
+abbrev pub first_masquerades : List Rule → Packet → Bool
+first_masquerades rules p = option_map_or masquerades (first_match chains.Masq rules p) false
+
+-- by any rule of a published port, or else by the containers' networks
 abbrev pub is_masqueraded : List Rule → Packet → Bool
-is_masqueraded rules p =
-    not p.established
-    && (any_match chains.HostMasq rules p || option_map_or masquerades (first_match chains.Masq rules p) false)
+is_masqueraded rules p = not p.established && (any_match chains.HostMasq rules p || first_masquerades rules p)
 
 -- the packet at the destination that it has now
 abbrev pub fate_at : List Rule → Bool → Packet → Fate

@@ -1,9 +1,9 @@
 -- A packet file, which is this project's own: a list of packets. A packet is wrong as a whole, whatever in it is.
-use Rattle.std.specs.Prelude.{ℕ, ◌+◌, ◌&&◌, List, codes, Bool, true, false, nat_le, nat_lt, if◌then◌else◌, Result, Ok, Err, ok_or}
+use Rattle.std.specs.Prelude.{ℕ, ◌+◌, ◌&&◌, List, [], length, codes, Bool, true, false, nat_le, nat_lt, if◌then◌else◌, Result, Ok, Err, ok_or}
 use Rattle.serde_json.specs.Data.{Data, array, Items, no_items, item}
 use Rattle.cni_addr.specs.AddrText.{addr_of_text}
 use Rattle.cni_addr.specs.declared.address.Addr.{Addr}
-use Rattle.cni_json.specs.Each.{each_from}
+use Rattle.cni_json.specs.Each.{each_after}
 use Rattle.cni_json.specs.Fields.{text_field, bool_field, u64_field, member_or, object_or, needed, tested}
 use Rattle.cni_json.specs.Json.{json_of}
 use Rattle.cni_json.specs.Outcome.{◌>>=◌}
@@ -52,6 +52,10 @@ packet_at at d = do
   tested (wrong at) is_of_one_family
       (record { protocol = protocol; src = src; dst = dst; dport = dport; established = established })
 
+-- the packet that comes next, whose place is the number of those before
+abbrev pub next_packet : List Packet → Data → Result Packet PacketsError
+next_packet before d = packet_at (length before) d
+
 -- ---- the file
 
 abbrev pub most_packets : ℕ
@@ -63,8 +67,12 @@ member_count no_items = 0
 member_count (item d ds) = member_count ds + 1
 
 -- a list that is too long is refused before any of its packets
+abbrev pub few_packets : Items → Result (List Packet) PacketsError
+few_packets items =
+    if nat_le (member_count items) most_packets then each_after next_packet [] items else Err refusal.List
+
 unfoldable pub packets_at : Data → Result (List Packet) PacketsError
-packets_at (array items) = if nat_le (member_count items) most_packets then each_from packet_at 0 items else Err refusal.List
+packets_at (array items) = few_packets items
 packets_at d = Err refusal.List
 
 -- bytes that are no JSON, or have another number than whole ones of 64 bits

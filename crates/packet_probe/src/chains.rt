@@ -1,158 +1,97 @@
-//! The way of a packet through the chains of a host's rules, for one packet.
+//! The way of a packet through the chains of a host's rules.
 
-ghost use Rattle.std.specs.Prelude.{◌≡◌, option_map};
+ghost use Rattle.std.specs.Prelude.{◌≡◌, List};
+ghost use Rattle.std.specs.Option.{option_copied};
+ghost use Rattle.kernel_types.specs.declared.rule.Rule.{Rule};
 ghost use Rattle.packet_probe.specs.Fate as defined;
 
 use crate::packet::{Fate, Packet};
-use cni_addr::{Addr, Cidr, Family, RefCounted, contains};
-use kernel_types::{Chain, Host, Rule, Target};
+use crate::rule::{masquerades, matches_in, sent_by};
+use cni_addr::{Items, RefCounted};
+use kernel_types::{Chain, Host, Rule};
+
+/// Rules in which those of a packet are found.
+pub(crate) trait Chains {
+    /// The rules in order.
+    ghost rules: { Self → List Rule };
+
+    /// The first rule of the chain that matches the packet. Takes no memory.
+    fn first_match(&self, chain: Chain, packet: &Packet) -> Option<&RefCounted<Rule>>
+        ensures { option_copied result ≡ defined.first_match chain (rules self.now) packet.now };
+}
+
+impl Chains for Items<RefCounted<Rule>> {
+    ghost rules = { λ rules. rules };
+
+    fn first_match(&self, chain: Chain, packet: &Packet) -> Option<&RefCounted<Rule>> {
+        self.as_slice()
+            .iter()
+            .find(|rule| matches_in(chain, packet, rule.get()))
+    }
+}
 
 /// What becomes of the packet by the host's rules, which it goes through four times at most. It takes no memory. For
 /// many packets there is [`Ruleset`](crate::Ruleset).
 pub fn fate(host: &Host, packet: &Packet) -> Fate
     ensures { result ≡ defined.fate_of host.now packet.now }
 {
-    fate_by(host.rules.as_slice(), packet)
+    fate_by(&host.rules, packet)
 }
 
-pub(crate) fn fate_by(rules: &[RefCounted<Rule>], packet: &Packet) -> Fate
-    ensures { result ≡ defined.fate_by rules.now packet.now }
+/// What becomes of the packet by these rules. Takes no memory.
+pub(crate) fn fate_by<C: Chains>(chains: &C, packet: &Packet) -> Fate
+    ensures { result ≡ defined.fate_by (C.rules chains.now) packet.now }
 {
-    match rewriting(rules, packet) {
-        Some(packet) => fate_at(rules, true, &packet),
-        None => fate_at(rules, false, packet),
+    match rewriting(chains, packet) {
+        Some(packet) => fate_at(chains, true, &packet),
+        None => fate_at(chains, false, packet),
     }
 }
 
 /// What becomes of the packet at the destination that it has now.
-fn fate_at(rules: &[RefCounted<Rule>], rewritten: bool, packet: &Packet) -> Fate
-    ensures { result ≡ defined.fate_at rules.now rewritten packet.now }
+fn fate_at<C: Chains>(chains: &C, rewritten: bool, packet: &Packet) -> Fate
+    ensures { result ≡ defined.fate_at (C.rules chains.now) rewritten packet.now }
 {
     Fate {
         dst: packet.dst,
         dport: packet.dport,
         rewritten,
-        accepted: any_match(Chain::Forward, rules, packet),
-        masqueraded: is_masqueraded(rules, packet),
+        accepted: any_match(chains, Chain::Forward, packet),
+        masqueraded: is_masqueraded(chains, packet),
     }
 }
 
 /// The packet with its new destination, where a port mapping has one.
-fn rewriting(rules: &[RefCounted<Rule>], packet: &Packet) -> Option<Packet>
-    ensures { result ≡ defined.rewriting rules.now packet.now }
+fn rewriting<C: Chains>(chains: &C, packet: &Packet) -> Option<Packet>
+    ensures { result ≡ defined.rewriting (C.rules chains.now) packet.now }
 {
     if packet.established {
         return None;
     }
-    let rule = first_match(Chain::Dnat, rules, packet)?;
-    sent_by(packet, rule)
+    match chains.first_match(Chain::Dnat, packet) {
+        Some(rule) => sent_by(packet, rule.get()),
+        None => None,
+    }
 }
 
-fn is_masqueraded(rules: &[RefCounted<Rule>], packet: &Packet) -> bool
-    ensures { result ≡ defined.is_masqueraded rules.now packet.now }
+fn is_masqueraded<C: Chains>(chains: &C, packet: &Packet) -> bool
+    ensures { result ≡ defined.is_masqueraded (C.rules chains.now) packet.now }
 {
     !packet.established
-        && (any_match(Chain::HostMasq, rules, packet)
-            || first_match(Chain::Masq, rules, packet).map_or(false, |rule| masquerades(rule)))
+        && (any_match(chains, Chain::HostMasq, packet) || first_masquerades(chains, packet))
 }
 
-// ---- a chain
-
-fn first_match<'a>(chain: Chain, rules: &'a [RefCounted<Rule>], packet: &Packet) -> Option<&'a Rule>
-    ensures { option_map (λ r. r.now) result ≡ defined.first_match chain rules.entry.now packet.now }
+fn first_masquerades<C: Chains>(chains: &C, packet: &Packet) -> bool
+    ensures { result ≡ defined.first_masquerades (C.rules chains.now) packet.now }
 {
-    rules
-        .iter()
-        .find(|rule| matches_in(chain, packet, rule.get()))
-        .map(|rule| rule.get())
-}
-
-fn any_match(chain: Chain, rules: &[RefCounted<Rule>], packet: &Packet) -> bool
-    ensures { result ≡ defined.any_match chain rules.now packet.now }
-{
-    rules
-        .iter()
-        .any(|rule| matches_in(chain, packet, rule.get()))
-}
-
-// ---- one rule
-
-fn matches_in(chain: Chain, packet: &Packet, rule: &Rule) -> bool
-    ensures { result ≡ defined.matches_in chain packet.now rule.now }
-{
-    rule.chain == chain && matches(packet, rule)
-}
-
-fn matches(packet: &Packet, rule: &Rule) -> bool
-    ensures { result ≡ defined.matches packet.now rule.now }
-{
-    speaks_of(packet.dst.family, rule)
-        && rule
-            .src
-            .as_ref()
-            .map_or(true, |network| contains(network, &packet.src))
-        && rule
-            .dst
-            .as_ref()
-            .map_or(true, |network| is_to(rule.not_dst, &packet.dst, network))
-        && rule
-            .protocol
-            .map_or(true, |protocol| packet.protocol == protocol)
-        && rule.dport.map_or(true, |port| packet.dport == port)
-        && (!rule.established || packet.established)
-}
-
-/// Whether each address that the rule has is of the family.
-fn speaks_of(family: Family, rule: &Rule) -> bool
-    ensures { result ≡ defined.speaks_of family rule.now }
-{
-    rule.src
-        .map_or(true, |network| network.addr.family == family)
-        && rule
-            .dst
-            .map_or(true, |network| network.addr.family == family)
-        && leads_into(family, &rule.target)
-}
-
-fn leads_into(family: Family, target: &Target) -> bool
-    ensures { result ≡ defined.leads_into family target.now }
-{
-    match target {
-        Target::Accept | Target::Masquerade => true,
-        Target::Dnat { addr, .. } => addr.family == family,
+    match chains.first_match(Chain::Masq, packet) {
+        Some(rule) => masquerades(rule.get()),
+        None => false,
     }
 }
 
-fn is_to(not_dst: bool, addr: &Addr, network: &Cidr) -> bool
-    ensures { result ≡ defined.is_to not_dst addr.now network.now }
+fn any_match<C: Chains>(chains: &C, chain: Chain, packet: &Packet) -> bool
+    ensures { result ≡ defined.any_match chain (C.rules chains.now) packet.now }
 {
-    if not_dst {
-        !contains(network, addr)
-    } else {
-        contains(network, addr)
-    }
-}
-
-// ---- what a rule does
-
-/// The packet where the rule sends it on, if it does.
-pub(crate) fn sent_by(packet: &Packet, rule: &Rule) -> Option<Packet>
-    ensures { result ≡ defined.sent_by packet.now rule.now }
-{
-    match rule.target {
-        Target::Accept | Target::Masquerade => None,
-        Target::Dnat { addr, port } => Some(Packet {
-            protocol: packet.protocol,
-            src: packet.src,
-            dst: addr,
-            dport: port,
-            established: packet.established,
-        }),
-    }
-}
-
-pub(crate) fn masquerades(rule: &Rule) -> bool
-    ensures { result ≡ defined.masquerades rule.now }
-{
-    matches!(rule.target, Target::Masquerade)
+    chains.first_match(chain, packet).is_some()
 }

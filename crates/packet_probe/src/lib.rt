@@ -28,8 +28,12 @@
 mod chains;
 mod error;
 mod host_rules;
+mod kinds;
 pub mod packet;
 mod read;
+mod rule;
+#[cfg(test)]
+mod tests;
 
 pub use chains::fate;
 pub use error::PacketsError;

@@ -1,6 +1,8 @@
 //! Packets, and what becomes of them.
 
-use cni_addr::Addr;
+ghost use Rattle.std.specs.Prelude.{◌≡◌};
+
+use cni_addr::{Addr, Family};
 use cni_result::Proto;
 use std::marker::Model;
 
@@ -26,6 +28,15 @@ impl Model for Packet {
     ghost invariant = { λ p. IsPacket (record { protocol = p.protocol; src = p.src; dst = p.dst; dport = p.dport; established = p.established }) };
 
     ghost inverse = { λ v. record { protocol = v.protocol; src = v.src; dst = v.dst; dport = v.dport; established = v.established } };
+}
+
+impl Packet {
+    /// The family of both its addresses.
+    pub fn family(&self) -> Family
+        ensures { result ≡ self.now.dst.family }
+    {
+        self.dst.family
+    }
 }
 
 /// What becomes of a packet.

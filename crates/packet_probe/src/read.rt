@@ -1,8 +1,8 @@
 //! The reader of packet files.
 
-ghost use Rattle.std.specs.Prelude.{◌≡◌, ◌≤◌, ◌<◌, length};
+ghost use Rattle.std.specs.Prelude.{◌≡◌, ◌≤◌, ◌<◌, [], length};
 ghost use Rattle.serde_json.specs.View.{view, items_view};
-ghost use Rattle.cni_json.specs.Each.{each_from};
+ghost use Rattle.cni_json.specs.Each.{each_after};
 ghost use Rattle.cni_json.specs.Outcome.{Gives};
 ghost use Rattle.packet_probe.specs.PacketFile as defined;
 ghost use Rattle.packet_probe.specs.Refusals.{is_out_of_memory};
@@ -39,29 +39,45 @@ fn packets(alloc: Global, top: &Value) -> Result<Items<Packet>, PacketsError>
     ensures { Gives is_out_of_memory result (defined.packets_at (view top.now)) }
 {
     match top {
-        Value::Array(members) if members.len() <= MOST_PACKETS => {
-            all_packets(alloc, members.as_slice())
-        }
+        Value::Array(members) => few_packets(alloc, members.as_slice()),
         _ => Err(PacketsError::List),
+    }
+}
+
+#[tactic(auto, using(crate::proofs::Members::counted))]
+fn few_packets(alloc: Global, list: &[Value]) -> Result<Items<Packet>, PacketsError>
+    ensures { Gives is_out_of_memory result (defined.few_packets (items_view list.now)) }
+{
+    if list.len() <= MOST_PACKETS {
+        all_packets(alloc, list)
+    } else {
+        Err(PacketsError::List)
     }
 }
 
 #[tactic(auto, using(cni_json::proofs::Steps::steps))]
 fn all_packets(alloc: Global, list: &[Value]) -> Result<Items<Packet>, PacketsError>
     requires { length list.now ≤ defined.most_packets }
-    ensures { Gives is_out_of_memory result (each_from defined.packet_at 0 (items_view list.now)) }
+    ensures { Gives is_out_of_memory result (each_after defined.next_packet [] (items_view list.now)) }
 {
     let mut found = Items::new(alloc);
     for member in list {
-        let next = packet(found.as_slice().len() as u32, member)?;
+        let next = next_packet(found.as_slice(), member)?;
         found.push(next)?;
     }
     Ok(found)
 }
 
+fn next_packet(before: &[Packet], member: &Value) -> Result<Packet, PacketsError>
+    requires { length before.now < defined.most_packets }
+    ensures { Gives is_out_of_memory result (defined.next_packet before.now (view member.now)) }
+{
+    packet(before.len() as u32, member)
+}
+
 #[tactic(auto, using(cni_json::proofs::Steps::steps), unfolding(crate::specs::PacketFile::packet_at))]
 fn packet(at: u32, member: &Value) -> Result<Packet, PacketsError>
-    ensures { result ≡ defined.packet_at at (view member.now) }
+    ensures { Gives is_out_of_memory result (defined.packet_at at (view member.now)) }
 {
     need_object(member, || PacketsError::Packet { at })?;
     let protocol = protocol(at, member)?;

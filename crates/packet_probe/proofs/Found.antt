@@ -1,0 +1,35 @@
+-- What the first rule that matches says.
+use Rattle.std.proofs.Common.{◌≡◌, Bool, true, List, [], ◌∷◌, Option, Some, None, refl, sym, ap, ◌∙◌, arith}
+use Rattle.std.specs.Prelude.{◌&&◌, find, is_some}
+use Rattle.std.specs.List.{list_any}
+use Rattle.std.specs.Option.{option_copied}
+use Rattle.std.proofs.lemmas.Bool.{and_parts}
+use Rattle.kernel_types.proofs.ListLemmas.{passes-find}
+use Rattle.kernel_types.specs.Equal.{chain_eq}
+use Rattle.kernel_types.specs.declared.rule.Chain.{Chain}
+use Rattle.kernel_types.specs.declared.rule.Rule.{Rule}
+use Rattle.packet_probe.specs.Fate.{fits_use, fits_way, first_match, leads_into, matches, matches_in, speaks_of}
+use Rattle.packet_probe.specs.declared.packet.Packet.{Packet}
+use denote.Ref.{Bor}
+
+is_some-find : {X : Type 0} (p : X → Bool) (xs : List X) → is_some (find p xs) ≡ list_any p xs
+is_some-find p [] = refl
+is_some-find p (x ∷ xs) = grind (arith, is_some-find p xs)
+
+is_some-option_copied : {X : Type 0} (o : Option (Bor X)) → is_some o ≡ is_some (option_copied o)
+is_some-option_copied None = refl
+is_some-option_copied (Some x) = refl
+
+-- some element passes where a first is found
+pub some_found : {X : Type 0} (p : X → Bool) (xs : List X) (o : Option (Bor X)) → option_copied o ≡ find p xs → is_some o ≡ list_any p xs
+some_found p xs o found = is_some-option_copied o ∙ ap is_some found ∙ is_some-find p xs
+
+-- a rule that speaks of a family leads into it
+leads : (a b t way rest : Bool) → ((a && (b && t)) && (way && rest)) ≡ true → t ≡ true
+leads a b t way rest h = (and_parts b t (and_parts a (b && t) (and_parts (a && (b && t)) (way && rest) h).0).1).1
+
+-- so does the first that matches
+pub first_match-leads_into : (chain : Chain) (rules : List Rule) (p : Packet) (rule : Rule) → first_match chain rules p ≡ Some rule → leads_into p.dst.family rule.target ≡ true
+first_match-leads_into chain rules p rule found =
+    leads _ _ (leads_into p.dst.family rule.target) (fits_way p rule) (fits_use p rule)
+    (and_parts (chain_eq rule.chain chain) (matches p rule) (passes-find (matches_in chain p) rules rule found)).1

@@ -1,0 +1,9 @@
+use Rattle.std.proofs.Common.{ap, ◌∙◌}
+use Rattle.cni_addr.specs.Network.{network_of}
+use Rattle.cni_addr.specs.declared.address.Addr.{Addr}
+use Rattle.cni_addr.specs.declared.address.Cidr.{Cidr}
+use Rattle.packet_probe.proofs.kinds.start_of.Goals as goal
+
+pub returns : goal.returns
+unfolding network_of
+returns c = ap (λ (a : Addr). a.bits) c.result-2.view_is ∙ ap (λ (n : Cidr). n.addr.bits) (c.result.view_is ∙ c.network_of.ensures)
