@@ -1,0 +1,3 @@
+mod RawFacts
+mod RequestAgain
+mod RequestLimits

@@ -1,3 +1,7 @@
 pub mod DataCode
+pub mod Env
+pub mod Laws
 pub mod Raw
+pub mod Reading
+pub mod Refusals
 pub mod Request

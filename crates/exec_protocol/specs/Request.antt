@@ -17,6 +17,10 @@ use Rattle.pod_file.specs.declared.command.ValidAtt.{ValidAtt}
 abbrev pub mappings_for : Data → List PortMapping → List PortMapping
 mappings_for d mappings = if asks_for_mappings d then mappings else []
 
+-- the key of the attachments that a GC is to keep
+abbrev pub valid_key : List ℕ
+valid_key = codes "cni.dev/valid-attachments"
+
 -- an attachment that a GC is to keep
 abbrev pub valid_data : ValidAtt → Data
 valid_data att = object (no_members
@@ -31,14 +35,19 @@ runtime_members mappings = no_members ▷ put_list_unless_empty mapping_data (co
 abbrev pub own_members : Data → Members
 own_members d = members_where (λ key. not (is_runtime_key key)) (members_in d)
 
--- the request to the plugin of this list that the object d configures
-unfoldable pub request_data : NetList → Data → Option AddResult → List PortMapping → Option (List ValidAtt) → Data
-request_data list d prev mappings valid = object (own_members d
-    ▷ put_if (list_data valid_data) (codes "cni.dev/valid-attachments") valid
+-- the members of the request to the plugin of this list that the object d configures
+unfoldable pub request_members : NetList → Data → Option AddResult → List PortMapping → Option (List ValidAtt)
+    → Members
+request_members list d prev mappings valid = own_members d
+    ▷ put_if (list_data valid_data) valid_key valid
     ▷ put (codes "cniVersion") (version_data list.version)
     ▷ put (codes "name") (text_data list.name)
     ▷ put_if result_data (codes "prevResult") prev
-    ▷ put_object_unless_empty (codes "runtimeConfig") (runtime_members (mappings_for d mappings)))
+    ▷ put_object_unless_empty (codes "runtimeConfig") (runtime_members (mappings_for d mappings))
+
+-- the request
+abbrev pub request_data : NetList → Data → Option AddResult → List PortMapping → Option (List ValidAtt) → Data
+request_data list d prev mappings valid = object (request_members list d prev mappings valid)
 
 -- the object of the plugin in this place, from 0
 abbrev pub object_at : RawView → ℕ → Data

@@ -13,6 +13,8 @@
 //! ```
 #![tactic(auto)]
 
+pub mod error;
+pub mod laws;
 pub mod raw_list;
 pub mod types;
 pub mod writing;

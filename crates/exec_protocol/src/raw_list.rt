@@ -1,14 +1,15 @@
 //! A network list that keeps the objects of its plugins.
 
-ghost use Rattle.std.specs.Prelude.{◌≡◌, All, IfOk, map};
+ghost use Rattle.std.specs.Prelude.{◌≡◌, ◌<◌, All, IfOk, length, map};
 ghost use Rattle.serde_json.specs.View.{view};
 ghost use Rattle.cni_json.specs.Outcome.{Gives};
 ghost use Rattle.exec_protocol.specs.Raw.{IsPluginObject, IsRaw, raw_of};
+ghost use Rattle.exec_protocol.specs.Request.{object_at};
 ghost use Rattle.net_conf.specs.Refusals.{is_out_of_memory};
 
 use cni_addr::{NoMemory, RefCounted};
 use cni_json::Value;
-use net_conf::{ConfError, NetList, decode, network_list, plugin_objects};
+use net_conf::{ConfError, NetList, decode, network_list, network_list_laws, plugin_objects};
 use std::alloc::Global;
 use std::marker::Model;
 
@@ -39,15 +40,17 @@ impl Model for RawList {
 impl RawList {
     /// The network list that the bytes spell, or its first refusal, as [`net_conf::read_list`] has both. It takes as
     /// long, and keeps of the bytes what the objects of the plugins have.
+    #[tactic(auto, using(cni_json::proofs::Steps::steps), unfolding(crate::specs::Raw::raw_of, crate::specs::Raw::raw_at))]
     pub fn read(alloc: Global, bytes: &[u8]) -> Result<RawList, ConfError>
         ensures { Gives is_out_of_memory result (raw_of bytes.now) }
     {
         let top = decode(alloc, bytes)?;
         let list = network_list(alloc, &top)?;
-        let objects = copies(alloc, plugin_objects(alloc, &top)?)?;
+        let objects = plugin_objects(alloc, &top)?;
+        network_list_laws();
         Ok(RawList {
             list: RefCounted::of(alloc, list)?,
-            objects,
+            objects: copies(alloc, objects)?,
         })
     }
 
@@ -64,6 +67,15 @@ impl RawList {
         ensures kept { All (λ v. IsPluginObject (view v)) result.now }
     {
         self.objects.as_slice()
+    }
+
+    /// The object of the plugin in this place, from 0.
+    pub fn object(&self, k: u32) -> &Value
+        requires { k < length self.now.objects }
+        ensures is { view result.now ≡ object_at self.now k }
+        ensures kept { IsPluginObject (view result.now) }
+    {
+        &self.objects()[k as usize]
     }
 
     /// Every raw list is one. The call does nothing.

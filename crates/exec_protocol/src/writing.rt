@@ -1,6 +1,6 @@
 //! The request to a plugin, as a value and as a line.
 
-ghost use Rattle.std.specs.Prelude.{◌≡◌, ◌+◌, ◌<◌, ◌≤◌, codes, false, length, IfOk, OnOk};
+ghost use Rattle.std.specs.Prelude.{◌≡◌, ◌+◌, ◌<◌, ◌≤◌, codes, false, length, All, IfOk, OnOk};
 ghost use Rattle.std.specs.Option.{option_copied};
 ghost use Rattle.serde_json.specs.Data.{depth};
 ghost use Rattle.serde_json.specs.Read.{max_depth};
@@ -8,9 +8,13 @@ ghost use Rattle.serde_json.specs.View.{view};
 ghost use Rattle.serde_json.specs.Written.{has_float};
 ghost use Rattle.cni_json.specs.Json.{line_of};
 ghost use Rattle.cni_json.specs.Members.{list_data, members_of, put_if};
+ghost use Rattle.cni_result.specs.Laws.{IsMapping};
+ghost use Rattle.cni_result.specs.Results.{result_data};
+ghost use Rattle.exec_protocol.specs.Laws.{IsReadAgain};
 ghost use Rattle.exec_protocol.specs.Raw.{IsPluginObject};
-ghost use Rattle.exec_protocol.specs.Request.{own_members, mappings_for, request_data, request_of, runtime_members, valid_data};
+ghost use Rattle.exec_protocol.specs.Request.{mappings_for, own_members, request_data, request_members, request_of, runtime_members, valid_data, valid_key};
 
+use crate::laws::a_request_is_read_again;
 use crate::raw_list::RawList;
 use cni_addr::{NoMemory, Text};
 use cni_json::{JsonObject, Value, line_text, members_where};
@@ -34,7 +38,7 @@ fn valid_value(alloc: Global, att: &ValidAtt) -> Result<Value, NoMemory>
     Ok(object.into_value())
 }
 
-fn valid_list(alloc: Global, valid: &[ValidAtt]) -> Result<Value, NoMemory>
+fn valid_values(alloc: Global, valid: &[ValidAtt]) -> Result<Value, NoMemory>
     ensures { IfOk result (λ v. view v ≡ list_data valid_data valid.now) }
 {
     let mut values = Vec::with_capacity(alloc, valid.len())?;
@@ -42,6 +46,34 @@ fn valid_list(alloc: Global, valid: &[ValidAtt]) -> Result<Value, NoMemory>
         values.push(valid_value(alloc, att)?)?;
     }
     Ok(Value::Array(values))
+}
+
+fn put_valid(
+    object: &mut JsonObject,
+    alloc: Global,
+    valid: Option<&[ValidAtt]>,
+) -> Result<(), NoMemory>
+    ensures { OnOk result (members_of object.new
+        ≡ put_if (list_data valid_data) valid_key (option_copied valid.entry) (members_of object.old)) }
+{
+    match valid {
+        Some(valid) => object.put_value("cni.dev/valid-attachments", valid_values(alloc, valid)?),
+        None => Ok(()),
+    }
+}
+
+fn put_prev(
+    object: &mut JsonObject,
+    alloc: Global,
+    prev: Option<&AddResult>,
+) -> Result<(), NoMemory>
+    ensures { OnOk result (members_of object.new
+        ≡ put_if result_data (codes "prevResult") (option_copied prev.entry) (members_of object.old)) }
+{
+    match prev {
+        Some(prev) => object.put_value("prevResult", to_value(alloc, prev)?),
+        None => Ok(()),
+    }
 }
 
 /// What is under `runtimeConfig`.
@@ -59,9 +91,30 @@ fn runtime_config(
     Ok(config)
 }
 
+#[tactic(auto, unfolding(crate::specs::Request::request_members))]
+fn request_object(
+    alloc: Global,
+    list: &NetList,
+    object: &Value,
+    prev: Option<&AddResult>,
+    mappings: &[PortMapping],
+    valid: Option<&[ValidAtt]>,
+) -> Result<JsonObject, NoMemory>
+    ensures { IfOk result (λ o. members_of o ≡ request_members list.now (view object.now) (option_copied prev.entry)
+        mappings.now (option_copied valid.entry)) }
+{
+    let mut request = own_members(alloc, object)?;
+    put_valid(&mut request, alloc, valid)?;
+    request.put("cniVersion", &list.version)?;
+    request.put("name", &list.name)?;
+    put_prev(&mut request, alloc, prev)?;
+    request.put_object_unless_empty("runtimeConfig", runtime_config(alloc, object, mappings)?)?;
+    Ok(request)
+}
+
 /// The request to the plugin of this list that the object configures. It takes time and memory in proportion to the
 /// object and the parts that are given.
-#[tactic(auto, unfolding(crate::specs::Request::request_data))]
+#[tactic(auto, using(crate::proofs::RequestLimits::request_is_whole, crate::proofs::RequestLimits::request_depth))]
 pub fn request_to(
     alloc: Global,
     list: &NetList,
@@ -78,17 +131,7 @@ pub fn request_to(
     ensures numbers { IfOk result (λ v. has_float (view v) ≡ false) }
     ensures nests { IfOk result (λ v. depth (view v) + 1 ≤ max_depth) }
 {
-    let mut request = own_members(alloc, object)?;
-    if let Some(valid) = valid {
-        request.put_value("cni.dev/valid-attachments", valid_list(alloc, valid)?)?;
-    }
-    request.put("cniVersion", &list.version)?;
-    request.put("name", &list.name)?;
-    if let Some(prev) = prev {
-        request.put_value("prevResult", to_value(alloc, prev)?)?;
-    }
-    request.put_object_unless_empty("runtimeConfig", runtime_config(alloc, object, mappings)?)?;
-    Ok(request.into_value())
+    Ok(request_object(alloc, list, object, prev, mappings, valid)?.into_value())
 }
 
 /// The request to the plugin in this place of the list, from 0.
@@ -108,8 +151,17 @@ pub fn request_value(
     ensures numbers { IfOk result (λ v. has_float (view v) ≡ false) }
     ensures nests { IfOk result (λ v. depth (view v) + 1 ≤ max_depth) }
 {
-    let object = &raw.objects()[k as usize];
-    request_to(alloc, raw.list().get(), object, prev, mappings, valid)
+    let list = raw.list().get();
+    request_to(alloc, list, raw.object(k), prev, mappings, valid)
+}
+
+/// Opens the bounds of each mapping's numbers to the proof.
+fn open_bounds(mappings: &[PortMapping])
+    ensures { All IsMapping mappings.now }
+{
+    for mapping in mappings {
+        let _bounds = (mapping.host_port, mapping.container_port, mapping.host_ip);
+    }
 }
 
 /// The request as a plugin is handed it, on a line of its own.
@@ -124,7 +176,15 @@ pub fn request(
     requires place { k < length raw.now.objects }
     ensures text { IfOk result (λ text. text ≡ line_of (request_of raw.now k (option_copied prev.entry) mappings.now
         (option_copied valid.entry))) }
+
+    // The plugin that is called with it reads what it was made of.
+    ensures again { IfOk result (λ text. IsReadAgain raw.now k (option_copied prev.entry) mappings.now
+        (option_copied valid.entry) text) }
 {
+    a_request_is_read_again();
+    raw.is_raw();
+    open_bounds(mappings);
     let value = request_value(alloc, raw, k, prev, mappings, valid)?;
-    line_text(alloc, &value)
+    let text = line_text(alloc, &value)?;
+    Ok(text)
 }

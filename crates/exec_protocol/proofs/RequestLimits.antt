@@ -1,0 +1,81 @@
+-- What a line of a request needs to be read again: whole numbers, and no more levels than a reader takes.
+use Rattle.std.proofs.Common.{◌≡◌, ℕ, ◌+◌, ◌≤◌, List, false, Option, not, refl, arith, rules}
+use Rattle.std.specs.Prelude.{codes}
+use Rattle.serde_json.specs.Data.{Data, no_members, depth, members_depth}
+use Rattle.serde_json.specs.Read.{max_depth}
+use Rattle.serde_json.specs.Written.{has_float, members_have_float}
+use Rattle.cni_json.proofs.Building.{members_have_float-put}
+use Rattle.cni_json.proofs.Depths.{members_depth-put, members_depth-put_if, depth-list, members_depth-put_list, members_depth-put_object, depth-object}
+use Rattle.cni_json.proofs.KeptMembers.{members_depth-where, members_depth-members_in, members_have_float-where, members_have_float-members_in}
+use Rattle.cni_json.specs.Members.{members_in, text_data, list_data}
+use Rattle.cni_result.proofs.Depths.{result_depth}
+use Rattle.cni_result.proofs.ResultLemmas.{result_is_whole, mapping_is_whole}
+use Rattle.cni_result.proofs.WholeNumbers.{puts_are_whole, items_are_whole, put_if_is_whole, put_list_is_whole, put_object_is_whole}
+use Rattle.cni_result.specs.Mappings.{mapping_data}
+use Rattle.cni_result.specs.Results.{version_data, result_data}
+use Rattle.cni_result.specs.declared.cached.PortMapping.{PortMapping}
+use Rattle.cni_result.specs.declared.result.AddResult.{AddResult}
+use Rattle.exec_protocol.specs.Raw.{IsPluginObject}
+use Rattle.exec_protocol.specs.Request.{mappings_for, valid_key, valid_data, runtime_members, own_members, request_members}
+use Rattle.net_conf.specs.RuntimeKeys.{is_runtime_key}
+use Rattle.net_conf.specs.declared.list.NetList.{NetList}
+use Rattle.pod_file.specs.declared.command.ValidAtt.{ValidAtt}
+
+-- ---- numbers
+
+own_is_whole : (d : Data) → has_float d ≡ false → members_have_float (own_members d) ≡ false
+own_is_whole d whole = members_have_float-where (λ key. not (is_runtime_key key)) (members_in d) (members_have_float-members_in d whole)
+
+valid_is_whole : (att : ValidAtt) → has_float (valid_data att) ≡ false
+valid_is_whole att = search puts_are_whole depth 8
+
+runtime_is_whole : (mappings : List PortMapping) → members_have_float (runtime_members mappings) ≡ false
+runtime_is_whole mappings = put_list_is_whole mapping_data (codes "portMappings") mappings no_members mapping_is_whole refl
+
+pub request_is_whole : (list : NetList) (d : Data) (prev : Option AddResult) (mappings : List PortMapping) (valid : Option (List ValidAtt)) → IsPluginObject d
+    → members_have_float (request_members list d prev mappings valid) ≡ false
+unfolding request_members
+request_is_whole list d prev mappings valid object =
+    let atts = put_if_is_whole (list_data valid_data) valid_key valid (own_members d) (λ found. items_are_whole valid_data found valid_is_whole) (own_is_whole d object.whole) in
+    let version = members_have_float-put (codes "cniVersion") (version_data list.version) _ refl atts in
+    let name = members_have_float-put (codes "name") (text_data list.name) _ refl version in
+    let before = put_if_is_whole result_data (codes "prevResult") prev _ result_is_whole name in
+    put_object_is_whole (codes "runtimeConfig") (runtime_members (mappings_for d mappings)) _ (runtime_is_whole (mappings_for d mappings)) before
+
+-- ---- levels
+
+own_depth : (d : Data) → IsPluginObject d → members_depth (own_members d) ≤ 125
+own_depth d object =
+    let all = members_depth-members_in d in
+    let kept = members_depth-where (λ key. not (is_runtime_key key)) (members_in d) in
+    omega (arith, all, kept, object.shallow)
+
+valid_depth : (att : ValidAtt) → depth (valid_data att) ≤ 1
+valid_depth att = depth-object 0 _ (search (rules, members_depth-put) depth 9)
+
+valid_list_depth : (atts : List ValidAtt) → depth (list_data valid_data atts) ≤ 125
+valid_list_depth atts = let list = depth-list 1 valid_data atts valid_depth in omega (arith, list)
+
+mapping_depth : (m : PortMapping) → depth (mapping_data m) ≤ 1
+unfolding mapping_data
+mapping_depth m = depth-object 0 _ (search (rules, members_depth-put, members_depth-put_if) depth 9)
+
+runtime_depth : (mappings : List PortMapping) → members_depth (runtime_members mappings) ≤ 124
+runtime_depth mappings =
+    let list = members_depth-put_list 1 mapping_data (codes "portMappings") mappings no_members mapping_depth (omega arith) in
+    omega (arith, list)
+
+prev_depth : (r : AddResult) → depth (result_data r) ≤ 125
+prev_depth r = let result = result_depth r in omega (arith, result)
+
+-- a line may have the request in an object
+pub request_depth : (list : NetList) (d : Data) (prev : Option AddResult) (mappings : List PortMapping) (valid : Option (List ValidAtt)) → IsPluginObject d
+    → members_depth (request_members list d prev mappings valid) + 2 ≤ max_depth
+unfolding request_members
+request_depth list d prev mappings valid object =
+    let atts = members_depth-put_if 125 (list_data valid_data) valid_key valid (own_members d) valid_list_depth (own_depth d object) in
+    let version = members_depth-put 125 (codes "cniVersion") (version_data list.version) _ (omega arith) atts in
+    let name = members_depth-put 125 (codes "name") (text_data list.name) _ (omega arith) version in
+    let before = members_depth-put_if 125 result_data (codes "prevResult") prev _ prev_depth name in
+    let whole = members_depth-put_object 124 (codes "runtimeConfig") (runtime_members (mappings_for d mappings)) _ (runtime_depth (mappings_for d mappings)) before in
+    omega (arith, whole)

@@ -1,0 +1,10 @@
+use Rattle.std.proofs.Common.{sym, subst}
+use Rattle.std.specs.Prelude.{All}
+use Rattle.serde_json.specs.View.{view}
+use Rattle.exec_protocol.proofs.RawFacts.{All-viewed}
+use Rattle.exec_protocol.proofs.raw_list.RawList.objects.Goals as goal
+use Rattle.exec_protocol.specs.Raw.{IsPluginObject}
+
+pub returns-clause-kept : goal.returns-clause-kept
+returns-clause-kept c =
+    subst (All (λ v. IsPluginObject (view v))) (sym c.as_slice.ensures.value) (All-viewed view IsPluginObject c.self.inside.objects.items c.self.invariant.objects)

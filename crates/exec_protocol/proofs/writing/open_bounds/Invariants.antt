@@ -1,0 +1,7 @@
+use Rattle.std.proofs.Common.{take}
+use Rattle.std.specs.Prelude.{All}
+use Rattle.cni_result.specs.Laws.{IsMapping}
+use Rattle.exec_protocol.proofs.writing.open_bounds.Given as goal
+
+abbrev pub invariant-loop-mapping : goal.invariant-loop-mapping
+invariant-loop-mapping l = All IsMapping (take l.mapping-index l.mappings)
