@@ -11,7 +11,7 @@ use Rattle.kernel_types.specs.declared.rule.Chain.{Chain}
 use Rattle.kernel_types.specs.declared.rule.Rule.{Rule}
 use Rattle.packet_probe.proofs.KindMatches.{matches_in-kind}
 use Rattle.packet_probe.proofs.KindOrder.{exact_key, exact_kind, kind-itself}
-use Rattle.packet_probe.proofs.Places.{place-alike, place-among, place-none, position-push, unwrap_or-position}
+use Rattle.packet_probe.proofs.Places.{place-alike, place-among, place-either, place-none, position-push, unwrap_or-position}
 use Rattle.packet_probe.specs.Fate.{matches_in}
 use Rattle.packet_probe.specs.Filed.{HasFirsts, HasKinds, IsFiled, first_with, is_found_at}
 use Rattle.packet_probe.specs.Kinds.{Key, admits, has_key, key_cmp, key_of, kind_cmp, kind_of, values_at, values_cmp, values_of}
@@ -109,6 +109,11 @@ found-matches chain p kinds r same here =
     one-found (λ kind. is_found_at chain p kind r) (λ kind. is_eq (kind_cmp (kind_of r) kind)) (matches_in chain p r)
     (λ kind tied. subst (λ (k : Kind). is_found_at chain p k r ≡ matches_in chain p r) (exact_kind (kind_of r) kind ((Equal-is (kind_cmp (kind_of r) kind)).0 tied)) (found-own chain p r same))
     (λ kind apart. found-other chain p r kind apart) kinds here
+
+-- the first at one of several kinds is at the first kind, or at one of the others
+pub place-next : (chain : Chain) (p : Packet) (kind : Kind) (kinds : List Kind) (rules : List Rule)
+    → position_or_len (is_found chain p (kind ∷ kinds)) rules ≡ min (position_or_len (is_found_at chain p kind) rules) (position_or_len (is_found chain p kinds) rules)
+place-next chain p kind kinds rules = place-either (is_found_at chain p kind) (is_found chain p kinds) rules
 
 -- so the first that is found is the first that matches
 pub place-found : (chain : Chain) (p : Packet) (kinds : List Kind) (rules : List Rule) → p.src.family ≡ p.dst.family → HasKinds (λ k. list_any (λ kind. is_eq (kind_cmp k kind)) kinds) rules

@@ -1,9 +1,13 @@
 -- The place of the first element that passes.
 use Rattle.std.proofs.Common.{◌≡◌, ℕ, suc, ◌+◌, ◌<◌, ◌≤◌, Bool, true, false, not, cond, List, [], ◌∷◌, ◌++◌, length, Option, Some, None, refl, sym, ap, ap₂, ◌∙◌, arith}
 use Rattle.std.specs.Prelude.{◌&&◌, ◌||◌, min, is_some, unwrap_or, nat_lt, position, if◌then◌else◌}
-use Rattle.std.specs.List.{list_all, position_from, position_or_len}
+use Rattle.std.specs.List.{list_all, position_from, position_or_len, slice_get}
+use Rattle.std.specs.Option.{option_copied}
+use Rattle.std.specs.Slice.{IsItemAt}
 use Rattle.std.proofs.lemmas.Bool.{and_parts, ltb-false}
 use Rattle.std.proofs.lemmas.Iterator.Adapters.{position_from-zero}
+use Rattle.std.proofs.lemmas.Option.{slice_get_past, slice_get_read}
+use denote.Ref.{Bor}
 
 -- ---- the place, or the length where none passes
 
@@ -66,3 +70,19 @@ position-push p xs y =
     let start : 0 + length xs ≡ length xs = omega arith in
     position_from-zero p (xs ++ y ∷ []) ∙ from-push p 0 xs y
     ∙ ap₂ (λ (o : Option ℕ) (k : ℕ). if is_some o then o else if p y then Some k else None) (sym (position_from-zero p xs)) start
+
+-- ---- the least of several places
+
+-- one more is taken
+pub take-least : (first here rest whole next all most : ℕ) → first ≤ most → next ≡ min first here → whole ≡ min here rest → min first whole ≡ all → (next ≤ most) × (min next rest ≡ all)
+take-least first here rest whole next all most within taken parts least = (omega arith, omega arith)
+
+-- none is left
+pub last-least : (first whole all most : ℕ) → first ≤ most → whole ≡ most → min first whole ≡ all → first ≡ all
+last-least first whole all most within none least = omega arith
+
+-- ---- what stands at a place
+
+pub option_copied-item : {X : Type 0} (xs : List X) (i : ℕ) (r : Option (Bor X)) → IsItemAt xs i r → option_copied r ≡ slice_get xs i
+option_copied-item xs i None item = sym (slice_get_past xs i item.3)
+option_copied-item xs i (Some x) item = sym (slice_get_read xs (length xs) i x.now refl item.3.0 item.1)

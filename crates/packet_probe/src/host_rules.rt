@@ -18,7 +18,7 @@ use std::marker::Model;
 
 /// The rules of a host, filed by what they ask of a packet, so that a packet's are looked up. Contracts see the rules.
 ///
-/// The plugins make some eight kinds of rules, and one more for each length that a subnet's prefix has.
+/// The plugins make at most ten kinds of rules, and two more for each family and length of a subnet's prefix.
 #[derive(Drop)]
 pub struct Ruleset {
     rules: Items<RefCounted<Rule>>,
@@ -95,6 +95,7 @@ impl Ruleset {
     fn first_place(&self, chain: Chain, packet: &Packet) -> usize
         ensures { result ≡ position_or_len (defined.matches_in chain packet.now) self.now }
     {
+        let _family = packet.dst.family;
         let mut first = self.rules.as_slice().len();
         for kind in self.kinds.iter() {
             first = first.min(self.place_of_kind(kind, chain, packet));

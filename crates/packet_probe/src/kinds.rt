@@ -235,7 +235,9 @@ fn length_within(addr: &Addr, length: u8) -> u8
 fn start_of(network: &Cidr) -> u128
     ensures { result ≡ network_bits network.now }
 {
-    network_of(network).addr.bits
+    let first = network_of(network);
+    let start = first.addr;
+    start.bits
 }
 
 // ---- numbers
