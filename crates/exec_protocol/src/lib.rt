@@ -13,10 +13,18 @@
 //! ```
 #![tactic(auto)]
 
+mod env;
+pub mod error;
+mod members;
 pub mod raw_list;
+mod reading;
+#[cfg(test)]
+mod tests;
 pub mod types;
 pub mod writing;
 
+pub use error::RequestError;
 pub use raw_list::RawList;
+pub use reading::read_request;
 pub use types::{Chain, Env, Request, Work};
 pub use writing::{request, request_to, request_value};
