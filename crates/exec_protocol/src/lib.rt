@@ -13,12 +13,19 @@
 //! ```
 #![tactic(auto)]
 
+mod env;
 pub mod error;
 pub mod laws;
+mod members;
 pub mod raw_list;
+mod reading;
+#[cfg(test)]
+mod tests;
 pub mod types;
 pub mod writing;
 
+pub use error::RequestError;
 pub use raw_list::RawList;
+pub use reading::read_request;
 pub use types::{Chain, Env, Request, Work};
 pub use writing::{request, request_to, request_value};

@@ -1,6 +1,6 @@
 //! What a plugin is given, what it does of it, and what a list's plugins do together.
 
-use cni_addr::{Items, Text};
+use cni_addr::{Duplicate, Items, NoMemory, Text};
 use cni_result::{AddResult, PortMapping, Version};
 use kernel_types::Call;
 use net_conf::Plugin;
@@ -15,6 +15,18 @@ pub struct Env {
     pub netns: Text,
     pub ifname: Text,
     pub args: Text,
+}
+
+impl Duplicate for Env {
+    fn copy(&self) -> Result<Env, NoMemory> {
+        Ok(Env {
+            command: self.command.copy()?,
+            container: self.container.copy()?,
+            netns: self.netns.copy()?,
+            ifname: self.ifname.copy()?,
+            args: self.args.copy()?,
+        })
+    }
 }
 
 /// What a plugin is asked (CNI specification 1.1.0, section 2): its words, and what its request says. `prev` is the
