@@ -13,10 +13,16 @@
 //! ```
 #![tactic(auto)]
 
+pub mod chaining;
+pub mod laws;
 pub mod raw_list;
 pub mod types;
+pub mod working;
 pub mod writing;
 
+pub use chaining::{chain, requests_of_add};
+pub use laws::each_work_is_of_the_add;
 pub use raw_list::RawList;
 pub use types::{Chain, Env, Request, Work};
+pub use working::{chained_work, first_work, work};
 pub use writing::{request, request_to, request_value};
