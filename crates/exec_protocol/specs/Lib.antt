@@ -5,3 +5,5 @@ pub mod Raw
 pub mod Reading
 pub mod Refusals
 pub mod Request
+pub mod Work
+pub mod Works

@@ -13,6 +13,7 @@
 //! ```
 #![tactic(auto)]
 
+pub mod chaining;
 mod env;
 pub mod error;
 pub mod laws;
@@ -22,10 +23,14 @@ mod reading;
 #[cfg(test)]
 mod tests;
 pub mod types;
+pub mod working;
 pub mod writing;
 
+pub use chaining::{chain, requests_of_add};
 pub use error::RequestError;
+pub use laws::{a_raw_list_has_its_list, a_request_is_read_again, each_work_is_of_the_add};
 pub use raw_list::RawList;
 pub use reading::read_request;
 pub use types::{Chain, Env, Request, Work};
+pub use working::{chained_work, first_work, work};
 pub use writing::{request, request_to, request_value};

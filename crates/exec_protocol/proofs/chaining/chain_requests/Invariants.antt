@@ -1,0 +1,20 @@
+use Rattle.std.proofs.Common.{◌≡◌, ◌++◌, false, map}
+use Rattle.std.specs.Prelude.{All}
+use Rattle.std.specs.Iterator.Adapters.{zip_first, zip_second}
+use Rattle.std.specs.Slice.Iter.{iter_rest}
+use Rattle.serde_json.specs.View.{view}
+use Rattle.serde_json.specs.Written.{has_float}
+use Rattle.exec_protocol.proofs.Chained.{requests_left}
+use Rattle.exec_protocol.proofs.chaining.chain_requests.Given as goal
+use Rattle.exec_protocol.specs.Raw.{IsPluginObject}
+use Rattle.exec_protocol.specs.Work.{chain_requests}
+
+-- the requests so far and those to the plugins that are left are all
+abbrev pub invariant-loop-plugin : goal.invariant-loop-plugin
+invariant-loop-plugin l = record {
+  requests : map view l.requests.items
+      ++ requests_left l.list l.mappings (iter_rest (zip_first l.plugin-iterator)) (map view (iter_rest (zip_second l.plugin-iterator))) l.prev
+      ≡ chain_requests l.raw l.mappings l.initial.prev;
+  numbers : All (λ v. has_float (view v) ≡ false) l.requests.items;
+  objects : All (λ v. IsPluginObject (view v)) (iter_rest (zip_second l.plugin-iterator));
+}

@@ -1,0 +1,106 @@
+-- What a plugin makes of its request at an ADD, and the requests that all plugins of a list get, each with the result of
+-- the one before (CNI specification 1.1.0, section 3, "Adding an attachment").
+use Rattle.std.specs.Prelude.{◌≡◌, ℕ, zero, suc, ◌+◌, true, List, ◌++◌, map, take, scan, Option, Some, None, option_map, IsSome, ⊤}
+use Rattle.std.specs.List.{AllZip}
+use Rattle.serde_json.specs.Data.{Data}
+use Rattle.cni_addr.specs.declared.address.Addr.{Addr}
+use Rattle.cni_addr.specs.declared.range.RangeSet.{RangeSet}
+use Rattle.cni_result.specs.declared.cached.PortMapping.{PortMapping}
+use Rattle.cni_result.specs.declared.result.AddResult.{AddResult}
+use Rattle.cni_result.specs.declared.version.Version.{Version}
+use Rattle.ip_pool.specs.NextAddress.{is_candidate}
+use Rattle.kernel_types.specs.declared.call.Given.{Given}
+use Rattle.kernel_types.specs.declared.object.Att.{Att}
+use Rattle.net_conf.specs.declared.chained.Chained.{Chained}
+use Rattle.net_conf.specs.declared.first.First.{First}
+use Rattle.net_conf.specs.declared.list.NetList.{NetList}
+use Rattle.net_conf.specs.declared.plugin.Plugin.{Plugin}
+use Rattle.net_conf.specs.declared.plugin.Plugin.TheVariants as plugins
+use Rattle.pod_file.specs.declared.command.Command.{Command}
+use Rattle.pod_file.specs.declared.command.Verb.TheVariants as verbs
+use Rattle.host_local.specs.Conf.{range_sets_of}
+use Rattle.host_local.specs.Leases.{given_by_set, lease_calls_of}
+use Rattle.host_local.specs.Results.{ipam_result_of}
+use Rattle.cni_errors.specs.CommandFields.{add_refusal, att_of}
+use Rattle.plugin_chain.specs.Wanted.{all_chained_results, calls_after, calls_before, chained_calls, chained_result, first_plugin_result, first_result, ipam_of, sets_of}
+use Rattle.cni_verbs.specs.Mappings.{mappings_of}
+use Rattle.exec_protocol.specs.Raw.{RawView}
+use Rattle.exec_protocol.specs.Request.{request_data}
+use Rattle.exec_protocol.specs.declared.types.Request.{Request}
+use Rattle.exec_protocol.specs.declared.types.Work.{Work}
+
+-- ---- the work of one plugin
+
+-- the first plugin makes its link, leases an address of each range set, and lays on what was given
+abbrev pub first_work : First → Version → Att → List ℕ → List Given → Work
+first_work first version att netns given = record {
+  calls = calls_before first att netns
+      ++ (lease_calls_of (range_sets_of (ipam_of first)) att ++ calls_after first att netns given);
+  result = first_result first att netns (ipam_result_of (ipam_of first) given version);
+}
+
+-- a chained plugin goes on from the result of the one before
+abbrev pub chained_work : Chained → Att → List ℕ → List PortMapping → AddResult → Work
+chained_work c att netns mappings prev =
+    record { calls = chained_calls c att netns mappings prev.ips; result = chained_result c prev }
+
+-- the attachment that a request speaks of
+abbrev pub att_of_request : Request → Att
+att_of_request r = record { network = r.name; container = r.env.container; ifname = r.env.ifname }
+
+abbrev pub work_by : Request → List Given → Plugin → Option Work
+work_by r given (plugins.First first) = Some (first_work first r.version (att_of_request r) r.env.netns given)
+work_by r given (plugins.Chained c) = option_map (chained_work c (att_of_request r) r.env.netns r.mappings) r.prev
+
+-- what the plugin of a request makes of it, where these addresses are given; nothing without a result to go on from
+abbrev pub work_of : Request → List Given → Option Work
+work_of r given = work_by r given r.plugin
+
+-- a chained plugin has the result of the one before
+abbrev pub HasItsPrev : Plugin → Option AddResult → Type 0
+HasItsPrev (plugins.First first) prev = ⊤
+HasItsPrev (plugins.Chained c) prev = IsSome prev
+
+-- ---- the addresses that are given
+
+abbrev pub addresses : List Given → List Addr
+addresses given = map (λ g. g.address.addr) given
+
+-- a candidate of the set, as `host-local` gives it
+pub record IsGivenBy (set : RangeSet) (g : Given) : Type 0 where
+  pub candidate : is_candidate set g.address.addr ≡ true
+  pub given : given_by_set set g.address.addr ≡ Some g
+
+-- one of each range set of the list
+abbrev pub AreGivenFor : NetList → List Given → Type 0
+AreGivenFor list given = AllZip IsGivenBy (sets_of list) given
+
+-- ---- the plugins of an ADD
+
+-- an ADD of this network that its fields don't refuse
+pub record IsAddFor (list : NetList) (c : Command) : Type 0 where
+  pub verb : c.verb ≡ verbs.Add
+  pub network : c.network ≡ list.name
+  pub fields : add_refusal c ≡ None
+
+-- the result of the plugin in this place, where the first plugin has this one
+abbrev pub result_after : List Chained → AddResult → ℕ → AddResult
+result_after chained first k = all_chained_results (take k chained) first
+
+-- the result of the plugin before it, if there is one
+abbrev pub result_before : List Chained → AddResult → ℕ → Option AddResult
+result_before chained first zero = None
+result_before chained first (suc k) = Some (result_after chained first k)
+
+-- the request to the plugin in this place
+abbrev pub chain_request : NetList → List PortMapping → AddResult → ℕ → Data → Data
+chain_request list mappings first k d = request_data list d (result_before list.chained first k) mappings None
+
+-- the requests to all plugins, in list order
+abbrev pub chain_requests : RawView → List PortMapping → AddResult → List Data
+chain_requests raw mappings first = scan (λ k d. k + 1) (chain_request raw.list mappings first) 0 raw.objects
+
+-- those of an ADD that is leased these addresses
+abbrev pub add_requests : RawView → Command → List Addr → List Data
+add_requests raw c addrs =
+    chain_requests raw (mappings_of raw.list c) (first_plugin_result raw.list (att_of c) c.netns addrs)

@@ -1,0 +1,61 @@
+-- What the plugins of an ADD make, each of the request that it reads, is together what the ADD makes.
+use Rattle.std.specs.Prelude.{◌≡◌, ℕ, suc, List, [], ◌∷◌, ◌++◌, length, codes, flat_map, slice_get, Some, None}
+use Rattle.cni_addr.specs.declared.address.Addr.{Addr}
+use Rattle.cni_result.specs.declared.result.AddResult.{AddResult}
+use Rattle.kernel_types.specs.declared.call.Call.TheVariants.{Begin, CachePut}
+use Rattle.kernel_types.specs.declared.call.Given.{Given}
+use Rattle.net_conf.specs.Plugin.{plugins_in}
+use Rattle.net_conf.specs.declared.plugin.Plugin.{Plugin}
+use Rattle.pod_file.specs.declared.command.Command.{Command}
+use Rattle.cni_errors.specs.CommandFields.{att_of}
+use Rattle.plugin_chain.specs.Wanted.{cached_of, first_plugin_result}
+use Rattle.cni_verbs.specs.AddCalls.{calls_of_add}
+use Rattle.cni_verbs.specs.Mappings.{mappings_of}
+use Rattle.exec_protocol.specs.Raw.{IsRaw, RawView}
+use Rattle.exec_protocol.specs.Request.{mappings_for, object_at}
+use Rattle.exec_protocol.specs.Work.{AreGivenFor, IsAddFor, addresses, result_before, work_of}
+use Rattle.exec_protocol.specs.declared.types.Env.{Env}
+use Rattle.exec_protocol.specs.declared.types.Request.{Request}
+use Rattle.exec_protocol.specs.declared.types.Work.{Work}
+
+-- the words that the plugins of an ADD are called with
+abbrev pub words_of_add : Command → Env
+words_of_add c = record {
+  command = codes "ADD";
+  container = c.container;
+  netns = c.netns;
+  ifname = c.ifname;
+  args = c.args;
+}
+
+-- what the plugin in this place reads of its request, where the first plugin has this result
+abbrev pub read_of_add : RawView → Command → AddResult → ℕ → Plugin → Request
+read_of_add raw c first k plugin = record {
+  env = words_of_add c;
+  version = raw.list.version;
+  name = raw.list.name;
+  plugin = plugin;
+  prev = result_before raw.list.chained first k;
+  mappings = mappings_for (object_at raw k) (mappings_of raw.list c);
+  valid = None;
+}
+
+-- the works of all plugins: each is what its plugin makes of its request, and its result is in the next one; between
+-- the beginning and the cached result their calls are those of the ADD
+pub record AreWorksOfAdd (raw : RawView) (c : Command) (given : List Given) (works : List Work) : Type 0 where
+  pub all : length works ≡ length raw.objects
+  pub each : (k : ℕ) (plugin : Plugin) → slice_get (plugins_in raw.list.first raw.list.chained) k ≡ Some plugin
+      → work_of (read_of_add raw c (first_plugin_result raw.list (att_of c) c.netns (addresses given)) k plugin) given
+      ≡ slice_get works k
+  pub results : (k : ℕ) (work : Work) → slice_get works k ≡ Some work
+      → result_before raw.list.chained (first_plugin_result raw.list (att_of c) c.netns (addresses given)) (suc k)
+      ≡ Some work.result
+  pub calls : Begin (att_of c) c.netns
+      ∷ (flat_map (λ work. work.calls) works
+      ++ CachePut (att_of c) (cached_of raw.list (att_of c) c.netns (mappings_of raw.list c) (addresses given)) ∷ [])
+      ≡ calls_of_add raw.list c (addresses given)
+
+-- there are such works of every ADD
+abbrev pub EachWorkIsOfTheAdd : Type 0
+EachWorkIsOfTheAdd = (raw : RawView) (c : Command) (given : List Given) → IsRaw raw → IsAddFor raw.list c
+    → AreGivenFor raw.list given → (works : List Work) × AreWorksOfAdd raw c given works
