@@ -1,3 +1,4 @@
 mod Rounds
+mod Telling
 mod Whole
 mod WithoutHost

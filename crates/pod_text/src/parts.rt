@@ -181,7 +181,8 @@ fn push_parts<K: Kernel + Drop>(
     push_requests_asked(alloc, book, asked, lines)?;
     push_trace(alloc, book, asked.trace, lines)?;
     push_host(alloc, host, asked.dump, lines)?;
-    push_fates(alloc, host, asked.packets.as_slice(), lines)
+    push_fates(alloc, host, asked.packets.as_slice(), lines)?;
+    Ok(())
 }
 
 /// Appends each part, where none tells of the host.
@@ -196,7 +197,8 @@ fn push_without_host<K: Kernel + Drop>(
 {
     push_commands(alloc, book, lines)?;
     push_requests_asked(alloc, book, asked, lines)?;
-    push_trace(alloc, book, asked.trace, lines)
+    push_trace(alloc, book, asked.trace, lines)?;
+    Ok(())
 }
 
 /// Appends each part, by one copy of the book's host where some part tells of it.

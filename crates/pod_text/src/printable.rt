@@ -1,8 +1,10 @@
 //! JSON that can be printed as a line.
 
-ghost use Rattle.std.specs.Prelude.{◌≡◌, ◌++◌, IfOk, OnOk};
+ghost use Rattle.std.specs.Prelude.{◌≡◌, ◌++◌, false, map, All, IfOk, OnOk};
 ghost use Rattle.std.specs.List.{flat_map};
 ghost use Rattle.cni_json.specs.Json.{line_of};
+ghost use Rattle.serde_json.specs.View.{view as data_of};
+ghost use Rattle.serde_json.specs.Written.{has_float};
 
 use cni_addr::NoMemory;
 use kernel_text::push_line;
@@ -21,8 +23,11 @@ impl Model for Printable {
     ghost use Rattle.serde_json.specs.Data.{Data};
     ghost use Rattle.serde_json.specs.View.{view as data_of};
     ghost use Rattle.serde_json.specs.Written.{has_float};
+    ghost use Rattle.exec_protocol.specs.DataCode.{data_code};
 
     ghost Value = { Data };
+
+    ghost coded = { data_code };
 
     ghost view = { λ p. data_of p.value };
 

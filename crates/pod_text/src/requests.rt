@@ -91,5 +91,12 @@ pub(crate) fn push_requests<K: Kernel + Drop>(
     ensures { OnOk result (lines.new.items ≡ lines.old.items ++ all_requests raws.now book.now) }
 {
     let told = told_in(alloc, book.history())?;
-    push_rounds(alloc, book, raws, &told, book.plan().pods.rounds.as_slice(), lines)
+    push_rounds(
+        alloc,
+        book,
+        raws,
+        &told,
+        book.plan().pods.rounds.as_slice(),
+        lines,
+    )
 }
