@@ -1,3 +1,4 @@
+mod Objects
 mod Rounds
 mod Telling
 mod Whole

@@ -35,10 +35,6 @@ impl Model for Printable {
 }
 
 impl Printable {
-    ghost use Rattle.std.specs.Prelude.{◌≡◌, false};
-    ghost use Rattle.serde_json.specs.View.{view as data_of};
-    ghost use Rattle.serde_json.specs.Written.{has_float};
-
     /// Takes no memory.
     pub(crate) fn new(value: Value) -> Printable
         requires { has_float (data_of value) ≡ false }
