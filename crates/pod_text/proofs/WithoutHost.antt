@@ -1,6 +1,7 @@
 -- A text no part of which tells of the host.
-use Rattle.std.proofs.Common.{◌≡◌, ◌∙◌, ◌++◌, ◌||◌, List, [], ◌∷◌, ℕ, append-nil, Bool, true, false, not, length}
+use Rattle.std.proofs.Common.{◌≡◌, ◌∙◌, ◌++◌, ◌||◌, List, [], ◌∷◌, ℕ, append-nil, arith, Bool, true, false, not, length}
 use Rattle.std.specs.Prelude.{◌==◌}
+use Rattle.std.proofs.lemmas.Bool.Decides.{nat_tests}
 use Rattle.kernel_text.specs.Dump.{dump_of}
 use Rattle.kernel_types.specs.declared.rule.Rule.{Rule}
 use Rattle.packet_probe.specs.Value.{PacketValue}
@@ -11,12 +12,15 @@ use Rattle.pod_text.specs.declared.asked.CommandPart.{CommandPart}
 use Rattle.pod_text.specs.declared.asked.CommandPart.TheVariants.{Lines, Summary}
 use Rattle.pod_workers.specs.World.{World, host_of}
 
+no_packets : {X : Type 0} (p : X) (packets : List X) → not (length (p ∷ packets) == 0) ≡ false → ⊥
+no_packets p packets none = grind (arith, nat_tests)
+
 parts : (w : World) (part : CommandPart) (requests trace dump : List ℕ) (b : Bool) (rules : List Rule) (packets : List PacketValue)
     → (b || is_summary part || not (length packets == 0)) ≡ false
     → command_part part w ++ requests ++ trace ++ where_asked b dump ++ fates_from 0 rules packets ≡ command_lines w ++ requests ++ trace
 parts w Lines requests trace dump false rules [] none =
     append-nil (command_lines w ++ requests ++ trace ++ []) ∙ append-nil (command_lines w ++ requests ++ trace)
-parts w Lines requests trace dump false rules (p ∷ packets) none = cc
+parts w Lines requests trace dump false rules (p ∷ packets) none = absurd (no_packets p packets none)
 parts w Lines requests trace dump true rules packets none = cc
 parts w Summary requests trace dump false rules packets none = cc
 parts w Summary requests trace dump true rules packets none = cc
