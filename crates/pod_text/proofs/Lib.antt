@@ -1,3 +1,5 @@
+mod Objects
 mod Rounds
+mod Telling
 mod Whole
 mod WithoutHost

@@ -6,9 +6,7 @@ use Rattle.std.proofs.lemmas.List.Concat.{flat_map-cons}
 use Rattle.std.proofs.lemmas.List.Folds.{flat_map-map}
 use Rattle.pod_file.specs.declared.command.Command.{Command}
 use Rattle.pod_workers.specs.Plans.{Placed, in_round, placed_from, commands_of}
-use Rattle.pod_workers.specs.World.{World}
 use Rattle.pod_workers.specs.declared.plan.Plan.{Plan}
-use Rattle.pod_text.specs.Lines.{command_line, command_lines}
 
 lines_of_rounds : (f : Command → List ℕ) (round : ℕ) (rounds : List (List Command)) → flat_map (λ (c : Placed). f c.command) (placed_from round rounds) ≡ flat_map (flat_map f) rounds
 lines_of_rounds f round [] = refl
@@ -19,7 +17,8 @@ lines_of_rounds f round (cs ∷ rounds) =
     ∙ ap (λ l. flat_map f cs ++ l) (lines_of_rounds f (round + 1) rounds)
     ∙ sym (flat_map-cons (flat_map f) cs rounds)
 
-pub lines_of_commands : (w : World) (p : Plan) (rounds : List (List Command)) → rounds ≡ p.pods.rounds → p ≡ w.plan → flat_map (flat_map (command_line w)) rounds ≡ command_lines w
+pub lines_of_commands : (f : Command → List ℕ) (p q : Plan) (rounds : List (List Command)) → rounds ≡ p.pods.rounds → p ≡ q
+    → flat_map (flat_map f) rounds ≡ flat_map (λ (c : Placed). f c.command) (commands_of q)
 unfolding commands_of
-lines_of_commands w p rounds is same =
-    ap (flat_map (flat_map (command_line w))) (is ∙ ap (λ (q : Plan). q.pods.rounds) same) ∙ sym (lines_of_rounds (command_line w) 0 w.plan.pods.rounds)
+lines_of_commands f p q rounds is same =
+    ap (flat_map (flat_map f)) (is ∙ ap (λ (r : Plan). r.pods.rounds) same) ∙ sym (lines_of_rounds f 0 q.pods.rounds)

@@ -1,6 +1,7 @@
--- Each line that is printed of a command, and that of the numbers, has no number outside u64 and i64.
-use Rattle.std.proofs.Common.{◌≡◌, false, refl}
-use Rattle.serde_json.specs.Data.{Members}
+-- Each line that is printed but those of the history and the host has no number outside u64 and i64. Those of a request
+-- have none where the request has none.
+use Rattle.std.proofs.Common.{◌≡◌, ℕ, List, false, refl}
+use Rattle.serde_json.specs.Data.{Data, Members}
 use Rattle.serde_json.specs.Written.{has_float, members_have_float}
 use Rattle.cni_json.proofs.Building.{members_have_float-put}
 use Rattle.cni_result.proofs.ResultLemmas.{result_is_whole, error_is_whole}
@@ -10,7 +11,10 @@ use Rattle.cni_errors.specs.declared.answer.Answer.{Answer}
 use Rattle.cni_errors.specs.declared.answer.Answer.TheVariants.{Added, Yes, Skipped, Versions, Refused, OutOfMemory, Stopped}
 use Rattle.pod_file.specs.declared.command.Command.{Command}
 use Rattle.cni_errors.specs.ErrorKinds.{memory_error}
+use Rattle.packet_probe.specs.declared.packet.Fate.{Fate}
+use Rattle.pod_text.specs.Fates.{fate_data}
 use Rattle.pod_text.specs.Lines.{versions_data, put_answer, answer_data}
+use Rattle.pod_text.specs.Requests.{env_data, network_env_data, request_line}
 use Rattle.pod_text.specs.Summary.{summary_data}
 use Rattle.pod_workers.specs.World.{World}
 
@@ -34,3 +38,19 @@ answer_is_whole command answer = search (puts_are_whole, put_answer_is_whole) de
 pub summary_is_whole : (w : World) → has_float (summary_data w) ≡ false
 unfolding summary_data
 summary_is_whole w = search (puts_are_whole) depth 6
+
+pub env_is_whole : (netns : List ℕ) (command : Command) → has_float (env_data netns command) ≡ false
+unfolding env_data
+env_is_whole netns command = refl
+
+pub network_env_is_whole : (command : Command) → has_float (network_env_data command) ≡ false
+unfolding network_env_data
+network_env_is_whole command = refl
+
+pub request_line_is_whole : (env : Data) (command : Command) (place : ℕ) (request : Data) → has_float env ≡ false → has_float request ≡ false → has_float (request_line env command place request) ≡ false
+unfolding request_line
+request_line_is_whole env command place request env_whole request_whole = search (members_have_float-put, env_whole, request_whole) depth 8
+
+pub fate_is_whole : (place : ℕ) (fate : Fate) → has_float (fate_data place fate) ≡ false
+unfolding fate_data
+fate_is_whole place fate = refl

@@ -3,8 +3,8 @@ use Rattle.std.specs.Prelude.{ℕ, ◌+◌, List, [], ◌∷◌, ◌++◌, codes
 use Rattle.serde_json.specs.Data.{Data, boolean, object, no_members, put}
 use Rattle.cni_json.specs.Json.{line_of}
 use Rattle.cni_json.specs.Members.{addr_data, number_data, ◌▷◌}
-use Rattle.kernel_types.specs.declared.object.Host.{Host}
-use Rattle.packet_probe.specs.Fate.{fate_of}
+use Rattle.kernel_types.specs.declared.rule.Rule.{Rule}
+use Rattle.packet_probe.specs.Fate.{fate_by}
 use Rattle.packet_probe.specs.Value.{PacketValue}
 use Rattle.packet_probe.specs.declared.packet.Fate.{Fate}
 
@@ -18,11 +18,7 @@ fate_data place fate = object (no_members
     ▷ put (codes "packet") (number_data place)
     ▷ put (codes "rewritten") (boolean fate.rewritten))
 
--- the line of the packet at this place
-abbrev pub fate_line : ℕ → Host → PacketValue → List ℕ
-fate_line place host p = line_of (fate_data place (fate_of host p))
-
--- the lines of these packets, the first of which is at this place
-abbrev pub fates_from : ℕ → Host → List PacketValue → List ℕ
-fates_from place host [] = []
-fates_from place host (p ∷ ps) = fate_line place host p ++ fates_from (place + 1) host ps
+-- the lines of these packets by the rules, the first of which is at this place
+abbrev pub fates_from : ℕ → List Rule → List PacketValue → List ℕ
+fates_from place rules [] = []
+fates_from place rules (p ∷ ps) = line_of (fate_data place (fate_by rules p)) ++ fates_from (place + 1) rules ps

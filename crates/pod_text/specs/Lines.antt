@@ -119,4 +119,4 @@ text_of w asked =
     ++ requests_asked asked.requests w
     ++ where_asked asked.trace (trace_lines w)
     ++ where_asked asked.dump (dump_of (host_of w))
-    ++ fates_from 0 (host_of w) asked.packets
+    ++ fates_from 0 (host_of w).rules asked.packets

@@ -4,10 +4,12 @@ ghost use Rattle.std.specs.Prelude.{◌≡◌, ◌++◌, false, OnOk, IfOk};
 ghost use Rattle.std.specs.List.{flat_map};
 ghost use Rattle.kernel_text.specs.Dump.{dump_of};
 ghost use Rattle.pod_workers.specs.World.{host_of};
-ghost use Rattle.pod_text.specs.Lines.{command_line, command_lines, command_part, entry_line, trace_from, trace_lines, where_asked, is_summary, shows_host, text_of};
+ghost use Rattle.pod_text.specs.Lines.{command_line, command_lines, command_part, entry_line, trace_from, trace_lines, where_asked, requests_asked, is_summary, shows_host, text_of};
 
 use crate::answers::answer_value;
 use crate::asked::{Asked, CommandPart};
+use crate::fates::push_fates;
+use crate::requests::push_requests;
 use crate::summary::push_summary;
 use cni_addr::{Items, NoMemory};
 use kernel_model::{Host, Kernel};
@@ -123,6 +125,21 @@ fn push_trace<K: Kernel + Drop>(
     push_entries(alloc, book.history(), lines)
 }
 
+fn push_requests_asked<K: Kernel + Drop>(
+    alloc: Global,
+    book: &Book<K>,
+    asked: &Asked,
+    lines: &mut Vec<u8>,
+) -> Result<(), NoMemory>
+    ensures { OnOk result
+        (lines.new.items ≡ lines.old.items ++ requests_asked asked.now.requests book.now) }
+{
+    match &asked.requests {
+        Some(raws) => push_requests(alloc, book, raws.as_slice(), lines),
+        None => Ok(()),
+    }
+}
+
 fn push_host(alloc: Global, host: &Host, asked: bool, lines: &mut Vec<u8>) -> Result<(), NoMemory>
     ensures { OnOk result (lines.new.items ≡ lines.old.items ++ where_asked asked (dump_of host.now)) }
 {
@@ -136,7 +153,7 @@ fn push_host(alloc: Global, host: &Host, asked: bool, lines: &mut Vec<u8>) -> Re
 fn shows_host(asked: &Asked) -> bool
     ensures { result ≡ shows_host asked.now }
 {
-    asked.dump || is_summary(asked.commands)
+    asked.dump || is_summary(asked.commands) || !asked.packets.as_slice().is_empty()
 }
 
 fn is_summary(part: CommandPart) -> bool
@@ -161,8 +178,10 @@ fn push_parts<K: Kernel + Drop>(
     ensures { OnOk result (lines.new.items ≡ lines.old.items ++ text_of book.now asked.now) }
 {
     push_command_part(alloc, book, host, asked.commands, lines)?;
+    push_requests_asked(alloc, book, asked, lines)?;
     push_trace(alloc, book, asked.trace, lines)?;
     push_host(alloc, host, asked.dump, lines)?;
+    push_fates(alloc, host, asked.packets.as_slice(), lines)?;
     Ok(())
 }
 
@@ -177,6 +196,7 @@ fn push_without_host<K: Kernel + Drop>(
     ensures { OnOk result (lines.new.items ≡ lines.old.items ++ text_of book.now asked.now) }
 {
     push_commands(alloc, book, lines)?;
+    push_requests_asked(alloc, book, asked, lines)?;
     push_trace(alloc, book, asked.trace, lines)?;
     Ok(())
 }
@@ -197,9 +217,11 @@ fn push_text<K: Kernel + Drop>(
     push_parts(alloc, book, &host, asked, lines)
 }
 
-/// The text of the book: of the commands what is asked for; with `trace` a line for each call of the history; with
-/// `dump` a line for each object of the host. Memory that is refused leaves nothing. It takes time and memory in
-/// proportion to the text and the plan, and one copy of the host besides where the summary or `dump` is asked for.
+/// The text of the book: of the commands what is asked for; with `requests` a line for each request that a command
+/// which was done made of a plugin; with `trace` a line for each call of the history; with `dump` a line for each
+/// object of the host; and a line for each packet. Memory that is refused leaves nothing. It takes time and memory in
+/// proportion to the text, the plan and, where requests are asked for, the history, and one copy of the host besides
+/// where the summary, `dump` or packets are asked for.
 pub fn text<K: Kernel + Drop>(
     alloc: Global,
     book: &Book<K>,
