@@ -116,11 +116,13 @@ all-calls raw c given are =
     ∙ works-calls_of_add raw.list c given are
 
 pub each_work_is_of_the_add : EachWorkIsOfTheAdd
-each_work_is_of_the_add raw c given is add are =
-    (works_of raw c given, record {
-      all = ap suc (length-works raw.list.chained (att_of c) c.netns (mappings_of raw.list c) (first_plugin_result raw.list (att_of c) c.netns (addresses given)))
-          ∙ sym (length-objects raw is);
-      each = λ k plugin at. each-work raw c given k plugin is add at;
-      results = λ k work at. each-result raw c given k work are at;
-      calls = all-calls raw c given are;
-    })
+each_work_is_of_the_add raw c given is add are = (
+  works_of raw c given,
+  record {
+    all = ap suc (length-works raw.list.chained (att_of c) c.netns (mappings_of raw.list c) (first_plugin_result raw.list (att_of c) c.netns (addresses given)))
+        ∙ sym (length-objects raw is);
+    each = λ k plugin at. each-work raw c given k plugin is add at;
+    results = λ k work at. each-result raw c given k work are at;
+    calls = all-calls raw c given are;
+  },
+)

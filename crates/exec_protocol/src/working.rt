@@ -106,7 +106,14 @@ fn work_of_first(
         (defined.att_of_request request.now) request.now.env.netns given.now) }
 {
     let att = NamedAtt::of(alloc, att_of(request)?)?;
-    first_work(alloc, first, request.version, &att, &request.env.netns, given)
+    first_work(
+        alloc,
+        first,
+        request.version,
+        &att,
+        &request.env.netns,
+        given,
+    )
 }
 
 fn work_of_chained(
