@@ -6,7 +6,7 @@
     verb      the command; a plugin's result is of `ADD PLUGIN`
     model, real   the values, as text
     plugins   the version of the plugins; scenario: the name of the recording
-    row       where docs/COMPATIBILITY.md tells it
+    row       where docs/COMPATIBILITY.md tells it, as `SECTION: SUBJECT`
     right     who is right by the CNI specification and the kernel: model, real or either
     why       in a sentence
     chance    true where it doesn't come each time
@@ -19,10 +19,20 @@ import pathlib
 import re
 
 PATH = pathlib.Path(__file__).resolve().parent / "differences.json"
+PAGE = PATH.parent.parent.parent / "docs/COMPATIBILITY.md"
 
 
 def read_differences():
     return json.loads(PATH.read_text(encoding="utf-8"))
+
+
+def untold(table):
+    """The entries whose row docs/COMPATIBILITY.md lacks."""
+    sections = dict(it.partition("\n")[::2] for it in PAGE.read_text(encoding="utf-8").split("\n## ")[1:])
+    for it in table:
+        section, _, subject = it["row"].partition(": ")
+        if f"\n| {subject} |" not in sections.get(section, ""):
+            yield f"{it['id']}: no row {it['row']}"
 
 
 def fits(wanted, text):
