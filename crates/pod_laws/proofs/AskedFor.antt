@@ -1,4 +1,5 @@
 -- That an attachment has only what an ADD of it asked for.
+pub mod CachedResults
 pub mod MadeLinks
 pub mod Moments
 pub mod Quiet

@@ -17,6 +17,7 @@ use Rattle.pod_workers.proofs.Prefixes.{each_prefix}
 use Rattle.pod_workers.proofs.Listed.{listed_network}
 use Rattle.pod_workers.proofs.Sound.{no_address_twice, sound_host}
 use Rattle.pod_laws.specs.Answers.{is_cut_off}
+use Rattle.pod_laws.specs.CachedResults.{EachCachedResultIsItsAdds}
 use Rattle.pod_laws.specs.Collected.{IsAnswerOfGc}
 use Rattle.pod_laws.specs.Guaranteed.{AreAnswers, EveryLegalHistoryIsGuaranteed, IsAnswerOfAdd, IsAnswerOfCheck, IsAnswerOfDel, IsWellKept}
 use Rattle.pod_laws.proofs.AskedFor.Moments.{nothing_is_unasked}
@@ -30,19 +31,20 @@ use Rattle.pod_laws.proofs.AskedFor.MadeLinks.{links_are_made_or_wanted}
 
 -- ---- moments
 
-well_kept : (w : World) → Legal w → IsWellKept w.plan w.history
-well_kept w legal = record {
+well_kept : EachCachedResultIsItsAdds → (w : World) → Legal w → IsWellKept w.plan w.history
+well_kept results w legal = record {
   sound = sound_host w legal;
   leased_once = no_address_twice w legal;
   asked_for = nothing_is_unasked w legal;
   links = links_are_made_or_wanted w legal;
+  results = results w legal;
   lasts = each_last_is_candidate w legal;
 }
 
-always_well_kept : (w : World) → Legal w → (before rest : List Entry) → w.history ≡ before ++ rest → IsWellKept w.plan before
-always_well_kept w legal before rest at =
+always_well_kept : EachCachedResultIsItsAdds → (w : World) → Legal w → (before rest : List Entry) → w.history ≡ before ++ rest → IsWellKept w.plan before
+always_well_kept results w legal before rest at =
     let f = each_prefix w legal before rest at in
-    subst (λ (p : Plan). IsWellKept p before) f.plan_is (subst (IsWellKept f.world.plan) f.history_is (well_kept f.world f.legal))
+    subst (λ (p : Plan). IsWellKept p before) f.plan_is (subst (IsWellKept f.world.plan) f.history_is (well_kept results f.world f.legal))
 
 -- ---- answers
 
@@ -88,9 +90,9 @@ answer_of_gc w legal n c list a i = collections_are_answered w legal n c a i.the
 
 -- ---- the guarantee
 
-pub every_legal_history_is_guaranteed : EveryLegalHistoryIsGuaranteed
-every_legal_history_is_guaranteed w legal = record {
-  moments = always_well_kept w legal;
+pub every_legal_history_is_guaranteed : EachCachedResultIsItsAdds → EveryLegalHistoryIsGuaranteed
+every_legal_history_is_guaranteed results w legal = record {
+  moments = always_well_kept results w legal;
   adds = are_answers w legal verbs.Add refl (IsAnswerOfAdd w) (answer_of_add w legal);
   dels = are_answers w legal verbs.Del refl (IsAnswerOfDel w) (answer_of_del w legal);
   repeats = repeated_deletions_leave w legal;

@@ -1,3 +1,4 @@
+pub mod Parts
 mod Added
 mod Apart
 mod AskedFor

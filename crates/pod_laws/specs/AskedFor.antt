@@ -1,14 +1,17 @@
 -- Each object that an attachment has is one that an ADD of it asked for.
-use Rattle.std.specs.Prelude.{◌≡◌, ℕ, ◌+◌, ◌⊎◌, Bool, true, false, ◌&&◌, List, [], ◌∷◌, ◌++◌, Option, Some, None, slice_get, if◌then◌else◌}
+use Rattle.std.specs.Prelude.{◌≡◌, ◌≢◌, ℕ, ◌+◌, ◌⊎◌, Bool, true, false, ◌&&◌, List, [], ◌∷◌, ◌++◌, Option, Some, None, slice_get, if◌then◌else◌}
 use Rattle.std.specs.List.{AllByRecursion}
 use Rattle.std.specs.Option.{option_or}
 use Rattle.cni_addr.specs.declared.address.Addr.{Addr}
+use Rattle.cni_addr.specs.declared.range.RangeSet.{RangeSet}
 use Rattle.cni_verbs.specs.AddCalls.{is_done}
 use Rattle.cni_errors.specs.CommandFields.{att_of}
 use Rattle.cni_verbs.specs.Mappings.{mappings_of}
 use Rattle.cni_verbs.specs.Script.{leases_in}
-use Rattle.plugin_chain.specs.Wanted.{back_calls, sets_links, links_made, wanted}
+use Rattle.plugin_chain.specs.Wanted.{back_calls, sets_links, sets_of, links_made, wanted}
+use Rattle.host_local.specs.Laws.{AreCandidates}
 use Rattle.kernel_types.specs.Equal.{att_eq}
+use Rattle.kernel_types.specs.Touch.{DropsOnly}
 use Rattle.cni_addr.specs.Lists.{IsAmong}
 use Rattle.kernel_types.specs.declared.object.Att.{Att}
 use Rattle.kernel_types.specs.declared.object.Link.{Link}
@@ -31,6 +34,10 @@ use Rattle.pod_laws.specs.Moments.{IsGone, objects_after}
 -- each of the first list is in the second
 abbrev pub AreAmong : {X : Type 0} → List X → List X → Type 0
 AreAmong xs all = AllByRecursion (λ x. IsAmong x all) xs
+
+-- the first list is what is left of the second, in its order
+abbrev pub IsPart : {X : Type 0} → List X → List X → Type 0
+IsPart part all = DropsOnly (λ x. true) all part
 
 -- ---- the last ADD that began
 
@@ -61,18 +68,26 @@ pub record AreLinksOf (list : NetList) (c : Command) (given : List Addr) (links 
   pub part : back_calls list (att_of c) c.netns (mappings_of list c) given ≡ made ++ left
   pub among : AreAmong links (links_after_part list c made)
 
--- each object is one that the command asks for, where these addresses were leased
+-- each object is one that the command asks for, where these addresses were leased; but for the links they stand in the
+-- order in which it asks for them
 pub record AreAskedFor (list : NetList) (c : Command) (given : List Addr) (objects : Share) : Type 0 where
   pub links : AreLinksOf list c given objects.links
-  pub addresses : AreAmong objects.addresses (wanted list (att_of c) c.netns (mappings_of list c) given).addresses
-  pub routes : AreAmong objects.routes (wanted list (att_of c) c.netns (mappings_of list c) given).routes
-  pub rules : AreAmong objects.rules (wanted list (att_of c) c.netns (mappings_of list c) given).rules
-  pub settings : AreAmong objects.settings (wanted list (att_of c) c.netns (mappings_of list c) given).settings
-  pub leases : AreAmong objects.leases (wanted list (att_of c) c.netns (mappings_of list c) given).leases
-  pub cached : AreAmong objects.cached (wanted list (att_of c) c.netns (mappings_of list c) given).cached
+  pub addresses : IsPart objects.addresses (wanted list (att_of c) c.netns (mappings_of list c) given).addresses
+  pub routes : IsPart objects.routes (wanted list (att_of c) c.netns (mappings_of list c) given).routes
+  pub rules : IsPart objects.rules (wanted list (att_of c) c.netns (mappings_of list c) given).rules
+  pub settings : IsPart objects.settings (wanted list (att_of c) c.netns (mappings_of list c) given).settings
+  pub leases : IsPart objects.leases (wanted list (att_of c) c.netns (mappings_of list c) given).leases
+  pub cached : IsPart objects.cached (wanted list (att_of c) c.netns (mappings_of list c) given).cached
+
+-- the addresses are candidates of the first of these sets, one each
+pub record AreCandidatesSoFar (sets : List RangeSet) (addrs : List Addr) : Type 0 where
+  pub past : List RangeSet
+  pub left : List RangeSet
+  pub are : sets ≡ past ++ left
+  pub candidates : AreCandidates past addrs
 
 -- the last ADD of the attachment whose Begin was done asks for all that the attachment has, with the addresses leased
--- to it so far
+-- to it so far; where there is a cached result it was leased one of every set
 pub record IsAskedFor (p : Plan) (h : List Entry) (att : Att) : Type 0 where
   pub place : ℕ
   pub by : Placed
@@ -82,6 +97,8 @@ pub record IsAskedFor (p : Plan) (h : List Entry) (att : Att) : Type 0 where
   pub verb : by.command.verb ≡ verbs.Add
   pub attachment : att_of by.command ≡ att
   pub last : last_begun att h ≡ Some (place + 1)
+  pub so_far : AreCandidatesSoFar (sets_of list) (leases_in (replies_of place h))
+  pub all_leased : (objects_after p att h).cached ≢ [] → AreCandidates (sets_of list) (leases_in (replies_of place h))
   pub objects : AreAskedFor list by.command (leases_in (replies_of place h)) (objects_after p att h)
 
 abbrev pub HasNothingUnasked : Plan → List Entry → Att → Type 0

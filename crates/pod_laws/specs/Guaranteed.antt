@@ -20,6 +20,7 @@ use Rattle.pod_workers.specs.declared.plan.Plan.{Plan}
 use Rattle.pod_laws.specs.Added.{HasMade}
 use Rattle.pod_laws.specs.Answers.{EachAnswerIn, HoldsOfItsList, OrCutOff, TellsCause, is_cut_off}
 use Rattle.pod_laws.specs.AskedFor.{EachHasLinksMadeOrWanted, HasNothingUnasked}
+use Rattle.pod_laws.specs.CachedResults.{EachHasResultOfItsAdd}
 use Rattle.pod_laws.specs.Checked.{EndsCheck, HoldsFromItsStart}
 use Rattle.pod_laws.specs.Collected.{IsAnswerOfGc, IsBoundedCollection}
 use Rattle.pod_laws.specs.Deleted.{HasDeleted, IsUndeletedFor}
@@ -30,13 +31,14 @@ use Rattle.pod_laws.specs.Repeated.{RepeatsLeave}
 -- ---- one moment
 
 -- After these entries the host is sound, and no network has an address leased twice. Each attachment has nothing, or
--- only what its last ADD that began asks for, its links all as they were made or all as they are wanted. Each address
--- that a pool leased last is a candidate of its set.
+-- only what its last ADD that began asks for, its links all as they were made or all as they are wanted; and what is
+-- cached of it is the result of that ADD. Each address that a pool leased last is a candidate of its set.
 pub record IsWellKept (p : Plan) (h : List Entry) : Type 0 where
   pub sound : IsSound (after p.pods.opening h)
   pub leased_once : (network : List ℕ) → NoAddressTwice network (after p.pods.opening h)
   pub asked_for : (att : Att) → HasNothingUnasked p h att
   pub links : EachHasLinksMadeOrWanted p h
+  pub results : EachHasResultOfItsAdd p h
   pub lasts : AreLastsOfSets p (after p.pods.opening h).lasts
 
 -- ---- one answer, of the command c at place n, with the list of its network

@@ -4,6 +4,7 @@ pub mod Apart
 pub mod AskedFor
 pub mod Available
 pub mod Bounded
+pub mod CachedResults
 pub mod Changed
 pub mod Checked
 pub mod Collected

@@ -8,6 +8,7 @@ ghost use Rattle.pod_laws.specs.Apart.{EachCollectionTakesTheStaleAlone, EachEnt
 ghost use Rattle.pod_laws.specs.AskedFor.{EachLinkIsWanted, LinksAreMadeOrWanted, NothingIsUnasked};
 ghost use Rattle.pod_laws.specs.Available.{WasAvailable};
 ghost use Rattle.pod_laws.specs.Bounded.{EachAddHasMost, EachChangeIsOneCall, EachRunIsBounded};
+ghost use Rattle.pod_laws.specs.CachedResults.{EachCachedResultIsItsAdds};
 ghost use Rattle.pod_laws.specs.Changed.{ChangesAreAnswered, VersionsAreTheLists};
 ghost use Rattle.pod_laws.specs.Checked.{ChecksHoldFromTheirStart, WasChecked};
 ghost use Rattle.pod_laws.specs.Collected.{CollectionsAreAnswered, CollectionsAreBounded, CollectionsAreShort, CollectionsFillTheirRounds, CollectionsInARowKeep};
@@ -17,6 +18,8 @@ ghost use Rattle.pod_laws.specs.Guaranteed.{EveryLegalHistoryIsGuaranteed};
 ghost use Rattle.pod_laws.specs.Lasts.{EachLastIsCandidate};
 ghost use Rattle.pod_laws.specs.Refused.{AnswersOfAdd, BeginLeavesTheHost, UnrefusedIsAdded, WasRefused};
 ghost use Rattle.pod_laws.specs.Repeated.{GoneStaysGone, RepeatedDeletionsLeave};
+
+use host_local::laws::candidates_are_given;
 
 // ---- ADD
 
@@ -120,10 +123,19 @@ pub fn a_second_collection_finishes_the_first()
 // ---- every moment
 
 /// At every moment an attachment has nothing, or all that it has is asked for by one ADD: the last one of the
-/// attachment whose Begin was done, with the addresses that it was leased so far.
+/// attachment whose Begin was done, with the addresses that it was leased so far. But for its links it has, list by
+/// list, a part of what is asked for, in that order.
 pub fn nothing_is_unasked()
     ensures { NothingIsUnasked }
 {}
+
+/// At every moment what is cached of an attachment is what that ADD caches by its list, its namespace, its port
+/// mappings and the addresses that it was leased: one candidate a range set. These are the cached result's, in order.
+pub fn each_cached_result_is_its_adds()
+    ensures { EachCachedResultIsItsAdds }
+{
+    candidates_are_given();
+}
 
 /// An attachment that has nothing at some moment has nothing until a call of an ADD of that attachment is granted after
 /// its Begin, whatever other commands and changes from outside do.
@@ -244,4 +256,6 @@ pub fn a_check_holds_from_its_start()
 /// The guarantee of every legal history, sentence by sentence: `IsGuaranteed`.
 pub fn every_legal_history_is_guaranteed()
     ensures { EveryLegalHistoryIsGuaranteed }
-{}
+{
+    each_cached_result_is_its_adds();
+}

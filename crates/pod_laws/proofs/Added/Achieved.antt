@@ -194,7 +194,7 @@ pub leases-one : (att : Att) (number : ℕ) (set : RangeSet) (k : Host) (n : ℕ
     → share_of att (after_entry k (entry_of k n (LeaseNext att number set) faulty)) ≡ record (share_of att k) { leases = (share_of att k).leases ++ lease_of att a ∷ [] }
 leases-one att number set k n faulty a h = let d = made_host k n (LeaseNext att number set) faulty (Leased a) (λ e. cc) h in ap (share_of att) d.0 ∙ share-lease att k number set a d.1
 
-lease-fits : (k : Host) (att : Att) (place : ℕ) (set : RangeSet) (faulty : Bool) (a : Addr) → reply_to k (LeaseNext att place set) faulty ≡ Leased a → is_candidate set a ≡ true
+pub lease-fits : (k : Host) (att : Att) (place : ℕ) (set : RangeSet) (faulty : Bool) (a : Addr) → reply_to k (LeaseNext att place set) faulty ≡ Leased a → is_candidate set a ≡ true
 lease-fits k att place set true a h = cc
 lease-fits k att place set false a h = leased-candidate k att place set a h
 

@@ -29,6 +29,7 @@ use Rattle.cni_verbs.specs.Script.{before_of, back_of}
 use Rattle.plugin_chain.specs.Wanted.{bridge_of, calls_before, links_made}
 use Rattle.pod_laws.specs.Apart.{GrowsAtEnd}
 use Rattle.pod_laws.specs.AskedFor.{AreAmong, links_after_part, AreLinksOf, AreAskedFor}
+use Rattle.pod_laws.proofs.Parts.{part-left, part-prefix}
 use Rattle.pod_laws.proofs.Added.Achieved.{with_leases, wanted_by, no_leases}
 use Rattle.gc_sweep.specs.Keep.{OnlyRemoves}
 use Rattle.plugin_chain.proofs.PluginLaws.{first_laws}
@@ -121,6 +122,17 @@ prefix-part s t all made left is makes =
     let whole : share_after_calls (share_after_calls s made) left ≡ t = sym (share_after_calls-append s made left) ∙ ap (share_after_calls s) (sym is) ∙ makes in
     subst (IsPrefix (share_after_calls s made)) whole (prefix-calls (share_after_calls s made) left)
 
+-- nothing is cached before the last lease
+
+front-none : {X : Type 0} (xs ys : List X) → [] ≡ xs ++ ys → xs ≡ []
+front-none [] ys e = refl
+front-none (x ∷ xs) ys e = cc
+
+pub none_cached-before : (list : NetList) (c : Command) (made left : List Call) → before_of list c ≡ made ++ left → (share_after_calls no_objects made).cached ≡ []
+none_cached-before list c made left part =
+    let front = (prefix-part no_objects (record no_objects { links = links_made list (att_of c) c.netns }) (before_of list c) made left part (adds-links list.first (att_of c) c.netns no_objects)).cached in
+    front-none (share_after_calls no_objects made).cached front.0 front.1
+
 -- ---- links
 
 links-call : (s t : Share) (call : Call) → s.links ≡ t.links → (share_after_call s call).links ≡ (share_after_call t call).links
@@ -149,12 +161,12 @@ links-appended s _ e = grows-same s.links
 asked-prefix : (list : NetList) (c : Command) (given : List Addr) (s : Share) → AreLinksOf list c given s.links → IsPrefix s (wanted_by list c given) → AreAskedFor list c given s
 asked-prefix list c given s links front = record {
   links = links;
-  addresses = among-prefix _ s.addresses front.addresses;
-  routes = among-prefix _ s.routes front.routes;
-  rules = among-prefix _ s.rules front.rules;
-  settings = among-prefix _ s.settings front.settings;
-  leases = among-prefix _ s.leases front.leases;
-  cached = among-prefix _ s.cached front.cached;
+  addresses = part-prefix _ s.addresses front.addresses;
+  routes = part-prefix _ s.routes front.routes;
+  rules = part-prefix _ s.rules front.rules;
+  settings = part-prefix _ s.settings front.settings;
+  leases = part-prefix _ s.leases front.leases;
+  cached = part-prefix _ s.cached front.cached;
 }
 
 pub links_made-leased : (list : NetList) (c : Command) (given : List Addr) → (with_leases list c given).links ≡ links_made list (att_of c) c.netns
@@ -206,10 +218,10 @@ asked-before_leases list c made left part =
 pub asked-removes : (list : NetList) (c : Command) (given : List Addr) (att : Att) (old new : Host) → OnlyRemoves old new → AreAskedFor list c given (share_of att old) → AreAskedFor list c given (share_of att new)
 asked-removes list c given att old new d a = record {
   links = record { made = a.links.made; left = a.links.left; part = a.links.part; among = among-drops (λ l. is_own att l.tag) (λ l. true) (links_after_part list c a.links.made) old.links new.links d.links a.links.among };
-  addresses = among-drops (λ l. is_own att l.tag) (λ l. true) _ old.addresses new.addresses d.addresses a.addresses;
-  routes = among-drops (λ l. is_own att l.tag) (λ l. true) _ old.routes new.routes d.routes a.routes;
-  rules = among-drops (λ l. is_own att l.tag) (λ l. true) _ old.rules new.rules d.rules a.rules;
-  settings = among-drops (λ l. is_own att l.tag) (λ l. true) _ old.settings new.settings d.settings a.settings;
-  leases = among-drops (λ l. is_own att l.tag) (λ l. true) _ old.leases new.leases d.leases a.leases;
-  cached = among-drops (λ l. is_own att l.tag) (λ l. true) (wanted_by list c given).cached old.cached new.cached d.cached a.cached;
+  addresses = part-left (λ l. is_own att l.tag) (λ l. true) _ old.addresses new.addresses d.addresses a.addresses;
+  routes = part-left (λ l. is_own att l.tag) (λ l. true) _ old.routes new.routes d.routes a.routes;
+  rules = part-left (λ l. is_own att l.tag) (λ l. true) _ old.rules new.rules d.rules a.rules;
+  settings = part-left (λ l. is_own att l.tag) (λ l. true) _ old.settings new.settings d.settings a.settings;
+  leases = part-left (λ l. is_own att l.tag) (λ l. true) _ old.leases new.leases d.leases a.leases;
+  cached = part-left (λ l. is_own att l.tag) (λ l. true) (wanted_by list c given).cached old.cached new.cached d.cached a.cached;
 }

@@ -3,13 +3,17 @@ use Rattle.std.proofs.Common.{◌≡◌, ◌≢◌, ℕ, ◌+◌, Bool, true, fa
 use Rattle.std.proofs.lemmas.List.{append-nil, map-append}
 use Rattle.std.proofs.lemmas.Bool.{cases_Bool, both_ways}
 use Rattle.std.proofs.lemmas.Bool.Decides.{eqb_tells}
+use Rattle.std.proofs.lemmas.Slice.Zip.{all_zipped_more}
 use Rattle.cni_addr.specs.declared.address.Addr.{Addr}
 use Rattle.cni_addr.specs.declared.range.RangeSet.{RangeSet}
+use Rattle.host_local.specs.Laws.{AreCandidates}
+use Rattle.ip_pool.specs.NextAddress.{is_candidate}
 use Rattle.net_conf.specs.declared.list.NetList.{NetList}
 use Rattle.kernel_types.specs.Equal.{att_eq}
 use Rattle.kernel_types.specs.Sound.{IsSound}
-use Rattle.kernel_types.specs.Terms.{lease_of}
+use Rattle.kernel_types.specs.Terms.{is_own, lease_of}
 use Rattle.kernel_types.proofs.Cases.{att_eq-refl}
+use Rattle.kernel_types.proofs.ChangeLemmas.{DropsOnly-nothing}
 use Rattle.kernel_types.proofs.Isolation.{att_eq-same}
 use Rattle.kernel_types.specs.declared.object.Att.{Att}
 use Rattle.kernel_types.specs.declared.object.Host.{Host}
@@ -27,7 +31,7 @@ use Rattle.pod_file.specs.declared.command.Command.{Command}
 use Rattle.cni_verbs.specs.AddCalls.{is_done}
 use Rattle.cni_errors.specs.CommandFields.{att_of}
 use Rattle.cni_verbs.specs.Script.{State, AtBegin, BeforeLeases, Leasing, AfterLeases, ReadingCache, Deleting, FindingEntry, Asking, Changing, Collecting, Over, Calls, before_of, back_of, turn, leases_in}
-use Rattle.plugin_chain.specs.Wanted.{deletion}
+use Rattle.plugin_chain.specs.Wanted.{deletion, sets_of}
 use Rattle.pod_workers.specs.Plans.{Placed}
 use Rattle.pod_workers.specs.World.{World, after, done, entry_of, host_of, after_entry, replies_of, reply_to}
 use Rattle.pod_workers.specs.declared.plan.Entry.{Entry}
@@ -37,13 +41,14 @@ use Rattle.pod_workers.proofs.Order.{other_number, ready_is}
 use Rattle.pod_workers.proofs.OfPlugins.{LeftAreOfPlugins}
 use Rattle.pod_workers.proofs.Sound.{sound_host}
 use Rattle.gc_sweep.proofs.Deletable.{done_or_not, leased_or_not}
-use Rattle.pod_laws.specs.AskedFor.{begins, is_begin_of, AreAskedFor, HasNothingUnasked, IsAskedFor, NothingIsUnasked}
+use Rattle.pod_laws.specs.AskedFor.{begins, is_begin_of, AreAskedFor, AreCandidatesSoFar, HasNothingUnasked, IsAskedFor, IsPart, NothingIsUnasked}
 use Rattle.pod_laws.specs.Moments.{objects_after, own_entries}
-use Rattle.pod_laws.proofs.Added.Achieved.{Achieved, achieved-start, achieved-step, begun-none, leased-done, leased-push, leased-same, leased_in, leases-one, leases-push, own-made, with_leases}
+use Rattle.pod_laws.proofs.Added.Achieved.{Achieved, achieved-start, achieved-step, begun-none, lease-fits, leased-done, leased-push, leased-same, leased_in, leases-one, leases-push, own-made, with_leases}
 use Rattle.pod_laws.proofs.Histories.Begins.{all-last, begin-apart, deletion-no_begin, last_begun-same, not-begins, outside-no_begin, plugin-no_begin, question-no_begin}
 use Rattle.pod_laws.proofs.Refused.Causes.{begin-may, plugin-may}
 use Rattle.pod_laws.proofs.Histories.Entries.{is_of-own, own_entries-own}
-use Rattle.pod_laws.proofs.Added.Prefixes.{asked-after_leases, asked-before_leases, asked-leasing, asked-removes}
+use Rattle.pod_laws.proofs.Added.Prefixes.{asked-after_leases, asked-before_leases, asked-leasing, asked-removes, none_cached-before}
+use Rattle.pod_laws.proofs.Parts.{part-drops}
 use Rattle.gc_sweep.proofs.OfKinds.{share-removes_none}
 use Rattle.pod_laws.proofs.AskedFor.Quiet.{plugin-no_lease, lease-no_lease, deletion-no_lease, question-no_lease, outside-no_lease}
 use Rattle.gc_sweep.specs.Keep.{OnlyRemoves}
@@ -63,10 +68,10 @@ leases-quiet m h e none = elim (eqb_tells e.command (m + 1)) [
   | inr f ↦ ap leases_in (replies_of-other m h e f.1)
 ]
 
--- after an entry that doesn't begin the attachment, with objects that are still asked for
-asked-still : (p : Plan) (h : List Entry) (e : Entry) (att : Att) (a : IsAskedFor p h att) → begins att e ≡ false
-    → AreAskedFor a.list a.by.command (leases_in (replies_of a.place (h ++ e ∷ []))) (objects_after p att (h ++ e ∷ [])) → IsAskedFor p (h ++ e ∷ []) att
-asked-still p h e att a not objects = record {
+-- after an entry that doesn't begin the attachment and leases nothing to its ADD, with objects that are still asked for
+asked-still : (p : Plan) (h : List Entry) (e : Entry) (att : Att) (a : IsAskedFor p h att) → begins att e ≡ false → leases_in (replies_of a.place (h ++ e ∷ [])) ≡ leases_in (replies_of a.place h)
+    → IsPart (objects_after p att (h ++ e ∷ [])).cached (objects_after p att h).cached → AreAskedFor a.list a.by.command (leases_in (replies_of a.place h)) (objects_after p att (h ++ e ∷ [])) → IsAskedFor p (h ++ e ∷ []) att
+asked-still p h e att a not leases part objects = record {
   place = a.place;
   by = a.by;
   list = a.list;
@@ -75,16 +80,19 @@ asked-still p h e att a not objects = record {
   verb = a.verb;
   attachment = a.attachment;
   last = last_begun-same att h e not ∙ a.last;
-  objects = objects;
+  so_far = subst (AreCandidatesSoFar (sets_of a.list)) (sym leases) a.so_far;
+  all_leased = λ some. subst (AreCandidates (sets_of a.list)) (sym leases) (a.all_leased (λ none. some (subst (IsPart (objects_after p att (h ++ e ∷ [])).cached) none part)));
+  objects = subst (λ g. AreAskedFor a.list a.by.command g (objects_after p att (h ++ e ∷ []))) (sym leases) objects;
 }
 
 asked-quiet : (p : Plan) (h : List Entry) (e : Entry) (att : Att) → begins att e ≡ false → leases_in (e.reply ∷ []) ≡ [] → OnlyRemoves (after p.pods.opening h) (after p.pods.opening (h ++ e ∷ [])) → HasNothingUnasked p h att
     → HasNothingUnasked p (h ++ e ∷ []) att
 asked-quiet p h e att not no_lease d (inl none) = inl (share-removes_none att (after p.pods.opening h) (after p.pods.opening (h ++ e ∷ [])) d none)
 asked-quiet p h e att not no_lease d (inr a) =
-    inr (asked-still p h e att a not
-    (subst (λ g. AreAskedFor a.list a.by.command g (objects_after p att (h ++ e ∷ []))) (sym (leases-quiet a.place h e no_lease))
-    (asked-removes a.list a.by.command (leases_in (replies_of a.place h)) att (after p.pods.opening h) (after p.pods.opening (h ++ e ∷ [])) d a.objects)))
+    let old = after p.pods.opening h in
+    let new = after p.pods.opening (h ++ e ∷ []) in
+    inr (asked-still p h e att a not (leases-quiet a.place h e no_lease) (part-drops (λ c. is_own att c.tag) (λ c. true) old.cached new.cached d.cached)
+    (asked-removes a.list a.by.command (leases_in (replies_of a.place h)) att old new d a.objects))
 
 abbrev NextAsked : World → ℕ → Att → Bool → Call → Type 0
 NextAsked w n att faulty call = HasNothingUnasked w.plan (w.history ++ entry_of (host_of w) n call faulty ∷ []) att
@@ -132,16 +140,24 @@ aside-now : (w : World) (n : ℕ) (c : Command) (att : Att) (call : Call) (fault
 aside-now w n c att call faulty sound (inl asked) was = question-now w n att call faulty asked was
 aside-now w n c att call faulty sound (inr collected) was = subst (NextAsked w n att faulty) collected.deletes (deletion-now w n att collected.att faulty collected.kind sound was)
 
--- ---- a call of an ADD that goes on
+-- ---- an entry of an ADD that goes on
+
+-- what the attachment has is asked for with these addresses: one candidate a set so far, and of every set where it has a
+-- cached result
+record IsAskedWith (list : NetList) (c : Command) (given : List Addr) (objects : Share) : Type 0 where
+  so_far : AreCandidatesSoFar (sets_of list) given
+  all_leased : objects.cached ≢ [] → AreCandidates (sets_of list) given
+  objects_are : AreAskedFor list c given objects
 
 making-now : (w : World) (n : ℕ) (c : Placed) (list : NetList) (call : Call) (faulty : Bool) → GoesOn w n c list call faulty → IsUnrefused c.command (own_entries n w.history) → is_begin_of (att_of c.command) call ≡ false → (given : List Addr)
-    → leased_in (own_entries n w.history ++ entry_of (host_of w) n call faulty ∷ []) ≡ given → AreAskedFor list c.command given (share_of (att_of c.command) (after_entry (host_of w) (entry_of (host_of w) n call faulty)))
+    → leased_in (own_entries n w.history ++ entry_of (host_of w) n call faulty ∷ []) ≡ given → IsAskedWith list c.command given (share_of (att_of c.command) (after_entry (host_of w) (entry_of (host_of w) n call faulty)))
     → NextAsked w n (att_of c.command) faulty call
 making-now w n c list call faulty on un not given leased asked =
     let h = w.history in
     let e = entry_of (host_of w) n call faulty in
     let att = att_of c.command in
     let leases : leases_in (replies_of n (h ++ e ∷ [])) ≡ given = ap leased_in (own_entries-own n h e (is_of-own n e refl)) ∙ leased in
+    let now : IsAskedWith list c.command given (objects_after w.plan att (h ++ e ∷ [])) = subst (λ k. IsAskedWith list c.command given (share_of att k)) (sym (after-append w.plan.pods.opening h e)) asked in
     inr (record {
       place = n;
       by = c;
@@ -151,9 +167,44 @@ making-now w n c list call faulty on un not given leased asked =
       verb = un.verb;
       attachment = refl;
       last = last_begun-same att h e (not-begins att e not) ∙ all-last w on.legal n c on.ready.there on.ready.unanswered un.verb un.begun un.go_on;
-      objects = subst (λ g. AreAskedFor list c.command g (objects_after w.plan att (h ++ e ∷ []))) (sym leases)
-          (subst (λ k. AreAskedFor list c.command given (share_of att k)) (sym (after-append w.plan.pods.opening h e)) asked);
+      so_far = subst (AreCandidatesSoFar (sets_of list)) (sym leases) now.so_far;
+      all_leased = λ some. subst (AreCandidates (sets_of list)) (sym leases) (now.all_leased some);
+      objects = subst (λ g. AreAskedFor list c.command g (objects_after w.plan att (h ++ e ∷ []))) (sym leases) now.objects_are;
     })
+
+-- ---- what is asked for at each call of an ADD
+
+with-before_leases : (list : NetList) (c : Command) (made left : List Call) → before_of list c ≡ made ++ left → IsAskedWith list c [] (share_after_calls no_objects made)
+with-before_leases list c made left part = record {
+  so_far = record { past = []; left = sets_of list; are = refl; candidates = tt };
+  all_leased = λ some. absurd (some (none_cached-before list c made left part));
+  objects_are = asked-before_leases list c made left part;
+}
+
+with-leasing : (list : NetList) (c : Command) (given : List Addr) → AreCandidatesSoFar (sets_of list) given → IsAskedWith list c given (with_leases list c given)
+with-leasing list c given so_far = record {
+  so_far = so_far;
+  all_leased = λ some. absurd (some (none_cached-before list c (before_of list c) [] (sym (append-nil (before_of list c)))));
+  objects_are = asked-leasing list c given;
+}
+
+with-after_leases : (list : NetList) (c : Command) (given : List Addr) → AreCandidates (sets_of list) given → (made left : List Call) → back_of list c given ≡ made ++ left → IsAskedWith list c given (share_after_calls (with_leases list c given) made)
+with-after_leases list c given candidates made left part = record {
+  so_far = record { past = sets_of list; left = []; are = sym (append-nil (sets_of list)); candidates = candidates };
+  all_leased = λ some. candidates;
+  objects_are = asked-after_leases list c given made left part;
+}
+
+-- one more leased address
+candidates-more : (sets : List RangeSet) (past left : List RangeSet) (set : RangeSet) (given : List Addr) (a : Addr) → sets ≡ past ++ set ∷ left → AreCandidates past given → is_candidate set a ≡ true → AreCandidatesSoFar sets (given ++ a ∷ [])
+candidates-more sets past left set given a are candidates fits = record {
+  past = past ++ set ∷ [];
+  left = left;
+  are = are ∙ sym (append_assoc past (set ∷ []) left);
+  candidates = all_zipped_more (λ (s : RangeSet) (x : Addr). is_candidate s x ≡ true) past given set a candidates fits;
+}
+
+-- ---- a call of an ADD that goes on
 
 -- a plugin's call that was not done, and a lease that found nothing, leave the share
 refused-entered : (att : Att) (k : Host) (n : ℕ) (call : Call) (faulty : Bool) → is_plugin_call_of att call ≡ true → (reply_to k call faulty ≡ Done → ⊥) → share_of att (after_entry k (entry_of k n call faulty)) ≡ share_of att k
@@ -168,7 +219,7 @@ unleased-entered att k n place set faulty not =
 -- a call of a part of the plugins' calls, after these, where each prefix of that part leaves what is asked for
 of_plugins-now : (w : World) (n : ℕ) (c : Placed) (list : NetList) (x : Call) (xs : List Call) (given : List Addr) (start : Share) (all made : List Call) (faulty : Bool) → GoesOn w n c list x faulty → is_plugin_call_of (att_of c.command) x ≡ true
     → IsUnrefused c.command (own_entries n w.history) → all ≡ made ++ x ∷ xs → share_of (att_of c.command) (host_of w) ≡ share_after_calls start made → leased_in (own_entries n w.history) ≡ given
-    → ((front left : List Call) → all ≡ front ++ left → AreAskedFor list c.command given (share_after_calls start front)) → NextAsked w n (att_of c.command) faulty x
+    → ((front left : List Call) → all ≡ front ++ left → IsAskedWith list c.command given (share_after_calls start front)) → NextAsked w n (att_of c.command) faulty x
 of_plugins-now w n c list x xs given start all made faulty on own un part was leased asked =
     let k = host_of w in
     let att = att_of c.command in
@@ -178,11 +229,11 @@ of_plugins-now w n c list x xs given start all made faulty on own un part was le
       | inl done ↦
           let share = own-made att k n x faulty own done ∙ ap (λ u. share_after_call u x) was ∙ sym (share_after_calls-append start made (x ∷ [])) in
           making-now w n c list x faulty on un (plugin-no_begin att att x own) given (leased-done es e given done leased)
-          (subst (AreAskedFor list c.command given) (sym share) (asked (made ++ x ∷ []) xs (part ∙ sym (append_assoc made (x ∷ []) xs))))
+          (subst (IsAskedWith list c.command given) (sym share) (asked (made ++ x ∷ []) xs (part ∙ sym (append_assoc made (x ∷ []) xs))))
       | inr not ↦
           let share = refused-entered att k n x faulty own not ∙ was in
           making-now w n c list x faulty on un (plugin-no_begin att att x own) given (leased-same es e given (plugin-no_lease (reply_to k x faulty) (plugin-may att k x faulty own)) leased)
-          (subst (AreAskedFor list c.command given) (sym share) (asked made (x ∷ xs) part))
+          (subst (IsAskedWith list c.command given) (sym share) (asked made (x ∷ xs) part))
     ]
 
 lease-now : (w : World) (n : ℕ) (c : Placed) (list : NetList) (set : RangeSet) (sets : List RangeSet) (given : List Addr) (faulty : Bool) → GoesOn w n c list (LeaseNext (att_of c.command) (length given) set) faulty → IsUnrefused c.command (own_entries n w.history)
@@ -201,10 +252,11 @@ lease-now w n c list set sets given faulty on un ach =
           leases-one att (length given) set k n faulty a leased.1 ∙ ap (λ (u : Share). record u { leases = u.leases ++ lease_of att a ∷ [] }) ach.3
           ∙ ap (λ l. record (share_after_calls no_objects (before_of list c.command)) { leases = l }) more in
           making-now w n c list call faulty on un refl (given ++ a ∷ []) (leased-push es e ∙ ap (λ q. leased_in es ++ leases_in (q ∷ [])) leased.1 ∙ ap (λ l. l ++ a ∷ []) ach.4)
-          (subst (AreAskedFor list c.command (given ++ a ∷ [])) (sym share) (asked-leasing list c.command (given ++ a ∷ [])))
+          (subst (IsAskedWith list c.command (given ++ a ∷ [])) (sym share) (with-leasing list c.command (given ++ a ∷ [])
+          (candidates-more (sets_of list) ach.0 sets set given a ach.1 ach.2 (lease-fits k att (length given) set faulty a leased.1))))
       | inr not ↦
           let share = unleased-entered att k n (length given) set faulty not ∙ ach.3 in
-          making-now w n c list call faulty on un refl given (leased-same es e given (lease-no_lease (reply_to k call faulty) not) ach.4) (subst (AreAskedFor list c.command given) (sym share) (asked-leasing list c.command given))
+          making-now w n c list call faulty on un refl given (leased-same es e given (lease-no_lease (reply_to k call faulty) not) ach.4) (subst (IsAskedWith list c.command given) (sym share) (with-leasing list c.command given (record { past = ach.0; left = set ∷ sets; are = ach.1; candidates = ach.2 })))
     ]
 
 -- ---- every entry
@@ -220,12 +272,12 @@ own-asked w n c list call faulty AtBegin sound left fit is un ach was =
     subst (OwnAsked w n c list faulty) (let e : Begin (att_of c.command) c.command.netns ≡ call = cc in e) (λ on. begin-now w n (att_of c.command) c.command.netns faulty was)
 own-asked w n c list call faulty (BeforeLeases x xs) sound left fit is un ach was =
     subst (OwnAsked w n c list faulty) (let e : x ≡ call = cc in e)
-    (λ on. of_plugins-now w n c list x xs [] no_objects (before_of list c.command) ach.0 faulty on left.0.0.0 un ach.1 ach.2 ach.3 (asked-before_leases list c.command))
+    (λ on. of_plugins-now w n c list x xs [] no_objects (before_of list c.command) ach.0 faulty on left.0.0.0 un ach.1 ach.2 ach.3 (with-before_leases list c.command))
 own-asked w n c list call faulty (Leasing set sets given) sound left fit is un ach was =
     subst (OwnAsked w n c list faulty) (let e : LeaseNext (att_of c.command) (length given) set ≡ call = cc in e) (λ on. lease-now w n c list set sets given faulty on un ach)
 own-asked w n c list call faulty (AfterLeases x xs given) sound left fit is un ach was =
     subst (OwnAsked w n c list faulty) (let e : x ≡ call = cc in e)
-    (λ on. of_plugins-now w n c list x xs given (with_leases list c.command given) (back_of list c.command given) ach.0 faulty on left.0.0 un ach.1 ach.3 ach.4 (asked-after_leases list c.command given))
+    (λ on. of_plugins-now w n c list x xs given (with_leases list c.command given) (back_of list c.command given) ach.0 faulty on left.0.0 un ach.1 ach.3 ach.4 (with-after_leases list c.command given ach.2))
 own-asked w n c list call faulty (ReadingCache ending) sound left fit is un ach was =
     subst (OwnAsked w n c list faulty) (let e : CacheGet (att_of c.command) ≡ call = cc in e) (λ on. question-now w n (att_of c.command) (CacheGet (att_of c.command)) faulty refl was)
 own-asked w n c list call faulty (Deleting kind ks ending) sound left fit is un ach was =
@@ -254,9 +306,10 @@ other-asked w n c list call faulty att on differ own was =
           let by : a.by ≡ c = ready_is w n a.place c a.by on.ready place a.there in
           let att_is : att_of c.command ≡ att = ap (λ (x : Placed). att_of x.command) (sym by) ∙ a.attachment in
           both_ways (att_eq (att_of c.command) att) differ (ap (att_eq (att_of c.command)) (sym att_is) ∙ att_eq-refl (att_of c.command))) in
-          inr (asked-still w.plan h e att a (not-begins att e (begin-apart (att_of c.command) att call differ own))
-          (subst (λ g. AreAskedFor a.list a.by.command g (objects_after w.plan att (h ++ e ∷ []))) (sym (ap leases_in (replies_of-other a.place h e far)))
-          (subst (AreAskedFor a.list a.by.command (leases_in (replies_of a.place h))) (sym same_share) a.objects)))
+          let old = objects_after w.plan att h in
+          inr (asked-still w.plan h e att a (not-begins att e (begin-apart (att_of c.command) att call differ own)) (ap leases_in (replies_of-other a.place h e far))
+          (subst (λ (u : Share). IsPart u.cached old.cached) (sym same_share) (DropsOnly-nothing (λ c. true) old.cached))
+          (subst (AreAskedFor a.list a.by.command (leases_in (replies_of a.place h))) (sym same_share) a.objects))
     ]
 
 abbrev AllAsked : Plan → List Entry → Type 0

@@ -5,7 +5,6 @@ use Rattle.std.proofs.lemmas.Option.{same_Some, none-some}
 use Rattle.std.proofs.lemmas.Slice.Eq.{bytes_eq-Decides}
 use Rattle.std.specs.Prelude.{filter, ◌&&◌}
 use Rattle.std.specs.List.{list_all, list_any}
-use Rattle.std.specs.Option.{option_map}
 use Rattle.std.specs.Str.{bytes_eq}
 use Rattle.cni_addr.proofs.Cases.{by_test}
 use Rattle.cni_addr.specs.declared.address.Addr.{Addr}
@@ -13,9 +12,8 @@ use Rattle.cni_result.specs.declared.cached.Cached.{Cached}
 use Rattle.cni_result.specs.declared.result.AddResult.{AddResult}
 use Rattle.cni_result.specs.declared.result.Interface.{Interface}
 use Rattle.cni_errors.specs.CommandFields.{att_of}
-use Rattle.cni_verbs.specs.Mappings.{mappings_of}
 use Rattle.cni_verbs.specs.Script.{State, AtBegin, BeforeLeases, Leasing, AfterLeases, ReadingCache, Deleting, FindingEntry, Asking, Changing, Collecting, Over, Calls, leases_in, turn}
-use Rattle.plugin_chain.specs.Wanted.{all_chained_results, bridge_of, cached_of, calls_before, chained_result, deletion, result_of_add}
+use Rattle.plugin_chain.specs.Wanted.{all_chained_results, bridge_of, calls_before, chained_result, deletion, result_of_add}
 use Rattle.plugin_chain.proofs.PluginLaws.{chained_laws, first_laws}
 use Rattle.kernel_types.specs.Allowed.{IsAllowed}
 use Rattle.kernel_types.specs.Apply.{apply}
@@ -27,13 +25,11 @@ use Rattle.kernel_types.specs.Terms.{cached_in, has_host_bridge, has_named_ns, i
 use Rattle.kernel_types.proofs.Isolation.{att_eq-same}
 use Rattle.kernel_types.proofs.ListLemmas.{list_all-weaker, list_any-kept, passes-find}
 use Rattle.kernel_types.specs.declared.object.Att.{Att}
-use Rattle.kernel_types.specs.declared.object.CachedObj.{CachedObj}
 use Rattle.kernel_types.specs.declared.object.Host.{Host}
 use Rattle.kernel_types.specs.declared.object.Link.{Link}
 use Rattle.kernel_types.specs.declared.object.LinkKey.{LinkKey}
 use Rattle.kernel_types.specs.declared.object.LinkKind.{LinkKind}
 use Rattle.kernel_types.specs.declared.object.LinkKind.TheVariants as link_kinds
-use Rattle.kernel_types.specs.declared.object.Tag.TheVariants.{Own}
 use Rattle.kernel_types.specs.declared.call.Call.{Call}
 use Rattle.kernel_types.specs.declared.call.Call.TheVariants.{Begin, CacheGet, CachePut, NsChange, Outside}
 use Rattle.kernel_types.specs.declared.call.Change.TheVariants.{DropLink, Flush}
@@ -55,14 +51,14 @@ use Rattle.pod_workers.specs.World.{World, after, after_entry, entry_of, host_of
 use Rattle.pod_workers.specs.declared.plan.Entry.{Entry}
 use Rattle.pod_workers.specs.declared.plan.Plan.{Plan}
 use Rattle.gc_sweep.proofs.Deletable.{done_or_not}
-use Rattle.pod_workers.proofs.Elements.{find-first, first_of}
 use Rattle.pod_workers.proofs.Prefixes.{each_prefix}
 use Rattle.pod_workers.proofs.Histories.{after-append}
 use Rattle.pod_workers.proofs.OfPlugins.{LeftAreOfPlugins}
 use Rattle.pod_workers.proofs.Sound.{sound_host}
-use Rattle.pod_laws.specs.AskedFor.{AreAmong, HasNothingUnasked}
+use Rattle.pod_laws.specs.AskedFor.{HasNothingUnasked}
 use Rattle.pod_laws.specs.Moments.{own_entries}
 use Rattle.pod_laws.proofs.Added.Achieved.{Achieved, achieved-start, achieved-step}
+use Rattle.pod_laws.proofs.AskedFor.CachedResults.{entry_of_its_add, no-entry}
 use Rattle.pod_laws.proofs.AskedFor.Moments.{nothing_is_unasked}
 use Rattle.pod_laws.proofs.Added.Bridges.{BridgeIn, HasBridge, all-bridges, bridge-entered}
 use Rattle.gc_sweep.specs.Keep.{OnlyRemoves}
@@ -297,27 +293,15 @@ is-named host None interfaces names there = refl
 is-named host (Some bridge) [] names there = refl
 is-named host (Some bridge) (i ∷ is) names there = ap (has_host_bridge host) ((bytes_eq-Decides i.name bridge).0 names) ∙ there
 
-no-entry : (att : Att) (host : Host) → HasNoCached att host → cached_in host att ≡ None
-no-entry att host none = ap (option_map (λ (c : CachedObj). c.cached)) (find-first (λ c. is_own att c.tag) host.cached ∙ ap first_of none)
-
-one-entry : (objects : List CachedObj) (o : CachedObj) (cached : Cached) → AreAmong objects (o ∷ []) → option_map (λ (c : CachedObj). c.cached) (first_of objects) ≡ Some cached → cached ≡ o.cached
-one-entry [] o cached among is = absurd (none-some cached is)
-one-entry (x ∷ xs) o cached among is = elim among.0 [ inl same ↦ sym (same_Some x.cached cached is) ∙ ap (λ (c : CachedObj). c.cached) same | inr none ↦ absurd none ]
-
 entry-names : (p : Plan) (h : List Entry) (att : Att) (list : NetList) (cached : Cached) → HasNothingUnasked p h att → list_named p.lists att.network ≡ Some list → cached_in (after p.pods.opening h) att ≡ Some cached
     → names_first (bridge_of list.first) (names_of cached.result) ≡ true
-entry-names p h att list cached (inl gone) listed is = absurd (none-some cached (sym (no-entry att (after p.pods.opening h) (ap (λ (s : Share). s.cached) gone)) ∙ is))
-entry-names p h att list cached (inr a) listed is =
-    let host = after p.pods.opening h in
+entry-names p h att list cached asked listed is =
+    let by = entry_of_its_add p h att cached asked is in
+    let a = by.0 in
     let c = a.by.command in
-    let given = leases_in (replies_of a.place h) in
     let lists : a.list ≡ list = same_Some a.list list (sym (list_named-listed p c a.list a.listed) ∙ ap (λ (x : Att). list_named p.lists x.network) a.attachment ∙ listed) in
-    let found : option_map (λ (x : CachedObj). x.cached) (first_of (share_of att host).cached) ≡ Some cached =
-    ap (option_map (λ (x : CachedObj). x.cached)) (sym (find-first (λ x. is_own att x.tag) host.cached)) ∙ is in
-    let kept : CachedObj = record { cached = cached_of a.list (att_of c) c.netns (mappings_of a.list c) given; tag = Own (att_of c) } in
-    let cached_is : cached ≡ kept.cached = one-entry (share_of att host).cached kept cached a.objects.cached found in
-    ap (λ (l : NetList). names_first (bridge_of l.first) (names_of cached.result)) (sym lists) ∙ ap (λ (x : Cached). names_first (bridge_of a.list.first) (names_of x.result)) cached_is
-    ∙ result-names a.list (att_of c) c.netns given
+    ap (λ (l : NetList). names_first (bridge_of l.first) (names_of cached.result)) (sym lists) ∙ ap (λ (x : Cached). names_first (bridge_of a.list.first) (names_of x.result)) by.2
+    ∙ result-names a.list att c.netns (leases_in (replies_of a.place h))
 
 -- where the attachment has a cached result, the bridge that the cached result names is there
 abbrev NamedAreThere : Plan → List Entry → Type 0

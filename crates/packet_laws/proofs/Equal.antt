@@ -1,0 +1,170 @@
+-- Rules and leases are the same by the test only where they are equal.
+use Rattle.std.proofs.Common.{◌≡◌, ℕ, Bool, true, List, Option, Some, None, refl, ap, eqb-true, nat_eq, arith}
+use Rattle.std.proofs.lemmas.Bool.{and_parts}
+use Rattle.std.specs.Cmp.{booleans_Decides, partial_equiv_from_equiv}
+use Rattle.std.specs.Option.{option_eq}
+use Rattle.std.proofs.lemmas.Slice.Eq.{bytes_eq-Decides}
+use Rattle.cni_addr.specs.KeyLaws.{HasFirstOfEachKey}
+use Rattle.cni_addr.specs.Lists.{each_key_once}
+use Rattle.cni_addr.specs.declared.address.Addr.{Addr}
+use Rattle.cni_addr.specs.declared.address.Cidr.{Cidr}
+use Rattle.cni_addr.specs.declared.address.Family.{Family}
+use Rattle.cni_addr.specs.declared.address.Family.TheVariants as families
+use Rattle.cni_addr.proofs.KeyLists.{each_key_once-first_of_each}
+use Rattle.cni_result.specs.declared.cached.Proto.{Proto}
+use Rattle.cni_result.specs.declared.cached.Proto.TheVariants as protos
+use Rattle.kernel_types.specs.Equal.{addr_eq, chain_eq, cidr_eq, family_eq, lease_eq, proto_eq, rule_eq, table_eq, target_eq}
+use Rattle.kernel_types.specs.declared.object.Lease.{Lease}
+use Rattle.kernel_types.specs.declared.object.Tag.{Tag}
+use Rattle.kernel_types.specs.declared.rule.Chain.{Chain}
+use Rattle.kernel_types.specs.declared.rule.Chain.TheVariants as chains
+use Rattle.kernel_types.specs.declared.rule.Rule.{Rule}
+use Rattle.kernel_types.specs.declared.rule.Table.{Table}
+use Rattle.kernel_types.specs.declared.rule.Table.TheVariants as tables
+use Rattle.kernel_types.specs.declared.rule.Target.{Target}
+use Rattle.kernel_types.specs.declared.rule.Target.TheVariants as targets
+use Rattle.kernel_types.proofs.Isolation.{tag_eq-same}
+use Rattle.plugin_base.specs.KeyLaws.{rule_key-laws}
+use Rattle.packet_laws.proofs.Lists.{IsSame}
+
+-- ---- what has a number
+
+pub family-same : (f g : Family) → family_eq f g ≡ true → f ≡ g
+family-same families.V4 families.V4 h = refl
+family-same families.V4 families.V6 h = cc
+family-same families.V6 families.V4 h = cc
+family-same families.V6 families.V6 h = refl
+
+pub family-itself : (f : Family) → family_eq f f ≡ true
+family-itself families.V4 = refl
+family-itself families.V6 = refl
+
+pub proto-same : (p q : Proto) → proto_eq p q ≡ true → p ≡ q
+proto-same protos.Tcp protos.Tcp h = refl
+proto-same protos.Tcp protos.Udp h = cc
+proto-same protos.Tcp protos.Sctp h = cc
+proto-same protos.Udp protos.Tcp h = cc
+proto-same protos.Udp protos.Udp h = refl
+proto-same protos.Udp protos.Sctp h = cc
+proto-same protos.Sctp protos.Tcp h = cc
+proto-same protos.Sctp protos.Udp h = cc
+proto-same protos.Sctp protos.Sctp h = refl
+
+pub proto-itself : (p : Proto) → proto_eq p p ≡ true
+proto-itself protos.Tcp = refl
+proto-itself protos.Udp = refl
+proto-itself protos.Sctp = refl
+
+table-same : (t u : Table) → table_eq t u ≡ true → t ≡ u
+table-same tables.Nat tables.Nat h = refl
+table-same tables.Nat tables.Filter h = cc
+table-same tables.Filter tables.Nat h = cc
+table-same tables.Filter tables.Filter h = refl
+
+pub chain-same : (b c : Chain) → chain_eq b c ≡ true → b ≡ c
+chain-same chains.Dnat chains.Dnat h = refl
+chain-same chains.HostMasq chains.HostMasq h = refl
+chain-same chains.Masq chains.Masq h = refl
+chain-same chains.Forward chains.Forward h = refl
+chain-same chains.Dnat c h = cc
+chain-same chains.HostMasq c h = cc
+chain-same chains.Masq c h = cc
+chain-same chains.Forward c h = cc
+
+pub chain-itself : (c : Chain) → chain_eq c c ≡ true
+chain-itself chains.Dnat = refl
+chain-itself chains.HostMasq = refl
+chain-itself chains.Masq = refl
+chain-itself chains.Forward = refl
+
+-- ---- values of parts
+
+option-same : {X : Type 0} (same : X → X → Bool) → ((x y : X) → same x y ≡ true → x ≡ y) → (a b : Option X) → option_eq same a b ≡ true → a ≡ b
+option-same same w None None h = refl
+option-same same w None (Some y) h = cc
+option-same same w (Some x) None h = cc
+option-same same w (Some x) (Some y) h = ap Some (w x y h)
+
+pub addr-same : (a b : Addr) → addr_eq a b ≡ true → a ≡ b
+addr-same a b h =
+    let parts = and_parts (family_eq a.family b.family) (nat_eq a.bits b.bits) h in
+    let family = family-same a.family b.family parts.0 in
+    let bits = eqb-true a.bits b.bits parts.1 in
+    λ i. record { family = family i; bits = bits i }
+
+pub addr-itself : (a : Addr) → addr_eq a a ≡ true
+addr-itself a = grind (arith, family-itself a.family)
+
+cidr-same : (c d : Cidr) → cidr_eq c d ≡ true → c ≡ d
+cidr-same c d h =
+    let parts = and_parts (addr_eq c.addr d.addr) (nat_eq c.prefix d.prefix) h in
+    let addr = addr-same c.addr d.addr parts.0 in
+    let prefix = eqb-true c.prefix d.prefix parts.1 in
+    λ i. record { addr = addr i; prefix = prefix i }
+
+target-same : (t u : Target) → target_eq t u ≡ true → t ≡ u
+target-same targets.Accept targets.Accept h = refl
+target-same targets.Masquerade targets.Masquerade h = refl
+target-same (targets.Dnat a p) (targets.Dnat b q) h =
+    let parts = and_parts (addr_eq a b) (nat_eq p q) h in
+    let addr = addr-same a b parts.0 in
+    let port = eqb-true p q parts.1 in
+    λ i. targets.Dnat (addr i) (port i)
+target-same targets.Accept u h = cc
+target-same targets.Masquerade u h = cc
+target-same (targets.Dnat a p) u h = cc
+
+-- ---- rules
+
+rule-equal : (a b : Rule) → rule_eq a b ≡ true → a ≡ b
+rule-equal a b h0 =
+    let h1 = and_parts _ _ h0 in
+    let h2 = and_parts _ _ h1.1 in
+    let h3 = and_parts _ _ h2.1 in
+    let h4 = and_parts _ _ h3.1 in
+    let h5 = and_parts _ _ h4.1 in
+    let h6 = and_parts _ _ h5.1 in
+    let h7 = and_parts _ _ h6.1 in
+    let h8 = and_parts _ _ h7.1 in
+    let h9 = and_parts _ _ h8.1 in
+    let table = table-same a.table b.table h1.0 in
+    let chain = chain-same a.chain b.chain h2.0 in
+    let src = option-same cidr_eq cidr-same a.src b.src h3.0 in
+    let dst = option-same cidr_eq cidr-same a.dst b.dst h4.0 in
+    let not_dst = (booleans_Decides a.not_dst b.not_dst).0 h5.0 in
+    let protocol = option-same proto_eq proto-same a.protocol b.protocol h6.0 in
+    let dport = option-same nat_eq eqb-true a.dport b.dport h7.0 in
+    let established = (booleans_Decides a.established b.established).0 h8.0 in
+    let target = target-same a.target b.target h9.0 in
+    let tag = tag_eq-same a.tag b.tag h9.1 in
+    λ i. record {
+      table = table i;
+      chain = chain i;
+      src = src i;
+      dst = dst i;
+      not_dst = not_dst i;
+      protocol = protocol i;
+      dport = dport i;
+      established = established i;
+      target = target i;
+      tag = tag i;
+    }
+
+pub rule-same : IsSame rule_eq
+rule-same = record { itself = rule_key-laws.refl; equal = rule-equal }
+
+-- a list of rules in which each stands once
+pub rules_once : HasFirstOfEachKey rule_eq (each_key_once rule_eq)
+rules_once = each_key_once-first_of_each rule_eq (partial_equiv_from_equiv rule_key-laws)
+
+-- ---- leases
+
+lease_of_parts : (n m : List ℕ) (a b : Addr) (t u : Tag) → n ≡ m → a ≡ b → t ≡ u → let x : Lease = record { network = n; addr = a; tag = t } in let y : Lease = record { network = m; addr = b; tag = u } in x ≡ y
+lease_of_parts n m a b t u en ea et = cc
+
+pub lease-equal : (a b : Lease) → lease_eq a b ≡ true → a ≡ b
+lease-equal a b h =
+    let network : a.network ≡ b.network = (bytes_eq-Decides a.network b.network).0 (grind (arith, h)) in
+    let addr : a.addr ≡ b.addr = addr-same a.addr b.addr (grind (arith, h)) in
+    let tag : a.tag ≡ b.tag = tag_eq-same a.tag b.tag (grind (arith, h)) in
+    lease_of_parts a.network b.network a.addr b.addr a.tag b.tag network addr tag

@@ -1,0 +1,14 @@
+mod Accepting
+mod Checked
+mod Equal
+mod LegalHosts
+mod Lists
+mod MasqRules
+mod Masquerading
+mod Matching
+mod Packets
+mod Rewriting
+mod Settled
+mod WantedRules
+mod Ways
+pub mod PluginRules
