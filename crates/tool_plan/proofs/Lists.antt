@@ -1,7 +1,7 @@
 -- Lists that are read one after another.
 use Rattle.std.proofs.Common.{◌≡◌, ◌∙◌, ◌<◌, ◌≤◌, ℕ, List, [], ◌∷◌, ◌++◌, refl, sym, ap, subst, append-nil, append_assoc, Ok, Err, IsOk, length, drop, take, ◌+◌, Option}
 use Rattle.std.specs.List.{slice_index_or}
-use Rattle.std.proofs.lemmas.List.{take-append-drop, take_all, take_more}
+use Rattle.std.proofs.lemmas.List.{drop_more, take-append-drop, take_all, take_more}
 use Rattle.cni_io.specs.Files.{StoredFiles}
 use Rattle.cni_json.specs.Outcome.{◌>>=◌}
 use Rattle.exec_protocol.specs.Raw.{RawView}
@@ -9,7 +9,6 @@ use Rattle.tool_plan.specs.Causes.{GivesStored, ReachesList, WhereTold}
 use Rattle.tool_plan.specs.Verdict.{Judged, stored_list, stored_lists}
 use Rattle.tool_plan.specs.declared.plan.NoPlan.{NoPlan}
 use Rattle.tool_plan.proofs.Steps.{stops}
-use Rattle.cni_verbs.proofs.Asked.{left_from}
 
 -- what is read of the rest stands behind what was read
 abbrev pub behind : List RawView → Judged (List RawView) → Judged (List RawView)
@@ -58,7 +57,8 @@ front-whole files names front i all before = λ stored told.
     ∙ before stored told [] ∙ ap (λ (raws : List RawView). Ok raws) (append-nil front)
 
 split : (names : List (List ℕ)) (i : ℕ) (name : List ℕ) → i < length names → name ≡ slice_index_or names i name → names ≡ take i names ++ name ∷ drop (i + 1) names
-split names i name lt at = sym (take-append-drop i names) ∙ ap (λ (ns : List (List ℕ)). take i names ++ ns) (left_from names i name lt at)
+split names i name lt at =
+    sym (take-append-drop i names) ∙ ap (λ (ns : List (List ℕ)). take i names ++ ns) (drop_more names i name lt ∙ ap (λ (n : List ℕ). n ∷ drop (i + 1) names) (sym at))
 
 reached : (files : Option StoredFiles) (names : List (List ℕ)) (front : List RawView) (i : ℕ) (name : List ℕ) → i < length names → name ≡ slice_index_or names i name
     → Front files names front i → ReachesList files names name
