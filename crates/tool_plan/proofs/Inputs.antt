@@ -1,6 +1,8 @@
 -- What pod file, lists and packet file come to, one after another.
-use Rattle.std.proofs.Common.{◌≡◌, ◌∙◌, ◌≤◌, ℕ, Bool, true, false, List, inl, inr, refl, sym, ap, subst, arith, Ok, Err, IsOk, Option, Some, None, option_map}
+use Rattle.std.proofs.Common.{◌≡◌, ◌∙◌, ◌+◌, ◌<◌, ◌≤◌, ℕ, Bool, true, false, List, [], ◌∷◌, ◌++◌, length, take, inl, inr, refl, sym, ap, subst, arith, Ok, Err, IsOk, Option, Some, None, option_map}
 use Rattle.std.specs.Bool.{then_some}
+use Rattle.std.specs.List.{slice_index_or}
+use Rattle.std.proofs.lemmas.List.{map-append, take_more}
 use Rattle.cni_io.specs.Files.{StoredFiles}
 use Rattle.cni_json.specs.Outcome.{◌>>=◌}
 use Rattle.exec_protocol.specs.Raw.{RawView}
@@ -133,3 +135,8 @@ mapped false raws = refl
 pub requests-are : (named : Named) (raws : List RawView) (plan : Plan) (requests : Option (List RawView)) → requests ≡ then_some named.requests raws → plan.lists ≡ lists_of raws
     → AreRequestsOf (Files named) plan requests
 requests-are named raws plan requests is lists = ap (option_map lists_of) is ∙ mapped named.requests raws ∙ ap (then_some named.requests) (sym lists)
+
+-- one list more
+pub lists-one_more : (raws : List RawView) (i : ℕ) (raw : RawView) → i < length raws → raw ≡ slice_index_or raws i raw → lists_of (take (i + 1) raws) ≡ lists_of (take i raws) ++ raw.list ∷ []
+lists-one_more raws i raw lt at =
+    ap lists_of (take_more raws i raw lt ∙ ap (λ (r : RawView). take i raws ++ r ∷ []) (sym at)) ∙ map-append (λ (r : RawView). r.list) (take i raws) (raw ∷ [])

@@ -1,6 +1,9 @@
-use Rattle.std.proofs.Common.{◌∙◌, ap, arith, length, sym}
-use Rattle.std.proofs.lemmas.List.{length-map}
+use Rattle.std.proofs.Common.{◌≡◌, ◌∙◌, List, Ok, Err, ap, arith, subst, sym}
 use Rattle.std.proofs.lemmas.Result.{err_from_is_err_and}
+use Rattle.net_conf.specs.declared.list.NetList.{NetList}
+use Rattle.pod_workers.specs.declared.plan.Plan.{Plan}
+use Rattle.tool_plan.specs.Causes.{GivesJudged}
+use Rattle.tool_plan.specs.Verdict.{judged_plan, lists_of}
 use Rattle.tool_plan.proofs.Inputs.{input-made, lists-stop, packets-stop, plan-stops, pods-stop, requests-are, taken_lists, taken_packets, taken_pods}
 use Rattle.tool_plan.proofs.plan.read_input.Goals as goal
 
@@ -38,10 +41,34 @@ returns-in_err-plan-clause-gives g c =
     let p = err_from_is_err_and c.from_residual-in_err-plan.result c.from_residual-in_err-plan.ensures.1 in
     let files = g.F.Files.files c.args.files.now in
     let named = c.args.named.now in
+    let raws = c.in_ok-raws.raws in
     let pods = taken_pods files named c.as_str.result.now c.in_ok-pods.pods c.as_str.ensures c.in_ok-pods.ensures.gives in
-    let lists = taken_lists files (g.F.Files.files c.read_pods.new.files) named c.as_slice.result.now c.in_ok-raws.raws c.as_slice.ensures c.in_ok-pods.ensures.keeps c.in_ok-raws.ensures.gives in
+    let lists = taken_lists files (g.F.Files.files c.read_pods.new.files) named c.as_slice.result.now raws c.as_slice.ensures c.in_ok-pods.ensures.keeps c.in_ok-raws.ensures.gives in
     let packets = taken_packets files (g.F.Files.files c.read_lists.new.files) named c.in_ok-packets.packets (c.in_ok-raws.ensures.keeps ∙ c.in_ok-pods.ensures.keeps) c.in_ok-packets.ensures.gives in
-    ?
+    let shared : c.in_ok-lists.lists ≡ lists_of raws = c.in_ok-lists.ensures.lists ∙ ap lists_of c.as_slice-2.ensures in
+    let none = c.in_err-plan.field-0.0 in
+    let joins = subst (λ (ls : List NetList). GivesJudged {X = Plan} (Err none) (judged_plan named c.in_ok-pods.pods ls)) shared c.in_err-plan.ensures.gives in
+    let stops = plan-stops files (g.F.Files.failure_count c.args.files.now) (g.F.Files.failure_count c.read_packets.new.files) named c.in_ok-pods.pods raws c.in_ok-packets.packets none pods lists
+    packets joins in
+    rw (p.1, p.2) stops
 
 pub returns-clause-gives : goal.returns-clause-gives
-returns-clause-gives g c = ?
+returns-clause-gives g c =
+    let files = g.F.Files.files c.args.files.now in
+    let named = c.args.named.now in
+    let raws = c.in_ok-raws.raws in
+    let pods = taken_pods files named c.as_str.result.now c.in_ok-pods.pods c.as_str.ensures c.in_ok-pods.ensures.gives in
+    let lists = taken_lists files (g.F.Files.files c.read_pods.new.files) named c.as_slice.result.now raws c.as_slice.ensures c.in_ok-pods.ensures.keeps c.in_ok-raws.ensures.gives in
+    let packets = taken_packets files (g.F.Files.files c.read_lists.new.files) named c.in_ok-packets.packets (c.in_ok-raws.ensures.keeps ∙ c.in_ok-pods.ensures.keeps) c.in_ok-packets.ensures.gives in
+    let shared : c.in_ok-lists.lists ≡ lists_of raws = c.in_ok-lists.ensures.lists ∙ ap lists_of c.as_slice-2.ensures in
+    let joins : judged_plan named c.in_ok-pods.pods (lists_of raws) ≡ Ok c.in_ok-plan.plan = ap (judged_plan named c.in_ok-pods.pods) (sym shared) ∙ c.in_ok-plan.ensures.gives in
+    input-made files named c.in_ok-pods.pods raws c.in_ok-packets.packets c.in_ok-plan.plan c.then_some.result c.then_some.ensures pods lists packets joins
+
+pub returns-clause-by : goal.returns-clause-by
+returns-clause-by g c =
+    let raws = c.in_ok-raws.raws in
+    let shared : c.in_ok-lists.lists ≡ lists_of raws = c.in_ok-lists.ensures.lists ∙ ap lists_of c.as_slice-2.ensures in
+    record {
+      requests = requests-are c.args.named.now raws c.in_ok-plan.plan c.then_some.result c.then_some.ensures (c.in_ok-plan.ensures.lists ∙ shared);
+      packets = c.in_ok-packets.ensures.none;
+    }
