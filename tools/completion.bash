@@ -7,7 +7,7 @@ _cnitool() {
     COMPREPLY=()
     case $before,$word in
         --threads,*) mapfile -t COMPREPLY < <(compgen -W "$(echo {1..16})" -- "$word") ;;
-        *,-*) mapfile -t COMPREPLY < <(compgen -W "--threads --stop-at --trace --dump" -- "$word") ;;
+        *,-*) mapfile -t COMPREPLY < <(compgen -W "--threads --stop-at --trace --dump --requests --probe" -- "$word") ;;
     esac
 }
 # a word that is no option is a file's name

@@ -127,7 +127,7 @@ def answers():
             if not ended.stdout.startswith("dalecanvas ") or ended.returncode != 0 or calls != ["version"]:
                 yield f"{command} --version: {ended}"
     readme = (TOP / "README.md").read_text(encoding="utf-8")
-    options = re.findall(r"^\| `(--[a-z-]+(?: N)?)`", readme, re.MULTILINE)
+    options = re.findall(r"^\| `(--[a-z-]+(?: [A-Z]+)?)`", readme, re.MULTILINE)
     if [it for it in options if f"\n  {it} " not in usage]:
         yield f"the usage lacks one of {options}"
 
@@ -135,9 +135,9 @@ def answers():
 def tries():
     with a_checkout() as top:
         above = f"{top.name}/pods.json"
-        ended, calls = run(top, "./try", "--dump", "pods.json", f"../{above}", "none.json")
+        ended, calls = run(top, "./try", "--probe=pods.json", "pods.json", f"../{above}", "none.json")
         whole = os.path.realpath(top / "pods.json")
-        if calls != [f"try --data pods.json={top}/pods.json -- --dump pods.json {whole} none.json"]:
+        if calls != [f"try --data pods.json={top}/pods.json -- --probe={whole} pods.json {whole} none.json"]:
             yield f"try calls {calls}"
         if ended.returncode != 3 or not ended.stdout.startswith("tried") or "nothing is proved" not in ended.stderr:
             yield f"a try: {ended}"

@@ -1,7 +1,7 @@
 //! The program `cnitool`: carries out a pod file's commands on a modelled kernel, and prints what they are answered.
 //!
 //! ```text
-//! cnitool [--threads N] [--stop-at N] [--trace] [--dump] PODS [LIST ..]
+//! cnitool [--threads N] [--stop-at N] [--trace] [--dump] [--requests] [--probe FILE] PODS [LIST ..]
 //! ```
 //!
 //! What it does is `tool_run`'s [`run`], with a gate that holds no thread; here are its words, its files and its

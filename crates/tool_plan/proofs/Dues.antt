@@ -1,5 +1,5 @@
 -- What words and files come to.
-use Rattle.std.proofs.Common.{◌≡◌, ◌∙◌, ℕ, List, [], inl, inr, sym, ap, Option, Some, Ok, Err, Result}
+use Rattle.std.proofs.Common.{◌≡◌, ◌∙◌, ℕ, List, [], inl, inr, refl, sym, ap, subst, Option, Some, Ok, Err, Result}
 use Rattle.std.proofs.lemmas.Option.{same_Some}
 use Rattle.cni_io.specs.Files.{StoredFiles}
 use Rattle.pod_text.specs.declared.asked.Asked.{Asked}
@@ -8,10 +8,11 @@ use Rattle.tool_words.specs.Words.{words_given}
 use Rattle.tool_words.specs.declared.source.Named.{Named}
 use Rattle.tool_words.specs.declared.source.Source.TheVariants.{Files, Generated}
 use Rattle.tool_words.specs.declared.words.Words.{Words}
-use Rattle.tool_plan.specs.Causes.{AreFilesFor, GivesPlan, GivesStored, ReachesFile, files_named}
+use Rattle.tool_plan.specs.Causes.{AreFilesFor, GivesInput, GivesStored, ReachesFile, files_named}
 use Rattle.tool_plan.specs.Dues.{AreFiles, ComesTo, ComesToNoPlan, NameNoFile}
 use Rattle.tool_plan.specs.Seen.{FilesSeen}
-use Rattle.tool_plan.specs.Verdict.{IsAskedBy, asked_of, carry, generated_plan, plan_of_files, verdict_if, verdict_on}
+use Rattle.tool_plan.specs.Verdict.{IsAskedBy, IsInputBy, asked_of, carry, generated_input, input_of_files, verdict_if, verdict_on}
+use Rattle.tool_plan.specs.declared.plan.Input.{Input}
 use Rattle.tool_plan.specs.declared.plan.NoPlan.{NoPlan}
 use Rattle.tool_plan.specs.declared.plan.NoPlan.TheVariants.{Usage, Line, Unread, NoMemory}
 
@@ -32,33 +33,42 @@ told : (named : Named) (files : FilesSeen) (stored : StoredFiles) → AreFilesFo
 told named files stored (inl at) = at
 told named files stored (inr none) = absurd (some_named named none)
 
--- what the reads of a pod file and its lists give
-pub of_files : (named : Named) (files : FilesSeen) (r : Result Plan NoPlan)
-    → GivesStored {X = Plan} (λ plan. plan) files.stored files.failures_before files.failures_now (ReachesFile files.stored (Files named)) (λ stored. plan_of_files stored named) r → GivesPlan (Files named) files r
-of_files named files (Ok plan) gives = λ stored at. gives stored (told named files stored at)
+-- what the reads of files give
+pub of_files : (named : Named) (files : FilesSeen) (r : Result Input NoPlan)
+    → GivesStored {X = Input} (λ input. input) files.stored files.failures_before files.failures_now (ReachesFile files.stored (Files named)) (λ stored. input_of_files stored named) r
+    → GivesInput (Files named) files r
+of_files named files (Ok input) gives = λ stored at. gives stored (told named files stored at)
 of_files named files (Err Usage) gives = gives
 of_files named files (Err (Line text)) gives = λ stored at. gives stored (told named files stored at)
 of_files named files (Err (Unread text)) gives = gives
 of_files named files (Err NoMemory) gives = tt
 
 -- what the generator gives, whatever the files
-pub of_generator : (count : ℕ) (stop_at : Option ℕ) (files : FilesSeen) (plan : Plan) → plan ≡ generated_plan stop_at count → GivesPlan (Generated count stop_at) files (Ok plan)
-of_generator count stop_at files plan made = λ stored at. ap (λ (p : Plan). Ok p) (sym made)
+pub of_generator : (count : ℕ) (stop_at : Option ℕ) (files : FilesSeen) (input : Input) → input ≡ generated_input stop_at count → GivesInput (Generated count stop_at) files (Ok input)
+of_generator count stop_at files input made = λ stored at. ap (λ (i : Input). Ok i) (sym made)
 
-pub asked_by : (by : Words) (asked : Asked) → asked ≡ asked_of by → IsAskedBy by asked
-asked_by by asked is = record {
-  commands = ap (λ (a : Asked). a.commands) is;
-  trace = ap (λ (a : Asked). a.trace) is;
-  dump = ap (λ (a : Asked). a.dump) is;
-}
+pub by_generator : (count : ℕ) (stop_at : Option ℕ) (input : Input) → input ≡ generated_input stop_at count → IsInputBy (Generated count stop_at) input
+by_generator count stop_at input made = subst (IsInputBy (Generated count stop_at)) (sym made) (record { requests = refl; packets = λ none. refl })
 
-pub comes_to_plan : (given : List (List ℕ)) (by : Words) (files : FilesSeen) (plan : Plan) (asked : Asked) → words_given given ≡ Some by → asked ≡ asked_of by
-    → GivesPlan by.source files (Ok plan) → ComesTo given files (carry plan asked)
-comes_to_plan given by files plan asked is asks gives = λ stored at.
-    ap (λ (o : Option Words). verdict_if o stored) is ∙ ap (verdict_on by) (gives stored (files_for given by files stored is at)) ∙ ap (carry plan) (sym asks)
+pub asked_by : (by : Words) (input : Input) (plan : Plan) (asked : Asked) → plan ≡ input.plan → asked ≡ asked_of by input → IsInputBy by.source input → IsAskedBy by plan asked
+asked_by by input plan asked same is given =
+    subst (λ (p : Plan). IsAskedBy by p asked) (sym same) (subst (IsAskedBy by input.plan) (sym is) (record {
+      commands = refl;
+      requests = given.requests;
+      trace = refl;
+      dump = refl;
+      packets = given.packets;
+    }))
+
+pub comes_to_plan : (given : List (List ℕ)) (by : Words) (files : FilesSeen) (input : Input) (plan : Plan) (asked : Asked) → words_given given ≡ Some by → plan ≡ input.plan → asked ≡ asked_of by input
+    → GivesInput by.source files (Ok input) → ComesTo given files (carry plan asked)
+comes_to_plan given by files input plan asked is same asks gives = λ stored at.
+    let given_input : verdict_if (Some by) stored ≡ carry input.plan (asked_of by input) = ap (verdict_on by) (gives stored (files_for given by files stored is at)) in
+    subst (λ (p : Plan). verdict_if (words_given given) stored ≡ carry p asked) (sym same)
+    (subst (λ (a : Asked). verdict_if (words_given given) stored ≡ carry input.plan a) (sym asks) (ap (λ (o : Option Words). verdict_if o stored) is ∙ given_input))
 
 pub comes_to_no_plan : (given : List (List ℕ)) (by : Words) (files : FilesSeen) (none : NoPlan) → words_given given ≡ Some by
-    → GivesPlan by.source files (Err none) → ComesToNoPlan given files none
+    → GivesInput by.source files (Err none) → ComesToNoPlan given files none
 comes_to_no_plan given by files Usage is gives = absurd gives
 comes_to_no_plan given by files (Line text) is gives = record {
   by = by;

@@ -1,23 +1,26 @@
 -- What a step of reading gives, and why it gives nothing.
-use Rattle.std.specs.Prelude.{◌≡◌, ◌⊎◌, ℕ, List, [], ◌∷◌, ◌++◌, Option, Some, Result, Ok, Err, IsOk, ⊤}
+use Rattle.std.specs.Prelude.{◌≡◌, ◌⊎◌, ℕ, List, [], ◌∷◌, ◌++◌, Option, Some, option_to_list, Result, Ok, Err, IsOk, ⊤}
 use Rattle.cni_io.specs.Failures.{Rose}
 use Rattle.cni_io.specs.Files.{StoredFiles}
-use Rattle.net_conf.specs.List.{list_of}
-use Rattle.net_conf.specs.declared.list.NetList.{NetList}
 use Rattle.pod_file.specs.PodFile.{pods_of}
 use Rattle.pod_file.specs.declared.pods.Pods.{Pods}
-use Rattle.pod_workers.specs.declared.plan.Plan.{Plan}
+use Rattle.tool_words.specs.declared.source.Named.{Named}
 use Rattle.tool_words.specs.declared.source.Source.{Source}
 use Rattle.tool_words.specs.declared.source.Source.TheVariants.{Files, Generated}
 use Rattle.tool_plan.specs.Lines.{unread_line}
 use Rattle.tool_plan.specs.Seen.{FilesSeen}
-use Rattle.tool_plan.specs.Verdict.{Judged, plan_of, stored_lists, stored_pods}
+use Rattle.tool_plan.specs.Verdict.{Judged, input_of, stored_lists, stored_pods}
+use Rattle.tool_plan.specs.declared.plan.Input.{Input}
 use Rattle.tool_plan.specs.declared.plan.NoPlan.{NoPlan}
 use Rattle.tool_plan.specs.declared.plan.NoPlan.TheVariants.{Usage, Line, Unread, NoMemory}
 
 -- this holds of the files, where they are told
 abbrev pub WhereTold : Option StoredFiles → (StoredFiles → Type 0) → Type 0
 WhereTold files P = (stored : StoredFiles) → files ≡ Some stored → P stored
+
+-- the pod file is taken, where the files are told
+abbrev pub AreTakenPods : Option StoredFiles → Named → Type 0
+AreTakenPods files named = WhereTold files (λ stored. IsOk (stored_pods stored named.pods))
 
 -- reading gets to this one of the lists: each before it is taken, where the files are told
 pub record ReachesList (files : Option StoredFiles) (names : List (List ℕ)) (file : List ℕ) : Type 0 where
@@ -26,10 +29,15 @@ pub record ReachesList (files : Option StoredFiles) (names : List (List ℕ)) (f
   pub names_are : names ≡ before ++ file ∷ after
   pub taken : WhereTold files (λ stored. IsOk (stored_lists stored before))
 
--- reading gets to this file: the pod file; or one of the lists, and the pod file is taken, where the files are told
+-- reading gets to the packet file, which is this one: all lists are taken, where the files are told
+abbrev pub ReachesPackets : Option StoredFiles → Named → List ℕ → Type 0
+ReachesPackets files named file =
+    (named.packets ≡ Some file) × WhereTold files (λ stored. IsOk (stored_lists stored named.lists))
+
+-- reading gets to this file: the pod file; or, behind it, one of the lists, or the packet file
 abbrev pub ReachesFile : Option StoredFiles → Source → List ℕ → Type 0
 ReachesFile files (Files named) file = (file ≡ named.pods)
-    ⊎ (WhereTold files (λ stored. IsOk (stored_pods stored named.pods)) × ReachesList files named.lists file)
+    ⊎ (AreTakenPods files named × (ReachesList files named.lists file ⊎ ReachesPackets files named file))
 ReachesFile files (Generated count stop_at) file = ⊥
 
 -- a read failed, and the line names a file that reading gets to
@@ -58,30 +66,27 @@ GivesJudged (Err (Line line)) wanted = wanted ≡ Err line.items
 GivesJudged (Err (Unread line)) wanted = ⊥
 GivesJudged (Err NoMemory) wanted = ⊤
 
--- the files that are named: the pod file and the lists; where pods are generated, none
+-- the files that are named: the pod file, the lists and the packet file; where pods are generated, none
 abbrev pub files_named : Source → List (List ℕ)
-files_named (Files named) = named.pods ∷ named.lists
+files_named (Files named) = named.pods ∷ named.lists ++ option_to_list named.packets
 files_named (Generated count stop_at) = []
 
 -- these are the files, as far as any is named: they are told, or none is named
 abbrev pub AreFilesFor : Source → FilesSeen → StoredFiles → Type 0
 AreFilesFor source files stored = (files.stored ≡ Some stored) ⊎ (files_named source ≡ [])
 
--- with any such files the source has this plan, or this line that tells why there is none; or a read failed, of a named
--- file that reading gets to; or memory ran out
-abbrev pub GivesPlan : Source → FilesSeen → Result Plan NoPlan → Type 0
-GivesPlan source files (Ok plan) =
-    (stored : StoredFiles) → AreFilesFor source files stored → plan_of stored source ≡ Ok plan
-GivesPlan source files (Err Usage) = ⊥
-GivesPlan source files (Err (Line line)) =
-    (stored : StoredFiles) → AreFilesFor source files stored → plan_of stored source ≡ Err line.items
-GivesPlan source files (Err (Unread line)) =
+-- with any such files the source has this input, or this line that tells why there is none; or a read failed, of a
+-- named file that reading gets to; or memory ran out
+abbrev pub GivesInput : Source → FilesSeen → Result Input NoPlan → Type 0
+GivesInput source files (Ok input) =
+    (stored : StoredFiles) → AreFilesFor source files stored → input_of stored source ≡ Ok input
+GivesInput source files (Err Usage) = ⊥
+GivesInput source files (Err (Line line)) =
+    (stored : StoredFiles) → AreFilesFor source files stored → input_of stored source ≡ Err line.items
+GivesInput source files (Err (Unread line)) =
     IsUnread (ReachesFile files.stored source) files.failures_before files.failures_now line.items
-GivesPlan source files (Err NoMemory) = ⊤
+GivesInput source files (Err NoMemory) = ⊤
 
--- the list was read from some bytes
-abbrev pub IsReadList : NetList → Type 0
-IsReadList list = (bytes : List ℕ) × (list_of bytes ≡ Ok list)
-
+-- the pods were read from some bytes
 abbrev pub IsReadPods : Pods → Type 0
 IsReadPods pods = (bytes : List ℕ) × (pods_of bytes ≡ Ok pods)

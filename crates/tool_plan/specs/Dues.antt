@@ -41,7 +41,7 @@ pub record IsDueOf (words : List (List ℕ)) (files : FilesSeen) (due : Due) : T
   pub words_are : words_given words ≡ Some by
   pub threads_are : due.threads ≡ by.threads
   pub comes : ComesTo words files (carry due.plan due.asked)
-  pub asked_is : IsAskedBy by due.asked
+  pub asked_is : IsAskedBy by due.plan due.asked
   pub well_formed : IsWellFormed due.plan
   pub some_threads : 1 ≤ due.threads
 

@@ -7,6 +7,8 @@ use Rattle.cni_errors.specs.declared.error_kind.ErrorKind.{ErrorKind}
 use Rattle.cni_errors.specs.declared.error_kind.ErrorKind.TheVariants as kinds
 use Rattle.net_conf.specs.declared.error.ConfError.{ConfError}
 use Rattle.net_conf.specs.declared.error.ConfError.TheVariants as conf
+use Rattle.packet_probe.specs.declared.error.PacketsError.{PacketsError}
+use Rattle.packet_probe.specs.declared.error.PacketsError.TheVariants as packets
 use Rattle.pod_file.specs.declared.error.PodError.{PodError}
 use Rattle.pod_file.specs.declared.error.PodError.TheVariants as pods
 use Rattle.pod_workers.specs.declared.plan.PlanError.{PlanError}
@@ -22,6 +24,9 @@ invalid_list why = error_about kinds.InvalidList why
 abbrev pub invalid_pods : List ℕ → CniError
 invalid_pods why = error_about kinds.InvalidPodFile why
 
+abbrev pub invalid_packets : List ℕ → CniError
+invalid_packets why = error_about kinds.InvalidPacketFile why
+
 abbrev pub list_error : ConfError → CniError
 list_error (conf.Version found) = error_about kinds.IncompatibleVersion found
 list_error (conf.Unsupported key value) = plain_error kinds.UnsupportedField (message_of_field key value)
@@ -35,6 +40,13 @@ pods_error pods.Number = invalid_pods (codes "number")
 pods_error (pods.Shape path) = invalid_pods path
 pods_error (pods.Alone round) = invalid_pods (codes "rounds[" ++ (decimal round ++ codes "] is not alone"))
 pods_error pods.NoMemory = memory_error
+
+abbrev pub packets_error : PacketsError → CniError
+packets_error packets.Decode = titled_error kinds.DecodingFailed
+packets_error packets.Number = invalid_packets (codes "number")
+packets_error packets.List = invalid_packets (codes "list")
+packets_error (packets.Packet at) = invalid_packets (codes "packets[" ++ (decimal at ++ codes "]"))
+packets_error packets.NoMemory = memory_error
 
 abbrev pub plan_error : PlanError → CniError
 plan_error (plans.SameName place) = invalid_list (codes "name")

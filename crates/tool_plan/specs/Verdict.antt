@@ -1,12 +1,15 @@
 -- What words and files come to, before anything runs.
-use Rattle.std.specs.Prelude.{◌≡◌, ℕ, List, [], ◌∷◌, codes, Option, Some, None, Result, Ok, Err}
+use Rattle.std.specs.Prelude.{◌≡◌, ℕ, Bool, false, List, [], ◌∷◌, codes, map, Option, Some, None, option_map, Result, Ok, Err}
+use Rattle.std.specs.Bool.{then_some}
 use Rattle.cni_io.specs.Files.{StoredFiles, file_of}
 use Rattle.cni_io.specs.declared.files.FileFault.{FileFault}
 use Rattle.cni_io.specs.declared.files.FileFault.TheVariants as fault
 use Rattle.cni_json.specs.Outcome.{◌>>=◌}
 use Rattle.cni_result.specs.declared.error.CniError.{CniError}
-use Rattle.net_conf.specs.List.{list_of}
+use Rattle.exec_protocol.specs.Raw.{RawView, raw_of}
 use Rattle.net_conf.specs.declared.list.NetList.{NetList}
+use Rattle.packet_probe.specs.PacketFile.{packets_of}
+use Rattle.packet_probe.specs.declared.packet.Packet.{Packet}
 use Rattle.pod_file.specs.Generator.{generated}
 use Rattle.pod_file.specs.PodFile.{pods_of}
 use Rattle.pod_file.specs.declared.pods.Pods.{Pods}
@@ -21,7 +24,8 @@ use Rattle.tool_words.specs.declared.source.Source.{Source}
 use Rattle.tool_words.specs.declared.source.Source.TheVariants.{Files, Generated}
 use Rattle.tool_words.specs.declared.words.Words.{Words}
 use Rattle.tool_plan.specs.Lines.{reason_line, unread_line, error_line}
-use Rattle.tool_plan.specs.Refusals.{list_error, pods_error, plan_error, blamed_file}
+use Rattle.tool_plan.specs.Refusals.{list_error, packets_error, pods_error, plan_error, blamed_file}
+use Rattle.tool_plan.specs.declared.plan.Input.{Input}
 
 -- a value, or the line that tells why there is none
 abbrev pub Judged : Type 0 → Type 0
@@ -53,22 +57,34 @@ judged_by of_bytes error_of file bytes = judged (λ e. error_line (error_of e) f
 abbrev pub judged_pods : List ℕ → List ℕ → Judged Pods
 judged_pods file bytes = judged_by pods_of pods_error file bytes
 
-abbrev pub judged_list : List ℕ → List ℕ → Judged NetList
-judged_list file bytes = judged_by list_of list_error file bytes
+-- a list with its plugins' objects
+abbrev pub judged_list : List ℕ → List ℕ → Judged RawView
+judged_list file bytes = judged_by raw_of list_error file bytes
+
+abbrev pub judged_packets : List ℕ → List ℕ → Judged (List Packet)
+judged_packets file bytes = judged_by packets_of packets_error file bytes
 
 unfoldable pub stored_pods : StoredFiles → List ℕ → Judged Pods
 stored_pods files file = stored_bytes files file >>= judged_pods file
 
-unfoldable pub stored_list : StoredFiles → List ℕ → Judged NetList
+unfoldable pub stored_list : StoredFiles → List ℕ → Judged RawView
 stored_list files file = stored_bytes files file >>= judged_list file
 
 -- each list in order, up to the first that is refused
-abbrev pub stored_lists : StoredFiles → List (List ℕ) → Judged (List NetList)
+abbrev pub stored_lists : StoredFiles → List (List ℕ) → Judged (List RawView)
 stored_lists files [] = Ok []
 stored_lists files (name ∷ names) = do
-  list ← stored_list files name
-  lists ← stored_lists files names
-  Ok (list ∷ lists)
+  raw ← stored_list files name
+  raws ← stored_lists files names
+  Ok (raw ∷ raws)
+
+-- the packets of the file that is named; none where none is
+unfoldable pub stored_packets : StoredFiles → Option (List ℕ) → Judged (List Packet)
+stored_packets files None = Ok []
+stored_packets files (Some file) = stored_bytes files file >>= judged_packets file
+
+abbrev pub lists_of : List RawView → List NetList
+lists_of raws = map (λ raw. raw.list) raws
 
 abbrev pub plan_from : Named → Pods → List NetList → Plan
 plan_from named pods lists = record { lists = lists; pods = pods; stop_at = named.stop_at }
@@ -78,12 +94,15 @@ unfoldable pub judged_plan : Named → Pods → List NetList → Judged Plan
 judged_plan named pods lists = judged (λ e. error_line (plan_error e) (blamed_file named.pods named.lists e))
     (joined (plan_from named pods lists))
 
--- the pod file, then each list, then the plan
-unfoldable pub plan_of_files : StoredFiles → Named → Judged Plan
-plan_of_files files named = do
+-- the pod file, then each list, then the packet file, then the plan; the lists' objects are kept where requests are
+-- asked for
+unfoldable pub input_of_files : StoredFiles → Named → Judged Input
+input_of_files files named = do
   pods ← stored_pods files named.pods
-  lists ← stored_lists files named.lists
-  judged_plan named pods lists
+  raws ← stored_lists files named.lists
+  packets ← stored_packets files named.packets
+  plan ← judged_plan named pods (lists_of raws)
+  Ok (record { plan = plan; requests = then_some named.requests raws; packets = packets })
 
 -- the plan of so many generated pods
 unfoldable pub generated_plan : Option ℕ → ℕ → Plan
@@ -93,29 +112,63 @@ generated_plan stop_at count = let made = generated count in record {
   stop_at = stop_at;
 }
 
--- the plan of a pod file, or of generated pods, on which no file has a say
-abbrev pub plan_of : StoredFiles → Source → Judged Plan
-plan_of files (Files named) = plan_of_files files named
-plan_of files (Generated count stop_at) = Ok (generated_plan stop_at count)
+-- generated pods have no requests and no packets
+abbrev pub generated_input : Option ℕ → ℕ → Input
+generated_input stop_at count = record { plan = generated_plan stop_at count; requests = None; packets = [] }
+
+-- the input of files, or of generated pods, on which no file has a say
+abbrev pub input_of : StoredFiles → Source → Judged Input
+input_of files (Files named) = input_of_files files named
+input_of files (Generated count stop_at) = Ok (generated_input stop_at count)
 
 -- what is printed of the commands: generated ones are many, and have one line of numbers
 abbrev pub command_part_of : Source → CommandPart
 command_part_of (Files named) = Lines
 command_part_of (Generated count stop_at) = Summary
 
--- what the words ask to be printed
-abbrev pub asked_of : Words → Asked
-asked_of words = record {
+-- what is to be printed of this input
+abbrev pub asked_of : Words → Input → Asked
+asked_of words input = record {
   commands = command_part_of words.source;
+  requests = input.requests;
   trace = words.trace;
   dump = words.dump;
+  packets = input.packets;
 }
 
--- this is printed, as the words say, whatever the files
-pub record IsAskedBy (words : Words) (asked : Asked) : Type 0 where
+-- ---- what the words say of this, whatever the files
+
+-- requests are asked for
+abbrev pub asks_for_requests : Source → Bool
+asks_for_requests (Files named) = named.requests
+asks_for_requests (Generated count stop_at) = false
+
+-- the packet file that is named
+abbrev pub packets_named : Source → Option (List ℕ)
+packets_named (Files named) = named.packets
+packets_named (Generated count stop_at) = None
+
+-- where requests are asked for, these are the plan's lists with their plugins' objects, and else none
+abbrev pub AreRequestsOf : Source → Plan → Option (List RawView) → Type 0
+AreRequestsOf source plan raws = option_map lists_of raws ≡ then_some (asks_for_requests source) plan.lists
+
+-- without a packet file there are no packets
+abbrev pub ArePacketsOf : Source → List Packet → Type 0
+ArePacketsOf source packets = packets_named source ≡ None → packets ≡ []
+
+pub record IsInputBy (source : Source) (input : Input) : Type 0 where
+  pub requests : AreRequestsOf source input.plan input.requests
+  pub packets : ArePacketsOf source input.packets
+
+-- this is to be printed of the plan, as the words say, whatever the files
+pub record IsAskedBy (words : Words) (plan : Plan) (asked : Asked) : Type 0 where
   pub commands : asked.commands ≡ command_part_of words.source
+  pub requests : AreRequestsOf words.source plan asked.requests
   pub trace : asked.trace ≡ words.trace
   pub dump : asked.dump ≡ words.dump
+  pub packets : ArePacketsOf words.source asked.packets
+
+-- ---- what words and files come to
 
 -- the words aren't taken; or a line tells what is refused; or a plan is carried out, and this is printed of it
 pub data Verdict : Type 0 where
@@ -123,13 +176,13 @@ pub data Verdict : Type 0 where
   line : List ℕ → Verdict
   carry : Plan → Asked → Verdict
 
-abbrev pub verdict_on : Words → Judged Plan → Verdict
-verdict_on words (Ok plan) = carry plan (asked_of words)
+abbrev pub verdict_on : Words → Judged Input → Verdict
+verdict_on words (Ok input) = carry input.plan (asked_of words input)
 verdict_on words (Err text) = line text
 
 abbrev pub verdict_if : Option Words → StoredFiles → Verdict
 verdict_if None files = usage
-verdict_if (Some words) files = verdict_on words (plan_of files words.source)
+verdict_if (Some words) files = verdict_on words (input_of files words.source)
 
 abbrev pub verdict_of : List (List ℕ) → StoredFiles → Verdict
 verdict_of words files = verdict_if (words_given words) files

@@ -3,14 +3,14 @@
 ghost use Rattle.std.specs.Prelude.{◌≡◌, [], IfOk};
 ghost use Rattle.pod_workers.specs.Plans.{IsWellFormed};
 ghost use Rattle.tool_words.specs.Words.{IsWithinLimits, words_given};
-ghost use Rattle.tool_plan.specs.Causes.{GivesPlan, files_named};
+ghost use Rattle.tool_plan.specs.Causes.{GivesInput, files_named};
 ghost use Rattle.tool_plan.specs.Dues.{ComesToDue, NameNoFile};
 ghost use Rattle.tool_plan.specs.Seen.{files_seen};
-ghost use Rattle.tool_plan.specs.Verdict.{IsAskedBy, asked_of, command_part_of};
+ghost use Rattle.tool_plan.specs.Verdict.{IsInputBy, asked_of, command_part_of};
 ghost use Rattle.tool_words.specs.Source.{IsSourceWithin};
 
-use crate::generated::generated_plan;
-use crate::plan::{NoPlan, read_plan};
+use crate::generated::generated_input;
+use crate::plan::{Input, NoPlan, read_input};
 use cni_addr::Text;
 use cni_io::Files;
 use pod_text::{Asked, CommandPart};
@@ -29,7 +29,7 @@ pub struct Due {
 }
 
 /// Reads the words and then the files that they name, if they name any: the pod file first, then the network lists in
-/// their order, up to the first that is refused or can't be read.
+/// their order, then the packet file, up to the first that is refused or can't be read.
 pub fn read_due<F: Files>(alloc: Global, words: &[Text], files: &mut F) -> Result<Due, NoPlan>
     ensures comes { ComesToDue words.now (files_seen F.files F.failure_count files.old files.new) result }
     ensures keeps { F.files files.new ≡ F.files files.old }
@@ -55,37 +55,47 @@ fn read_due_of<F: Files>(
     ensures keeps { F.files files.new ≡ F.files files.old }
     ensures untouched { NameNoFile given.now → files.new ≡ files.old }
 {
-    let plan = plan_for(alloc, files, &words.source)?;
-    Ok(Due {
-        threads: words.threads,
-        plan,
-        asked: asked_of(&words),
-    })
+    let input = input_for(alloc, files, &words.source)?;
+    Ok(due_of(&words, input))
 }
 
-/// The plan that the source asks for, from files or of generated pods.
-#[tactic(auto, using(crate::proofs::Dues::of_files, crate::proofs::Dues::of_generator, crate::proofs::Dues::some_named))]
-fn plan_for<F: Files>(alloc: Global, files: &mut F, source: &Source) -> Result<Plan, NoPlan>
+/// The input that the source asks for, from files or of generated pods.
+#[tactic(auto, using(crate::proofs::Dues::of_files, crate::proofs::Dues::of_generator, crate::proofs::Dues::by_generator, crate::proofs::Dues::some_named))]
+fn input_for<F: Files>(alloc: Global, files: &mut F, source: &Source) -> Result<Input, NoPlan>
     requires { IsSourceWithin source.now }
-    ensures gives { GivesPlan source.now (files_seen F.files F.failure_count files.old files.new) result }
-    ensures well_formed { IfOk result IsWellFormed }
+    ensures gives { GivesInput source.now (files_seen F.files F.failure_count files.old files.new) result }
+    ensures by { IfOk result (IsInputBy source.now) }
+    ensures well_formed { IfOk result (λ input. IsWellFormed input.plan) }
     ensures keeps { F.files files.new ≡ F.files files.old }
     ensures untouched { files_named source.now ≡ [] → files.new ≡ files.old }
 {
     match source {
-        Source::Files(named) => read_plan(alloc, files, named),
-        Source::Generated { count, stop_at } => Ok(generated_plan(alloc, *count, *stop_at)?),
+        Source::Files(named) => read_input(alloc, files, named),
+        Source::Generated { count, stop_at } => Ok(generated_input(alloc, *count, *stop_at)?),
     }
 }
 
-/// What the words ask to be printed.
-fn asked_of(words: &Words) -> Asked
-    ensures { result ≡ asked_of words.now }
+/// What the words ask for of this input.
+fn due_of(words: &Words, input: Input) -> Due
+    ensures threads { result.threads ≡ words.now.threads }
+    ensures plan { result.plan ≡ input.plan }
+    ensures asked { result.asked ≡ asked_of words.now input }
 {
-    Asked {
-        commands: command_part_of(&words.source),
-        trace: words.trace,
-        dump: words.dump,
+    let Input {
+        plan,
+        requests,
+        packets,
+    } = input;
+    Due {
+        threads: words.threads,
+        plan,
+        asked: Asked {
+            commands: command_part_of(&words.source),
+            requests,
+            trace: words.trace,
+            dump: words.dump,
+            packets,
+        },
     }
 }
 

@@ -2,22 +2,23 @@
 //! gets it by calling it.
 
 ghost use Rattle.std.specs.Prelude.{◌≡◌, ◌≤◌, ℕ, All, Ok, Option};
+ghost use Rattle.net_conf.specs.WellFormed.{IsWellFormedList};
 ghost use Rattle.pod_workers.specs.Join.{joined};
 ghost use Rattle.pod_workers.specs.Plans.{IsWellFormed};
 ghost use Rattle.pod_workers.specs.declared.plan.Plan.{Plan};
-ghost use Rattle.tool_plan.specs.Causes.{IsReadList, IsReadPods};
+ghost use Rattle.tool_plan.specs.Causes.{IsReadPods};
 ghost use Rattle.tool_plan.specs.Verdict.{generated_plan};
 ghost use Rattle.tool_words.specs.Command.{most_pods};
 
-use net_conf::network_list_laws;
 use pod_file::{generator_laws, pod_file_laws};
 use pod_workers::joined_plans_are_well_formed;
 
-/// Where lists and pods that were read make a plan, it is well formed.
+/// Where well-formed lists, and pods that were read, make a plan, it has these lists and is well formed.
 pub(crate) fn read_plans_are_well_formed()
-    ensures { (p q : Plan) → All IsReadList p.lists → IsReadPods p.pods → joined p ≡ Ok q → IsWellFormed q }
+    ensures lists { (p q : Plan) → joined p ≡ Ok q → q.lists ≡ p.lists }
+    ensures well_formed { (p q : Plan) → All IsWellFormedList p.lists → IsReadPods p.pods → joined p ≡ Ok q
+        → IsWellFormed q }
 {
-    network_list_laws();
     pod_file_laws();
     joined_plans_are_well_formed();
 }

@@ -1,18 +1,21 @@
 //! The plan that the files come to, or why there is none.
 
-ghost use Rattle.std.specs.Prelude.{◌≡◌, ◌≤◌, ◌<◌, ◌^◌, IfOk, All, length};
+ghost use Rattle.std.specs.Prelude.{◌≡◌, ◌≤◌, [], None, Some, IfOk, All, length};
+ghost use Rattle.net_conf.specs.WellFormed.{IsWellFormedList};
 ghost use Rattle.pod_workers.specs.Plans.{IsWellFormed};
 ghost use Rattle.tool_words.specs.Command.{most_lists};
 ghost use Rattle.tool_words.specs.declared.source.Source.TheVariants.{Files};
-ghost use Rattle.tool_plan.specs.Causes.{GivesJudged, GivesStored, IsReadList, IsReadPods, ReachesFile, ReachesList};
-ghost use Rattle.tool_plan.specs.Verdict.{stored_bytes, stored_list, stored_lists, plan_of_files, stored_pods, judged_list, judged_plan, judged_pods};
+ghost use Rattle.tool_plan.specs.Causes.{GivesJudged, GivesStored, IsReadPods, ReachesFile, ReachesList};
+ghost use Rattle.tool_plan.specs.Verdict.{IsInputBy, input_of_files, judged_list, judged_packets, judged_plan, judged_pods, lists_of, stored_bytes, stored_list, stored_lists, stored_packets, stored_pods};
 
 use crate::laws::read_plans_are_well_formed;
 use crate::lines::{error_line, reason_line};
-use crate::refusals::{blamed_file, list_error, plan_error, pods_error};
-use cni_addr::{Items, NoMemory, RefCounted, Text};
+use crate::refusals::{blamed_file, list_error, packets_error, plan_error, pods_error};
+use cni_addr::{Duplicate, Items, NoMemory, RefCounted, Text};
 use cni_io::{FileFault, Files};
+use exec_protocol::RawList;
 use net_conf::{ConfError, NetList};
+use packet_probe::{Packet, PacketsError};
 use pod_file::{PodError, Pods};
 use pod_workers::Plan;
 use std::alloc::Global;
@@ -20,6 +23,15 @@ use tool_words::Named;
 
 /// The most bytes that a file may have.
 const MOST_BYTES: u64 = 16_777_216;
+
+/// A plan, and what is to be printed of it that words alone don't say.
+#[derive(Drop)]
+pub struct Input {
+    pub plan: Plan,
+    /// The plan's lists with their plugins' objects, where requests are asked for.
+    pub requests: Option<Items<RawList>>,
+    pub packets: Items<Packet>,
+}
 
 /// Why there is nothing to carry out.
 #[derive(Drop)]
@@ -44,26 +56,32 @@ impl From<NoMemory> for NoPlan {
     }
 }
 
-/// Reads the pod file, then each network list in order, and joins them.
-#[tactic(auto, using(crate::proofs::Stopping::stopping), unfolding(crate::specs::Verdict::plan_of_files))]
-pub(crate) fn read_plan<F: Files>(
+/// Reads the pod file, then each network list in order, then the packet file if one is named, and joins lists and pods.
+pub(crate) fn read_input<F: Files>(
     alloc: Global,
     files: &mut F,
     named: &Named,
-) -> Result<Plan, NoPlan>
+) -> Result<Input, NoPlan>
     requires { length named.now.lists ≤ most_lists }
-    ensures gives { GivesStored (λ plan. plan) (F.files files.old)
+    ensures gives { GivesStored (λ input. input) (F.files files.old)
         (F.failure_count files.old) (F.failure_count files.new)
         (ReachesFile (F.files files.old) (Files named.now))
-        (λ stored. plan_of_files stored named.now) result }
-    ensures well_formed { IfOk result IsWellFormed }
+        (λ stored. input_of_files stored named.now) result }
+    ensures by { IfOk result (IsInputBy (Files named.now)) }
+    ensures well_formed { IfOk result (λ input. IsWellFormed input.plan) }
     ensures keeps { F.files files.new ≡ F.files files.old }
     ensures later { F.failure_count files.old ≤ F.failure_count files.new }
-    ensures bounded { F.failure_count files.new < 2 ^ 64 }
 {
     let pods = read_pods(alloc, files, named.pods.as_str())?;
-    let lists = read_lists(alloc, files, named.lists.as_slice())?;
-    join(alloc, named, pods, lists)
+    let raws = read_lists(alloc, files, named.lists.as_slice())?;
+    let packets = read_packets(alloc, files, &named.packets)?;
+    let lists = shared_lists(alloc, raws.as_slice())?;
+    let plan = join(alloc, named, pods, lists)?;
+    Ok(Input {
+        plan,
+        requests: named.requests.then_some(raws),
+        packets,
+    })
 }
 
 #[tactic(auto, using(crate::proofs::Stopping::stopping), unfolding(crate::specs::Verdict::judged_plan))]
@@ -75,8 +93,9 @@ fn join(
 ) -> Result<Plan, NoPlan>
     requires few { length lists ≤ most_lists }
     requires pods_read { IsReadPods pods }
-    requires lists_read { All IsReadList lists }
+    requires lists_formed { All IsWellFormedList lists }
     ensures gives { GivesJudged result (judged_plan named.now pods lists) }
+    ensures lists { IfOk result (λ plan. plan.lists ≡ lists) }
     ensures well_formed { IfOk result IsWellFormed }
 {
     read_plans_are_well_formed();
@@ -97,7 +116,6 @@ fn read_pods<F: Files>(alloc: Global, files: &mut F, file: &str) -> Result<Pods,
     ensures read { IfOk result IsReadPods }
     ensures keeps { F.files files.new ≡ F.files files.old }
     ensures later { F.failure_count files.old ≤ F.failure_count files.new }
-    ensures bounded { F.failure_count files.new < 2 ^ 64 }
 {
     let bytes = read_bytes(alloc, files, file)?;
     pods_of_bytes(alloc, bytes.as_slice(), file)
@@ -119,47 +137,102 @@ fn read_lists<F: Files>(
     alloc: Global,
     files: &mut F,
     names: &[Text],
-) -> Result<Items<RefCounted<NetList>>, NoPlan>
-    ensures gives { GivesStored (λ lists. lists) (F.files files.old)
+) -> Result<Items<RawList>, NoPlan>
+    ensures gives { GivesStored (λ raws. raws) (F.files files.old)
         (F.failure_count files.old) (F.failure_count files.new)
         (ReachesList (F.files files.old) names.now) (λ stored. stored_lists stored names.now) result }
-    ensures read { IfOk result (All IsReadList) }
-    ensures count { IfOk result (λ lists. length lists ≡ length names.now) }
+    ensures count { IfOk result (λ raws. length raws ≡ length names.now) }
     ensures keeps { F.files files.new ≡ F.files files.old }
     ensures later { F.failure_count files.old ≤ F.failure_count files.new }
-    ensures bounded { F.failure_count files.old < 2 ^ 64 → F.failure_count files.new < 2 ^ 64 }
 {
-    let mut lists = Items::new(alloc);
+    let mut raws = Items::new(alloc);
     for name in names {
-        let list = read_list(alloc, files, name.as_str())?;
-        lists.push(RefCounted::of(alloc, list)?)?;
+        let raw = read_list(alloc, files, name.as_str())?;
+        raws.push(raw)?;
     }
-    Ok(lists)
+    Ok(raws)
 }
 
 #[tactic(auto, using(crate::proofs::Stopping::stopping), unfolding(crate::specs::Verdict::stored_list))]
-fn read_list<F: Files>(alloc: Global, files: &mut F, file: &str) -> Result<NetList, NoPlan>
-    ensures gives { GivesStored (λ list. list) (F.files files.old)
+fn read_list<F: Files>(alloc: Global, files: &mut F, file: &str) -> Result<RawList, NoPlan>
+    ensures gives { GivesStored (λ raw. raw) (F.files files.old)
         (F.failure_count files.old) (F.failure_count files.new)
         (λ name. name ≡ file.now) (λ stored. stored_list stored file.now) result }
-    ensures read { IfOk result IsReadList }
     ensures keeps { F.files files.new ≡ F.files files.old }
     ensures later { F.failure_count files.old ≤ F.failure_count files.new }
-    ensures bounded { F.failure_count files.new < 2 ^ 64 }
 {
     let bytes = read_bytes(alloc, files, file)?;
     list_of_bytes(alloc, bytes.as_slice(), file)
 }
 
 #[tactic(auto, using(crate::proofs::Stopping::stopping))]
-fn list_of_bytes(alloc: Global, bytes: &[u8], file: &str) -> Result<NetList, NoPlan>
-    ensures gives { GivesJudged result (judged_list file.now bytes.now) }
-    ensures read { IfOk result IsReadList }
+fn list_of_bytes(alloc: Global, bytes: &[u8], file: &str) -> Result<RawList, NoPlan>
+    ensures { GivesJudged result (judged_list file.now bytes.now) }
 {
-    match net_conf::read_list(alloc, bytes) {
-        Ok(list) => Ok(list),
+    match RawList::read(alloc, bytes) {
+        Ok(raw) => Ok(raw),
         Err(ConfError::NoMemory) => Err(NoPlan::NoMemory),
         Err(end) => Err(NoPlan::Line(error_line(alloc, &list_error(alloc, &end)?, file)?)),
+    }
+}
+
+/// The lists, each shared with its plugins' objects.
+fn shared_lists(alloc: Global, raws: &[RawList]) -> Result<Items<RefCounted<NetList>>, NoMemory>
+    ensures lists { IfOk result (λ lists. lists ≡ lists_of raws.now) }
+    ensures formed { IfOk result (All IsWellFormedList) }
+{
+    let mut lists = Items::new(alloc);
+    for raw in raws {
+        raw.is_raw();
+        lists.push(raw.list().copy()?)?;
+    }
+    Ok(lists)
+}
+
+/// The packets of the file that is named, if one is.
+#[tactic(auto, unfolding(crate::specs::Verdict::stored_packets))]
+fn read_packets<F: Files>(
+    alloc: Global,
+    files: &mut F,
+    file: &Option<Text>,
+) -> Result<Items<Packet>, NoPlan>
+    ensures gives { GivesStored (λ packets. packets) (F.files files.old)
+        (F.failure_count files.old) (F.failure_count files.new)
+        (λ name. file.now ≡ Some name) (λ stored. stored_packets stored file.now) result }
+    ensures none { file.now ≡ None → IfOk result (λ packets. packets ≡ []) }
+    ensures keeps { F.files files.new ≡ F.files files.old }
+    ensures later { F.failure_count files.old ≤ F.failure_count files.new }
+{
+    match file {
+        Some(file) => read_packet_file(alloc, files, file.as_str()),
+        None => Ok(Items::new(alloc)),
+    }
+}
+
+#[tactic(auto, using(crate::proofs::Stopping::stopping), unfolding(crate::specs::Verdict::stored_packets))]
+fn read_packet_file<F: Files>(
+    alloc: Global,
+    files: &mut F,
+    file: &str,
+) -> Result<Items<Packet>, NoPlan>
+    ensures gives { GivesStored (λ packets. packets) (F.files files.old)
+        (F.failure_count files.old) (F.failure_count files.new)
+        (λ name. name ≡ file.now) (λ stored. stored_packets stored (Some file.now)) result }
+    ensures keeps { F.files files.new ≡ F.files files.old }
+    ensures later { F.failure_count files.old ≤ F.failure_count files.new }
+{
+    let bytes = read_bytes(alloc, files, file)?;
+    packets_of_bytes(alloc, bytes.as_slice(), file)
+}
+
+#[tactic(auto, using(crate::proofs::Stopping::stopping))]
+fn packets_of_bytes(alloc: Global, bytes: &[u8], file: &str) -> Result<Items<Packet>, NoPlan>
+    ensures { GivesJudged result (judged_packets file.now bytes.now) }
+{
+    match packet_probe::read_packets(alloc, bytes) {
+        Ok(packets) => Ok(packets),
+        Err(PacketsError::NoMemory) => Err(NoPlan::NoMemory),
+        Err(end) => Err(NoPlan::Line(error_line(alloc, &packets_error(alloc, &end)?, file)?)),
     }
 }
 
@@ -170,7 +243,6 @@ fn read_bytes<F: Files>(alloc: Global, files: &mut F, file: &str) -> Result<Vec<
         (λ name. name ≡ file.now) (λ stored. stored_bytes stored file.now) result }
     ensures keeps { F.files files.new ≡ F.files files.old }
     ensures later { F.failure_count files.old ≤ F.failure_count files.new }
-    ensures bounded { F.failure_count files.new < 2 ^ 64 }
 {
     match files.read(alloc, file, MOST_BYTES) {
         Ok(bytes) => Ok(bytes),

@@ -2,12 +2,13 @@
 
 ghost use Rattle.std.specs.Prelude.{◌≡◌, IfOk};
 ghost use Rattle.tool_plan.specs.Refusals as refusals;
-ghost use Rattle.tool_plan.specs.Refusals.{error_about, blamed_file, list_error, plan_error, pods_error};
+ghost use Rattle.tool_plan.specs.Refusals.{error_about, blamed_file, list_error, packets_error, plan_error, pods_error};
 
 use cni_addr::{NoMemory, Text};
 use cni_errors::{ErrorKind, memory_error, message_of_field, plain_error, titled_error};
 use cni_result::CniError;
 use net_conf::ConfError;
+use packet_probe::PacketsError;
 use pod_file::PodError;
 use pod_workers::PlanError;
 use std::alloc::Global;
@@ -41,6 +42,23 @@ pub(crate) fn pods_error(alloc: Global, error: &PodError) -> Result<CniError, No
             invalid_pods(alloc, why.as_str())
         }
         PodError::NoMemory => memory_error(alloc),
+    }
+}
+
+/// The error of a packet file that is refused.
+pub(crate) fn packets_error(alloc: Global, error: &PacketsError) -> Result<CniError, NoMemory>
+    ensures { IfOk result (λ e. e ≡ packets_error error.now) }
+{
+    match error {
+        PacketsError::Decode => titled_error(alloc, ErrorKind::DecodingFailed),
+        PacketsError::Number => invalid_packets(alloc, "number"),
+        PacketsError::List => invalid_packets(alloc, "list"),
+        PacketsError::Packet { at } => {
+            let at = *at;
+            let why = format!(in alloc; "packets[{at}]")?;
+            invalid_packets(alloc, why.as_str())
+        }
+        PacketsError::NoMemory => memory_error(alloc),
     }
 }
 
@@ -88,6 +106,12 @@ fn invalid_list(alloc: Global, why: &str) -> Result<CniError, NoMemory>
     ensures { IfOk result (λ e. e ≡ refusals.invalid_list why.now) }
 {
     error_about(alloc, ErrorKind::InvalidList, why)
+}
+
+fn invalid_packets(alloc: Global, why: &str) -> Result<CniError, NoMemory>
+    ensures { IfOk result (λ e. e ≡ refusals.invalid_packets why.now) }
+{
+    error_about(alloc, ErrorKind::InvalidPacketFile, why)
 }
 
 fn invalid_pods(alloc: Global, why: &str) -> Result<CniError, NoMemory>

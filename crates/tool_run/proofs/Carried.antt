@@ -9,7 +9,7 @@ use Rattle.pod_workers.specs.declared.plan.Plan.{Plan}
 use Rattle.tool_words.specs.declared.words.Words.{Words}
 use Rattle.tool_plan.specs.Dues.{IsDueOf}
 use Rattle.tool_plan.specs.Seen.{FilesSeen}
-use Rattle.tool_plan.specs.Verdict.{carry}
+use Rattle.tool_plan.specs.Verdict.{IsAskedBy, carry}
 use Rattle.tool_plan.specs.declared.due.Due.{Due}
 use Rattle.tool_run.specs.Reports.{CarriesOut, Settles}
 use Rattle.tool_run.specs.Runs.{AskForOneThread}
@@ -23,7 +23,7 @@ settles_made words files due made is carries = (
     by = is.by;
     words_are = is.words_are;
     comes = λ stored at. is.comes stored at ∙ ap (λ (p : Plan). carry p due.asked) (sym carries.plan);
-    asked_is = is.asked_is;
+    asked_is = subst (λ (p : Plan). IsAskedBy is.by p due.asked) (sym carries.plan) is.asked_is;
     over = carries.over;
     legal = carries.legal;
   },

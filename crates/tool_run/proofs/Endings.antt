@@ -1,13 +1,15 @@
 -- How a run ends, from what it was to report, and what follows of it.
-use Rattle.std.proofs.Common.{◌≡◌, ◌≢◌, ◌∙◌, ℕ, zero, suc, List, [], ◌∷◌, ◌++◌, refl, sym, ap, subst, arith, inl, inr, Bool, true, cond, Option, Some, None, Result, Ok, Err, IfOk, IfSome, slice_get}
+use Rattle.std.proofs.Common.{◌≡◌, ◌≢◌, ◌∙◌, ℕ, zero, suc, List, [], ◌∷◌, ◌++◌, refl, sym, ap, ap₂, subst, arith, inl, inr, Bool, true, cond, Option, Some, None, Result, Ok, Err, IfOk, IfSome, slice_get}
 use Rattle.std.specs.List.{list_any}
 use Rattle.std.proofs.lemmas.Option.{none-some, same_Some}
 use Rattle.cni_io.specs.Files.{StoredFiles}
 use Rattle.cni_errors.specs.declared.answer.Answer.{Answer}
 use Rattle.cni_errors.specs.declared.answer.Answer.TheVariants.{OutOfMemory}
 use Rattle.pod_laws.specs.Guaranteed.{EveryLegalHistoryIsGuaranteed, IsGuaranteed}
+use Rattle.exec_protocol.specs.Raw.{RawView}
 use Rattle.kernel_text.specs.Dump.{dump_of}
-use Rattle.pod_text.specs.Lines.{command_part, text_of, trace_lines, where_asked}
+use Rattle.pod_text.specs.Fates.{fates_from}
+use Rattle.pod_text.specs.Lines.{command_part, requests_asked, text_of, trace_lines, where_asked}
 use Rattle.pod_text.specs.Summary.{summary_data}
 use Rattle.pod_text.specs.declared.asked.Asked.{Asked}
 use Rattle.pod_text.specs.declared.asked.CommandPart.{CommandPart}
@@ -106,10 +108,15 @@ unfolding summary_data
 part-any_round w round Lines = refl
 part-any_round w round Summary = refl
 
+requests-any_round : (w : World) (round : ℕ) (raws : Option (List RawView)) → requests_asked raws (record w { round = round }) ≡ requests_asked raws w
+requests-any_round w round None = refl
+requests-any_round w round (Some raws) = refl
+
 text-any_round : (w : World) (round : ℕ) (asked : Asked) → text_of (record w { round = round }) asked ≡ text_of w asked
 unfolding text_of
 text-any_round w round asked =
-    ap (λ (part : List ℕ). part ++ where_asked asked.trace (trace_lines w) ++ where_asked asked.dump (dump_of (host_of w))) (part-any_round w round asked.commands)
+    ap₂ (λ (part requests : List ℕ). part ++ requests ++ where_asked asked.trace (trace_lines w) ++ where_asked asked.dump (dump_of (host_of w)) ++ fates_from 0 (host_of w) asked.packets)
+    (part-any_round w round asked.commands) (requests-any_round w round asked.requests)
 
 text-same : (v w : World) (asked : Asked) → v.plan ≡ w.plan → v.history ≡ w.history → v.answers ≡ w.answers → text_of v asked ≡ text_of w asked
 text-same v w asked plan history answers =

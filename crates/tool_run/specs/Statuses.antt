@@ -44,7 +44,7 @@ pub record IsCarriedOut (words : List (List ℕ)) (files : FilesSeen) (book : Wo
   pub by : Words
   pub words_are : words_given words ≡ Some by
   pub comes : ComesTo words files (carry book.plan asked)
-  pub asked_is : IsAskedBy by asked
+  pub asked_is : IsAskedBy by book.plan asked
   pub over : length book.plan.pods.rounds ≤ book.round
   pub legal : Legal book
 

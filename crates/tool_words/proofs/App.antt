@@ -1,6 +1,6 @@
 -- The command, an argument at a time, and what it makes of the words.
 use Rattle.std.proofs.Common.{◌≡◌, List, [], ◌∷◌, true, false, refl, sym, ap, ap₂, ◌∙◌, inl, inr, arith, ne_eqb, codes, Some}
-use Rattle.clap.specs.Walk.{Rule, Text, is_empty, rows_of, all_of}
+use Rattle.clap.specs.Walk.{Rule, Text, is_empty, rows_of, all_of, first_of}
 use Rattle.clap.specs.Matches.{found_of}
 use Rattle.clap.specs.Values.{kind_of}
 use Rattle.clap.specs.Kinds.{Kinds, IsAmong, HasKind}
@@ -54,7 +54,7 @@ not_taken app given words e is same h other =
 -- ---- worked examples
 
 -- What clap's definitions make of words that are written out: whole lines, a number that is too large, no word, words
--- behind `--`, and a flag that is given twice. Each is worked out by the check, and no other proof cites it.
+-- behind `--`, a file without a name, and a flag that is given twice. Each is worked out by the check, and no other proof cites it.
 worked_line : fault_of the_app (codes "--threads" ∷ codes "4" ∷ codes "p.json" ∷ codes "a.json" ∷ codes "--dump" ∷ codes "b.json" ∷ []) ≡ []
 unfolding clap_on_literals
 worked_line = refl
@@ -78,6 +78,10 @@ worked_lists = refl
 worked_dash : fault_of the_app (codes "--" ∷ codes "-p" ∷ codes "--dump" ∷ []) ≡ []
 unfolding clap_on_literals
 worked_dash = refl
+
+worked_no_name : first_of (codes "probe") (matches_of the_app (codes "--probe=" ∷ codes "p.json" ∷ [])) ≡ Some []
+unfolding clap_on_literals
+worked_no_name = refl
 
 worked_twice : fault_of the_app (codes "--dump" ∷ codes "--dump" ∷ codes "p" ∷ []) ≡ ArgumentConflict ∷ []
 unfolding clap_on_literals

@@ -1,5 +1,5 @@
 -- The number of pods that a text spells, and what `parse` makes of the text.
-use Rattle.std.proofs.Common.{◌≡◌, ◌≢◌, ◌∙◌, ℕ, ◌<◌, ◌≤◌, ◌^◌, Bool, true, false, codes, if◌then◌else◌, List, [], ◌∷◌, drop, length, nat_le, get_or, Option, Some, None, option_map, decimal, refl, sym, ap, subst, inl, inr, arith}
+use Rattle.std.proofs.Common.{◌≡◌, ◌≢◌, ◌∙◌, ℕ, ◌<◌, ◌≤◌, ◌^◌, Bool, true, false, codes, if◌then◌else◌, List, drop, length, nat_le, get_or, Option, Some, None, option_map, decimal, refl, sym, ap, subst, inl, inr, arith}
 use Rattle.std.specs.Str.Parse.{IsNumeral, digits_value, without_leading_plus}
 use Rattle.std.proofs.NetLemmas.Options.{cond_some}
 use Rattle.std.proofs.lemmas.Bool.{and_parts, cases_order}
@@ -8,9 +8,10 @@ use Rattle.std.proofs.lemmas.Fmt.{decimal-digits_value, decimal_digit, decimal_i
 use Rattle.std.proofs.lemmas.Option.{none-some, same_Some}
 use Rattle.std.proofs.lemmas.Slice.Eq.{bytes_eq-Decides}
 use Rattle.std.proofs.lemmas.Str.Parse.{digit_at, numerals_by_value, tells_digits, without_leading_plus_none}
-use Rattle.clap.specs.Walk.{Text, is_empty}
+use Rattle.clap.specs.Walk.{Text}
 use Rattle.tool_words.specs.Command.{most_lists, most_pods}
-use Rattle.tool_words.specs.Source.{IsSourceWithin, IsStopWithin, asks_generator, begins_plainly, count_of, files_of, generated_of, is_count, source_of}
+use Rattle.tool_words.specs.Source.{IsSourceWithin, IsStopWithin, asks_generator, begins_plainly, count_of, files_of, generated_of, is_alone, is_count, source_of}
+use Rattle.tool_words.specs.declared.source.Named.{Named}
 use Rattle.tool_words.specs.declared.source.Source.{Source}
 use Rattle.tool_words.specs.declared.source.Source.TheVariants.{Files, Generated}
 
@@ -104,32 +105,32 @@ unread text plain h = none_decimal text λ n least most is.
     let (numeral, value) = decimal_is_IsNumeral n (omega arith) in
     h (rw (without_leading_plus_none text (unsigned text plain), is) (numeral, omega (arith, value)))
 
--- ---- what PODS asks for is within the limits
+-- ---- what the words name is within the limits
 
-many : (lists : List Text) → nat_le (length lists) most_lists ≡ true → length lists ≤ most_lists
-many lists few = grind (arith, nat_tests, few)
+few : (lists : List Text) → nat_le (length lists) most_lists ≡ true → length lists ≤ most_lists
+few lists is = grind (arith, nat_tests, is)
 
-counted_source : (number : Text) (stop_at : Option ℕ) (o : Option ℕ) (s : Source) → IsStopWithin stop_at → count_of number ≡ o
+of_count : (number : Text) (stop_at : Option ℕ) (o : Option ℕ) (s : Source) → IsStopWithin stop_at → count_of number ≡ o
     → option_map (λ (count : ℕ). Generated count stop_at) o ≡ Some s → IsSourceWithin s
-counted_source number stop_at None s stop spelled h = absurd (none-some s h)
-counted_source number stop_at (Some n) s stop spelled h =
+of_count number stop_at None s stop spelled h = absurd (none-some s h)
+of_count number stop_at (Some n) s stop spelled h =
     let (is, least, most) = decimal_count number n spelled in
     subst IsSourceWithin (same_Some (Generated n stop_at) s h) (least, most, stop)
 
-of_generated : (number : Text) (stop_at : Option ℕ) (b : Bool) (s : Source) → IsStopWithin stop_at
-    → (if b then option_map (λ (count : ℕ). Generated count stop_at) (count_of number) else None) ≡ Some s → IsSourceWithin s
-of_generated number stop_at true s stop h = counted_source number stop_at (count_of number) s stop refl h
-of_generated number stop_at false s stop h = absurd (none-some s h)
+of_generated : (number : Text) (named : Named) (b : Bool) (s : Source) → IsStopWithin named.stop_at
+    → (if b then option_map (λ (count : ℕ). Generated count named.stop_at) (count_of number) else None) ≡ Some s → IsSourceWithin s
+of_generated number named true s stop h = of_count number named.stop_at (count_of number) s stop refl h
+of_generated number named false s stop h = absurd (none-some s h)
 
-of_files : (pods : Text) (lists : List Text) (stop_at : Option ℕ) (b : Bool) (s : Source) → IsStopWithin stop_at → nat_le (length lists) most_lists ≡ b
-    → (if b then Some (Files (record { pods = pods; lists = lists; stop_at = stop_at })) else None) ≡ Some s → IsSourceWithin s
-of_files pods lists stop_at true s stop few h = subst IsSourceWithin (same_Some (Files (record { pods = pods; lists = lists; stop_at = stop_at })) s h) (many lists few, stop)
-of_files pods lists stop_at false s stop few h = absurd (none-some s h)
+of_files : (named : Named) (b : Bool) (s : Source) → IsStopWithin named.stop_at → nat_le (length named.lists) most_lists ≡ b
+    → (if b then Some (Files named) else None) ≡ Some s → IsSourceWithin s
+of_files named true s stop is h = subst IsSourceWithin (same_Some (Files named) s h) (few named.lists is, stop)
+of_files named false s stop is h = absurd (none-some s h)
 
-of_source : (pods : Text) (lists : List Text) (stop_at : Option ℕ) (b : Bool) (s : Source) → IsStopWithin stop_at
-    → (if b then generated_of (drop (length (codes "gen:")) pods) lists stop_at else files_of pods lists stop_at) ≡ Some s → IsSourceWithin s
-of_source pods lists stop_at true s stop h = of_generated (drop (length (codes "gen:")) pods) stop_at (is_empty lists) s stop h
-of_source pods lists stop_at false s stop h = of_files pods lists stop_at (nat_le (length lists) most_lists) s stop refl h
+of_source : (named : Named) (b : Bool) (s : Source) → IsStopWithin named.stop_at
+    → (if b then generated_of (drop (length (codes "gen:")) named.pods) named else files_of named) ≡ Some s → IsSourceWithin s
+of_source named true s stop h = of_generated (drop (length (codes "gen:")) named.pods) named (is_alone named) s stop h
+of_source named false s stop h = of_files named (nat_le (length named.lists) most_lists) s stop refl h
 
-pub source-within : (pods : Text) (lists : List Text) (stop_at : Option ℕ) (s : Source) → IsStopWithin stop_at → source_of pods lists stop_at ≡ Some s → IsSourceWithin s
-source-within pods lists stop_at s stop h = of_source pods lists stop_at (asks_generator pods) s stop h
+pub source-within : (named : Named) (s : Source) → IsStopWithin named.stop_at → source_of named ≡ Some s → IsSourceWithin s
+source-within named s stop h = of_source named (asks_generator named.pods) s stop h

@@ -1,13 +1,16 @@
 -- The values that a parse gives have passed the parsers of their arguments.
-use Rattle.std.proofs.Common.{◌≡◌, ◌∙◌, ◌<◌, ℕ, Bool, true, false, true≢false, zero, suc, refl, sym, ap, subst, arith, inl, inr, List, [], ◌∷◌, length, Option, Some, None, option_map, option_and_then, slice_get, codes}
+use Rattle.std.proofs.Common.{◌≡◌, ◌∙◌, ◌<◌, ◌&&◌, ℕ, Bool, true, false, not, true≢false, zero, suc, refl, sym, ap, subst, arith, inl, inr, List, [], ◌∷◌, length, map, Option, Some, None, option_map, option_and_then, slice_get, codes}
 use Rattle.std.specs.Borrow.{Bor}
-use Rattle.std.specs.List.{All, slice_index_or}
+use Rattle.std.specs.List.{All, list_all, list_any, slice_index_or}
 use Rattle.std.specs.Str.{bytes_eq}
 use Rattle.std.proofs.Math.ListN.{get_or-map}
 use Rattle.std.proofs.lemmas.Bool.Decides.{not_from_Decides}
 use Rattle.std.proofs.lemmas.List.{length-map}
 use Rattle.std.proofs.lemmas.List.Elements.{All-get_or}
+use Rattle.std.proofs.lemmas.List.Folds.{list_all_at, list_any_at}
+use Rattle.std.proofs.lemmas.Option.{get_or_from_slice_get, slice_get_within}
 use Rattle.std.proofs.lemmas.Slice.Eq.{bytes_eq-Decides}
+use Rattle.cni_addr.specs.Lists.{distinct}
 use Rattle.clap.specs.Built.{IsParsedFrom, IsPlain, IsPlainArg, SameRules}
 use Rattle.clap.specs.Facts.{Entry, EntryPasses, PassesArg, args_of, parser_of, parser_of_value}
 use Rattle.clap.specs.Matches.{found_of, matched_of}
@@ -18,34 +21,58 @@ use Rattle.clap.specs.declared.builder.arg.Arg.{Arg}
 use Rattle.clap.specs.declared.builder.command.Command.{Command}
 use Rattle.clap.specs.declared.builder.command.Command.TheViews.{out-Command}
 use Rattle.clap.specs.declared.builder.value_parser.ValueParser.{ValueParser}
-use Rattle.clap.specs.declared.builder.value_parser.ValueParser.TheVariants as parser
 use Rattle.clap.specs.declared.builder.value_parser.Reading.{Reading}
 use Rattle.clap.specs.declared.parser.matches.ArgMatches.{ArgMatches}
 use Rattle.clap.specs.declared.parser.matches.MatchedArg.{MatchedArg}
 use Rattle.clap.proofs.CallerLemmas.{entry_by_id, same_rules_by_id}
 use Rattle.clap.proofs.SimpleLemmas.{is_false, is_nil}
 use Rattle.clap.proofs.WalkLemmas.{both}
-use Rattle.tool_words.specs.Command.{the_app, counts_to, most_threads, greatest_entry, threads_option, stop_at_option, trace_flag, dump_flag}
+use Rattle.tool_words.specs.Command.{the_app, the_rules}
 use Rattle.tool_words.specs.Parse.{Passes}
 
-abbrev the_rules : List Rule
-the_rules = the_app.top.rules
+-- ---- the arguments of the command, by their rules
 
 rule_at : (c : Command) → app_of c ≡ the_app → (k : ℕ) (d : Arg) → slice_index_or the_rules k (rule_of d) ≡ rule_of (slice_index_or (args_of c) k d)
 rule_at c is k d = ap (λ (rs : List Rule). slice_index_or rs k (rule_of d)) (sym (ap (λ a. a.top.rules) is)) ∙ get_or-map rule_of (args_of c) k d
 
-arg_count : (c : Command) → app_of c ≡ the_app → length (args_of c) ≡ 6
+arg_count : (c : Command) → app_of c ≡ the_app → length (args_of c) ≡ length the_rules
 arg_count c is = sym (length-map (args_of c) rule_of) ∙ ap (λ a. length a.top.rules) is
 
--- what holds of each of six places
-six : (P : ℕ → Type 0) → P 0 → P 1 → P 2 → P 3 → P 4 → P 5 → (j : ℕ) → j < 6 → P j
-six P a b c d e f zero lt = a
-six P a b c d e f (suc zero) lt = b
-six P a b c d e f (suc (suc zero)) lt = c
-six P a b c d e f (suc (suc (suc zero))) lt = d
-six P a b c d e f (suc (suc (suc (suc zero)))) lt = e
-six P a b c d e f (suc (suc (suc (suc (suc zero))))) lt = f
-six P a b c d e f (suc (suc (suc (suc (suc (suc j)))))) lt = absurd (omega arith)
+-- the rule says nothing of another argument, of case or of how words are read, and has a name that clap gives nothing
+abbrev is_own : Rule → Bool
+is_own rule = rule.is_simple && (rule.is_free && (not rule.ignore_case
+    && (not (bytes_eq rule.id []) && (not (bytes_eq rule.id (codes "help")) && not (bytes_eq rule.id (codes "version"))))))
+
+each_is_own : list_all is_own the_rules ≡ true
+each_is_own = refl
+
+-- no two arguments have one name
+names_differ : distinct bytes_eq (map (λ (rule : Rule). rule.id) the_rules) ≡ true
+names_differ = refl
+
+passes_test : (b : Bool) → (b ≡ false → ⊥) → b ≡ true
+passes_test true not_false = refl
+passes_test false not_false = absurd (not_false refl)
+
+-- what holds of each element holds of the one at a place
+at_place : {X : Type 0} (p : X → Bool) (xs : List X) (k : ℕ) (d : X) → list_all p xs ≡ true → k < length xs → p (slice_index_or xs k d) ≡ true
+at_place p xs k d all lt = passes_test (p (slice_index_or xs k d)) (λ fails. true≢false (sym all ∙ list_all_at p xs k d lt fails))
+
+-- a name stands at one place
+one_place : (names : List Text) (d e : Text) (j k : ℕ) → distinct bytes_eq names ≡ true → j < length names → k < length names
+    → bytes_eq (slice_index_or names j d) (slice_index_or names k e) ≡ true → j ≡ k
+one_place [] d e j k differ low high same = absurd (omega arith)
+one_place (n ∷ ns) d e zero zero differ low high same = refl
+one_place (n ∷ ns) d e zero (suc k) differ low high same =
+    let later : list_any (bytes_eq n) ns ≡ true = list_any_at (bytes_eq n) ns k e (omega arith) same in
+    grind (arith, differ, later)
+one_place (n ∷ ns) d e (suc j) zero differ low high same =
+    let back : bytes_eq n (slice_index_or ns j d) ≡ true = (bytes_eq-Decides n (slice_index_or ns j d)).1 (sym ((bytes_eq-Decides (slice_index_or ns j d) n).0 same)) in
+    let later : list_any (bytes_eq n) ns ≡ true = list_any_at (bytes_eq n) ns j d (omega arith) back in
+    grind (arith, differ, later)
+one_place (n ∷ ns) d e (suc j) (suc k) differ low high same =
+    let parts = both (not (list_any (bytes_eq n) ns)) (distinct bytes_eq ns) differ in
+    ap suc (one_place ns d e j k parts.1 (omega arith) (omega arith) same)
 
 -- ---- nothing in the command excludes anything
 
@@ -61,13 +88,9 @@ plain_at a simple free =
 is_plain-command : (c : Command) → app_of c ≡ the_app → IsPlain c
 is_plain-command c is = (
   λ k d lt.
-      let here : k < 6 = subst (λ n. k < n) (arg_count c is) lt in
-      let same = rule_at c is k d in
-      let simple : (slice_index_or the_rules k (rule_of d)).is_simple ≡ true =
-      six (λ j. (slice_index_or the_rules j (rule_of d)).is_simple ≡ true) refl refl refl refl refl refl k here in
-      let free : (slice_index_or the_rules k (rule_of d)).is_free ≡ true =
-      six (λ j. (slice_index_or the_rules j (rule_of d)).is_free ≡ true) refl refl refl refl refl refl k here in
-      plain_at (slice_index_or (args_of c) k d) (ap (λ r. r.is_simple) (sym same) ∙ simple) (ap (λ r. r.is_free) (sym same) ∙ free),
+      let own = at_place is_own the_rules k (rule_of d) each_is_own (subst (λ n. k < n) (arg_count c is) lt) in
+      let parts = both _ _ (subst (λ (r : Rule). is_own r ≡ true) (rule_at c is k d) own) in
+      plain_at (slice_index_or (args_of c) k d) parts.0 (both _ _ parts.1).0,
   is_nil _ (both _ _ (ap (λ a. a.top.is_plain) is)).0,
 )
 
@@ -164,51 +187,35 @@ passes c m p is k name q at named text = go (matched_of (found_of m) name) refl
         of_entry c m p k name q at plain named x text (rw e at one)
         (entry_by_id (EntryPasses p.built) (found_of m).entries.items name x values e)
 
--- ---- the four arguments with a parser
+-- ---- an argument by its place
 
-id_at : (c : Command) → app_of c ≡ the_app → (k : ℕ) (d : Arg) → (slice_index_or (args_of c) k d).id.now ≡ (slice_index_or the_rules k (rule_of d)).id
-id_at c is k d = ap (λ r. r.id) (sym (rule_at c is k d))
+-- no other argument has its name
+only_at : (c : Command) → app_of c ≡ the_app → (k : ℕ) (rule : Rule) → slice_get the_rules k ≡ Some rule
+    → (j : ℕ) (e : Arg) → j < length (args_of c) → bytes_eq (slice_index_or (args_of c) j e).id.now rule.id ≡ true → j ≡ k
+only_at c is k rule at j e lt hit =
+    let id : Rule → Text = λ (r : Rule). r.id in
+    let names = map id the_rules in
+    let mine : slice_index_or names k rule.id ≡ rule.id = get_or-map id the_rules k rule ∙ ap id (get_or_from_slice_get the_rules k rule rule at) in
+    let other : slice_index_or names j e.id.now ≡ (slice_index_or (args_of c) j e).id.now = get_or-map id the_rules j (rule_of e) ∙ ap id (rule_at c is j e) in
+    one_place names e.id.now rule.id j k names_differ (subst (λ n. j < n) (arg_count c is) lt) (slice_get_within the_rules k rule at)
+    (subst (λ (w : Text). bytes_eq w (slice_index_or names k rule.id) ≡ true) (sym other) (subst (λ (w : Text). bytes_eq (slice_index_or (args_of c) j e).id.now w ≡ true) (sym mine) hit))
 
-only_at : (c : Command) → app_of c ≡ the_app → (k : ℕ) (name : Text) → ((e : Arg) (j : ℕ) → j < 6 → bytes_eq (slice_index_or the_rules j (rule_of e)).id name ≡ true → j ≡ k)
-    → (j : ℕ) (e : Arg) → j < length (args_of c) → bytes_eq (slice_index_or (args_of c) j e).id.now name ≡ true → j ≡ k
-only_at c is k name h j e lt hit =
-    h e j (subst (λ n. j < n) (arg_count c is) lt) (subst (λ (w : Text). bytes_eq w name ≡ true) (id_at c is j e) hit)
-
-apart : {X : Type 0} → false ≡ true → X
-apart h = absurd (true≢false (sym h))
-
--- the argument at this place of the command has this name, which no other has, and this parser
-passes_at : (c : Command) (m : ArgMatches) → IsParsedFrom c m → app_of c ≡ the_app → (k : ℕ) (name : Text) (q : ValueParser) → k < 6
-    → ((d : Arg) → (slice_index_or the_rules k (rule_of d)).id ≡ name) → ((d : Arg) → (slice_index_or the_rules k (rule_of d)).parser ≡ Some q)
-    → ((d : Arg) → (slice_index_or the_rules k (rule_of d)).ignore_case ≡ false)
-    → ((e : Arg) (j : ℕ) → j < 6 → bytes_eq (slice_index_or the_rules j (rule_of e)).id name ≡ true → j ≡ k)
-    → bytes_eq name (codes "help") ≡ false → bytes_eq name (codes "version") ≡ false → bytes_eq name [] ≡ false → Passes m name q
-passes_at c m p is k name q inside id parser exact only no_help no_version named = passes c m p is k name q (record {
-  inside = subst (λ n. k < n) (sym (arg_count c is)) inside;
-  id = λ d. id_at c is k d ∙ id d;
-  parser = λ d. ap (λ r. r.parser) (sym (rule_at c is k d)) ∙ parser d;
-  exact = λ d. ap (λ r. r.ignore_case) (sym (rule_at c is k d)) ∙ exact d;
-  only = only_at c is k name only;
-  no_help = not_from_Decides _ (bytes_eq-Decides name (codes "help")) no_help;
-  no_version = not_from_Decides _ (bytes_eq-Decides name (codes "version")) no_version;
-}) (not_from_Decides _ (bytes_eq-Decides name []) named)
-
-pub passes-threads : (c : Command) (m : ArgMatches) → IsParsedFrom c m → app_of c ≡ the_app → Passes m threads_option (counts_to most_threads)
-passes-threads c m p is =
-    passes_at c m p is 0 threads_option (counts_to most_threads) (omega arith) (λ d. refl) (λ d. refl) (λ d. refl)
-    (λ e. six (λ j. bytes_eq (slice_index_or the_rules j (rule_of e)).id threads_option ≡ true → j ≡ 0) (λ h. refl) apart apart apart apart apart) refl refl refl
-
-pub passes-stop_at : (c : Command) (m : ArgMatches) → IsParsedFrom c m → app_of c ≡ the_app → Passes m stop_at_option (counts_to greatest_entry)
-passes-stop_at c m p is =
-    passes_at c m p is 1 stop_at_option (counts_to greatest_entry) (omega arith) (λ d. refl) (λ d. refl) (λ d. refl)
-    (λ e. six (λ j. bytes_eq (slice_index_or the_rules j (rule_of e)).id stop_at_option ≡ true → j ≡ 1) apart (λ h. refl) apart apart apart apart) refl refl refl
-
-pub passes-trace : (c : Command) (m : ArgMatches) → IsParsedFrom c m → app_of c ≡ the_app → Passes m trace_flag parser.Bool
-passes-trace c m p is =
-    passes_at c m p is 2 trace_flag parser.Bool (omega arith) (λ d. refl) (λ d. refl) (λ d. refl)
-    (λ e. six (λ j. bytes_eq (slice_index_or the_rules j (rule_of e)).id trace_flag ≡ true → j ≡ 2) apart apart (λ h. refl) apart apart apart) refl refl refl
-
-pub passes-dump : (c : Command) (m : ArgMatches) → IsParsedFrom c m → app_of c ≡ the_app → Passes m dump_flag parser.Bool
-passes-dump c m p is =
-    passes_at c m p is 3 dump_flag parser.Bool (omega arith) (λ d. refl) (λ d. refl) (λ d. refl)
-    (λ e. six (λ j. bytes_eq (slice_index_or the_rules j (rule_of e)).id dump_flag ≡ true → j ≡ 3) apart apart apart (λ h. refl) apart apart) refl refl refl
+-- the values of an argument with a parser have passed it
+pub passes_parser : (c : Command) (m : ArgMatches) → IsParsedFrom c m → app_of c ≡ the_app → (k : ℕ) (rule : Rule) (q : ValueParser) → slice_get the_rules k ≡ Some rule → rule.parser ≡ Some q
+    → Passes m rule.id q
+passes_parser c m p is k rule q at parses =
+    let inside : k < length the_rules = slice_get_within the_rules k rule at in
+    let there : (d : Arg) → rule_of (slice_index_or (args_of c) k d) ≡ rule = λ d. sym (rule_at c is k d) ∙ get_or_from_slice_get the_rules k rule (rule_of d) at in
+    let own : is_own rule ≡ true = subst (λ (r : Rule). is_own r ≡ true) (get_or_from_slice_get the_rules k rule rule at) (at_place is_own the_rules k rule each_is_own inside) in
+    let exact = both _ _ (both _ _ (both _ _ own).1).1 in
+    let named = both _ _ exact.1 in
+    let flags = both _ _ named.1 in
+    passes c m p is k rule.id q (record {
+      inside = subst (λ n. k < n) (sym (arg_count c is)) inside;
+      id = λ d. ap (λ (r : Rule). r.id) (there d);
+      parser = λ d. ap (λ (r : Rule). r.parser) (there d) ∙ parses;
+      exact = λ d. ap (λ (r : Rule). r.ignore_case) (there d) ∙ is_false _ exact.0;
+      only = only_at c is k rule at;
+      no_help = not_from_Decides _ (bytes_eq-Decides rule.id (codes "help")) (is_false _ flags.0);
+      no_version = not_from_Decides _ (bytes_eq-Decides rule.id (codes "version")) (is_false _ flags.1);
+    }) (not_from_Decides _ (bytes_eq-Decides rule.id []) (is_false _ named.0))

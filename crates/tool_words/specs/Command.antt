@@ -1,8 +1,8 @@
--- The command line as clap takes it: two options, two flags, PODS and LISTs.
-use Rattle.std.specs.Prelude.{◌≡◌, Bool, List, ℕ, codes, pos, true, false, Some}
+-- The command line as clap takes it: options, flags, PODS and LISTs.
+use Rattle.std.specs.Prelude.{◌≡◌, Bool, List, [], ◌∷◌, ℕ, codes, pos, true, false, Some}
 use Rattle.clap.specs.Lexer.{usize_max}
 use Rattle.clap.specs.Walk.{Rule, Row, Text, rule_of, is_empty}
-use Rattle.clap.specs.Simple.{App, new_app, new_rule, with_rule, on_top, matches_of}
+use Rattle.clap.specs.Simple.{App, new_app, new_rule, on_top, matches_of}
 use Rattle.clap.specs.Faults.{fault_of}
 use Rattle.clap.specs.declared.builder.action.ArgAction.TheVariants.{SetTrue}
 use Rattle.clap.specs.declared.builder.arg.Arg.{Arg}
@@ -22,6 +22,12 @@ trace_flag = codes "trace"
 
 abbrev pub dump_flag : Text
 dump_flag = codes "dump"
+
+abbrev pub requests_flag : Text
+requests_flag = codes "requests"
+
+abbrev pub probe_option : Text
+probe_option = codes "probe"
 
 abbrev pub pods_word : Text
 pods_word = codes "PODS"
@@ -65,6 +71,10 @@ stop_rule = number_rule stop_at_option greatest_entry
 abbrev pub flag_rule : Text → Rule
 flag_rule name = record (new_rule name) { long = Some name; action = Some SetTrue; parser = Some parser.Bool }
 
+-- any text
+abbrev pub probe_rule : Rule
+probe_rule = record (new_rule probe_option) { long = Some probe_option }
+
 abbrev pub pods_rule : Rule
 pods_rule = record (new_rule pods_word) { required = true }
 
@@ -75,9 +85,13 @@ abbrev pub bare_app : App
 bare_app = on_top (λ s. record s { no_binary_name = true; disable_help_flag = true; disable_version_flag = true })
     (new_app (codes "cnitool"))
 
+-- the arguments, in the order in which the command has them
+abbrev pub the_rules : List Rule
+the_rules = threads_rule ∷ stop_rule ∷ flag_rule trace_flag ∷ flag_rule dump_flag ∷ flag_rule requests_flag ∷ probe_rule
+    ∷ pods_rule ∷ list_rule ∷ []
+
 abbrev pub the_app : App
-the_app = with_rule (with_rule (with_rule (with_rule (with_rule (with_rule bare_app threads_rule) stop_rule)
-    (flag_rule trace_flag)) (flag_rule dump_flag)) pods_rule) list_rule
+the_app = on_top (λ s. record s { rules = the_rules }) bare_app
 
 -- the argument has these rules, and is its command's own
 abbrev pub IsArg : Arg → Rule → Type 0

@@ -6,7 +6,7 @@ use Rattle.clap.specs.Walk.{Text, rows_of}
 use Rattle.clap.specs.declared.builder.value_parser.ValueParser.{ValueParser}
 use Rattle.clap.specs.declared.builder.value_parser.ValueParser.TheVariants as parser
 use Rattle.clap.specs.declared.parser.matches.ArgMatches.{ArgMatches}
-use Rattle.tool_words.specs.Command.{clap_takes, rows, counts_to, most_threads, greatest_entry, threads_option, stop_at_option, trace_flag, dump_flag}
+use Rattle.tool_words.specs.Command.{clap_takes, rows, counts_to, most_threads, greatest_entry, threads_option, stop_at_option, trace_flag, dump_flag, requests_flag}
 use Rattle.tool_words.specs.declared.words.WordsEnd.{WordsEnd}
 use Rattle.tool_words.specs.declared.words.WordsEnd.TheVariants.{Usage, NoMemory}
 
@@ -22,6 +22,7 @@ pub record IsParseOf (words : List Text) (m : ArgMatches) : Type 0 where
   pub stop_at : Passes m stop_at_option (counts_to greatest_entry)
   pub trace : Passes m trace_flag parser.Bool
   pub dump : Passes m dump_flag parser.Bool
+  pub requests : Passes m requests_flag parser.Bool
 
 -- a parse of the words; or the command does not take them; or memory ran out
 abbrev pub Parses : List Text → Result ArgMatches WordsEnd → Type 0

@@ -1,10 +1,11 @@
 -- Where the pods come from.
-use Rattle.std.specs.Prelude.{ℕ, ◌≤◌, ◌&&◌, Bool, nat_eq, nat_le, List, codes, decimal, drop, length, option_map, slice_index, if◌then◌else◌, Option, Some, None, IfSome}
+use Rattle.std.specs.Prelude.{ℕ, ◌≤◌, ◌&&◌, Bool, nat_eq, nat_le, not, codes, decimal, drop, length, option_map, is_none, slice_index, if◌then◌else◌, Option, Some, None, IfSome}
 use Rattle.std.specs.List.{starts_with}
 use Rattle.std.specs.Str.{byte, bytes_eq}
 use Rattle.std.specs.Str.Parse.{digits_value}
 use Rattle.clap.specs.Walk.{Text, is_empty}
 use Rattle.tool_words.specs.Command.{greatest_entry, most_lists, most_pods}
+use Rattle.tool_words.specs.declared.source.Named.{Named}
 use Rattle.tool_words.specs.declared.source.Source.{Source}
 use Rattle.tool_words.specs.declared.source.Source.TheVariants.{Files, Generated}
 
@@ -24,22 +25,23 @@ count_of text = let n = digits_value 10 text in if is_count n && bytes_eq text (
 abbrev pub begins_plainly : Text → Bool
 begins_plainly text = nat_le (byte "1") (slice_index text 0) && nat_le (slice_index text 0) (byte "9")
 
--- generated pods, which no list stands beside
-abbrev pub generated_of : Text → List Text → Option ℕ → Option Source
-generated_of number lists stop_at =
-    if is_empty lists then option_map (λ count. Generated count stop_at) (count_of number) else None
+-- nothing stands beside PODS that generated pods don't take: no list, no packet file, and no asking for requests
+abbrev pub is_alone : Named → Bool
+is_alone named = is_empty named.lists && (not named.requests && is_none named.packets)
 
--- a pod file, with so many lists at most
-abbrev pub files_of : Text → List Text → Option ℕ → Option Source
-files_of pods lists stop_at =
-    if nat_le (length lists) most_lists then Some (Files (record { pods = pods; lists = lists; stop_at = stop_at }))
-    else None
+-- generated pods, beside which nothing stands that they don't take
+abbrev pub generated_of : Text → Named → Option Source
+generated_of number named =
+    if is_alone named then option_map (λ count. Generated count named.stop_at) (count_of number) else None
 
--- what PODS, the LISTs and the stop ask for: so many generated pods, or those of a pod file
-abbrev pub source_of : Text → List Text → Option ℕ → Option Source
-source_of pods lists stop_at =
-    if asks_generator pods then generated_of (drop (length (codes "gen:")) pods) lists stop_at
-    else files_of pods lists stop_at
+-- files, with so many lists at most
+abbrev pub files_of : Named → Option Source
+files_of named = if nat_le (length named.lists) most_lists then Some (Files named) else None
+
+-- what the words name: so many generated pods, or those of a pod file
+abbrev pub source_of : Named → Option Source
+source_of named =
+    if asks_generator named.pods then generated_of (drop (length (codes "gen:")) named.pods) named else files_of named
 
 -- the number of an entry that may be stopped after
 abbrev pub IsStopWithin : Option ℕ → Type 0

@@ -4,8 +4,9 @@ use Rattle.std.specs.Option.{option_map_or}
 use Rattle.std.specs.Str.{bytes_eq}
 use Rattle.std.specs.Str.Parse.{digits_value, without_leading_plus}
 use Rattle.clap.specs.Walk.{Row, Text, first_of, one_of, all_of}
-use Rattle.tool_words.specs.Command.{clap_takes, rows, most_threads, threads_option, stop_at_option, trace_flag, dump_flag, pods_word, lists_word}
+use Rattle.tool_words.specs.Command.{clap_takes, rows, most_threads, threads_option, stop_at_option, trace_flag, dump_flag, requests_flag, probe_option, pods_word, lists_word}
 use Rattle.tool_words.specs.Source.{IsSourceWithin, source_of}
+use Rattle.tool_words.specs.declared.source.Named.{Named}
 use Rattle.tool_words.specs.declared.source.Source.{Source}
 use Rattle.tool_words.specs.declared.words.Words.{Words}
 use Rattle.tool_words.specs.declared.words.WordsEnd.{WordsEnd}
@@ -34,14 +35,20 @@ words_in found source = record {
   source = source;
 }
 
--- the source that the rows name, with this PODS
-abbrev pub source_in : List Row → Text → Option Source
-source_in found pods = source_of pods (lists_at found) (number_at stop_at_option found)
+-- what the rows name beside this PODS
+abbrev pub named_in : List Row → Text → Named
+named_in found pods = record {
+  pods = pods;
+  lists = lists_at found;
+  stop_at = number_at stop_at_option found;
+  requests = has_flag requests_flag found;
+  packets = first_of probe_option found;
+}
 
 -- what the rows say, with this PODS
 abbrev pub words_if : List Row → Option Text → Option Words
 words_if found None = None
-words_if found (Some pods) = option_map (words_in found) (source_in found pods)
+words_if found (Some pods) = option_map (words_in found) (source_of (named_in found pods))
 
 -- what the words say; none where the command doesn't take them, or they are not within the limits
 unfoldable pub words_given : List Text → Option Words

@@ -2,7 +2,7 @@
 
 ghost use Rattle.std.specs.Prelude.{◌≡◌, IfOk};
 ghost use Rattle.clap.specs.Words.{app_of};
-ghost use Rattle.tool_words.specs.Command.{IsArg, bare_app, flag_rule, list_rule, pods_rule, stop_rule, the_app, threads_rule};
+ghost use Rattle.tool_words.specs.Command.{IsArg, bare_app, flag_rule, list_rule, pods_rule, probe_rule, stop_rule, the_app, threads_rule};
 
 use clap::{Arg, ArgAction, Command, value_parser};
 use std::alloc::{AllocError, Global};
@@ -19,6 +19,10 @@ pub(crate) const STOP_AT_OPTION: &str = "stop-at";
 pub(crate) const TRACE_FLAG: &str = "trace";
 
 pub(crate) const DUMP_FLAG: &str = "dump";
+
+pub(crate) const REQUESTS_FLAG: &str = "requests";
+
+pub(crate) const PROBE_OPTION: &str = "probe";
 
 pub(crate) const PODS_WORD: &str = "PODS";
 
@@ -49,6 +53,12 @@ fn flag<'a>(alloc: Global, name: &'a str) -> Arg<'a>
         .value_parser(value_parser!(bool))
 }
 
+fn probe<'a>(alloc: Global) -> Arg<'a>
+    ensures { IsArg result probe_rule }
+{
+    Arg::new(alloc, PROBE_OPTION).long(PROBE_OPTION)
+}
+
 fn pods<'a>(alloc: Global) -> Arg<'a>
     ensures { IsArg result pods_rule }
 {
@@ -70,7 +80,7 @@ fn bare<'a>(alloc: Global) -> Command<'a>
         .disable_version_flag(true)
 }
 
-/// The command: two options, two flags, PODS and LISTs.
+/// The command: options, flags, PODS and LISTs.
 pub(crate) fn make_command<'a>(alloc: Global) -> Result<Command<'a>, AllocError>
     ensures { IfOk result (λ c. app_of c ≡ the_app) }
 {
@@ -78,7 +88,9 @@ pub(crate) fn make_command<'a>(alloc: Global) -> Result<Command<'a>, AllocError>
     let with_stop = with_threads.arg(stop_at(alloc))?;
     let with_trace = with_stop.arg(flag(alloc, TRACE_FLAG))?;
     let with_dump = with_trace.arg(flag(alloc, DUMP_FLAG))?;
-    let with_pods = with_dump.arg(pods(alloc))?;
+    let with_requests = with_dump.arg(flag(alloc, REQUESTS_FLAG))?;
+    let with_probe = with_requests.arg(probe(alloc))?;
+    let with_pods = with_probe.arg(pods(alloc))?;
     let with_list = with_pods.arg(list(alloc))?;
     Ok(with_list)
 }

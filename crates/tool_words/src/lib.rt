@@ -11,7 +11,7 @@
 //! words.trace           // true
 //! words.source          // Source::Files(..), with the pods' file "pods.json" and the list "net.json"
 //! // gen:10: Source::Generated { count: 10, stop_at: None }
-//! // --threads 17 pods.json, gen:010: Err(WordsEnd::Usage)
+//! // --threads 17 pods.json, gen:010, gen:10 --requests: Err(WordsEnd::Usage)
 //! ```
 #![tactic(auto)]
 

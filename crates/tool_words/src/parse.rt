@@ -4,11 +4,11 @@ ghost use Rattle.std.specs.Prelude.{◌≡◌, ◌≤◌, IfSome, map, option_ma
 ghost use Rattle.clap.specs.Matches.{found_of};
 ghost use Rattle.clap.specs.Walk.{first_of, rows_of};
 ghost use Rattle.clap.specs.declared.builder.value_parser.ValueParser.TheVariants as parser;
-ghost use Rattle.tool_words.specs.Command.{counts_to, greatest_entry, most_threads, pods_word, stop_at_option, threads_option};
+ghost use Rattle.tool_words.specs.Command.{counts_to, greatest_entry, most_threads, stop_at_option, threads_option};
 ghost use Rattle.tool_words.specs.Parse.{Parses, Passes};
 ghost use Rattle.tool_words.specs.Words.{has_flag, lists_at, number_at};
 
-use crate::command::{LISTS_WORD, PODS_WORD, STOP_AT_OPTION, THREADS_OPTION, make_command};
+use crate::command::{LISTS_WORD, STOP_AT_OPTION, THREADS_OPTION, make_command};
 use crate::words::WordsEnd;
 use clap::ArgMatches;
 use clap::error::ErrorKind;
@@ -54,11 +54,10 @@ pub(crate) fn flag<'a>(matches: &ArgMatches<'a>, name: &str) -> bool
     matches.get_flag(name)
 }
 
-pub(crate) fn pods<'a>(matches: &ArgMatches<'a>) -> Option<&'a str>
-    ensures { option_map (λ s. s.now) result
-        ≡ first_of pods_word (rows_of (found_of matches.now)) }
+pub(crate) fn text<'a>(matches: &ArgMatches<'a>, name: &str) -> Option<&'a str>
+    ensures { option_map (λ s. s.now) result ≡ first_of name.now (rows_of (found_of matches.now)) }
 {
-    matches.get_str(PODS_WORD)
+    matches.get_str(name)
 }
 
 pub(crate) fn lists<'m, 'a>(matches: &'m ArgMatches<'a>) -> &'m [&'a str]

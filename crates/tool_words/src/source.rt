@@ -1,12 +1,9 @@
 //! Where the pods come from.
 
-ghost use Rattle.std.specs.Prelude.{◌≡◌, IfOk, map};
-ghost use Rattle.tool_words.specs.Source.{begins_plainly, count_of, files_of, source_of};
-ghost use Rattle.tool_words.specs.Words.{Reads};
+ghost use Rattle.std.specs.Prelude.{◌≡◌};
+ghost use Rattle.tool_words.specs.Source.{begins_plainly, count_of, files_of, generated_of, is_alone, source_of};
 
-use crate::words::WordsEnd;
-use cni_addr::{Items, NoMemory, Text};
-use std::alloc::Global;
+use cni_addr::{Items, Text};
 
 /// What stands before the number of pods that are to be generated.
 const GENERATED: &str = "gen:";
@@ -31,7 +28,7 @@ pub enum Source {
     },
 }
 
-/// The files that are named.
+/// The files that are named, and what is asked of them.
 #[derive(Drop)]
 pub struct Named {
     /// The pod file's name.
@@ -40,52 +37,47 @@ pub struct Named {
     pub lists: Items<Text>,
     /// The number, from 1, of the history's entry after which the rest of its round is stopped.
     pub stop_at: Option<u32>,
+    /// The plugins' requests are to be printed.
+    pub requests: bool,
+    /// The packet file's name, where it is to be printed what becomes of packets.
+    pub packets: Option<Text>,
 }
 
-/// What PODS, the LISTs and the stop ask for.
-pub(crate) fn read_source(
-    alloc: Global,
-    pods: &str,
-    lists: &[&str],
-    stop_at: Option<u32>,
-) -> Result<Source, WordsEnd>
-    ensures { Reads (source_of pods.now (map (λ v. v.now) lists.now) stop_at) result }
+/// What the words name, as a source.
+pub(crate) fn source_of(named: Named) -> Option<Source>
+    ensures { result ≡ source_of named }
 {
-    match pods.strip_prefix(GENERATED) {
-        None => read_files(alloc, pods, lists, stop_at),
-        Some(number) => match read_count(number) {
-            Some(count) if lists.is_empty() => Ok(Source::Generated { count, stop_at }),
-            _ => Err(WordsEnd::Usage),
-        },
+    if let Some(number) = named.pods.as_str().strip_prefix(GENERATED) {
+        return generated(number, &named);
+    }
+    files(named)
+}
+
+fn generated(number: &str, named: &Named) -> Option<Source>
+    ensures { result ≡ generated_of number.now named.now }
+{
+    match read_count(number) {
+        Some(count) if is_alone(named) => Some(Source::Generated {
+            count,
+            stop_at: named.stop_at,
+        }),
+        _ => None,
     }
 }
 
-fn read_files(
-    alloc: Global,
-    pods: &str,
-    lists: &[&str],
-    stop_at: Option<u32>,
-) -> Result<Source, WordsEnd>
-    ensures { Reads (files_of pods.now (map (λ v. v.now) lists.now) stop_at) result }
+fn is_alone(named: &Named) -> bool
+    ensures { result ≡ is_alone named.now }
 {
-    if lists.len() > MOST_LISTS {
-        return Err(WordsEnd::Usage);
-    }
-    Ok(Source::Files(Named {
-        pods: Text::of(alloc, pods)?,
-        lists: names(alloc, lists)?,
-        stop_at,
-    }))
+    named.lists.as_slice().is_empty() && !named.requests && named.packets.is_none()
 }
 
-fn names(alloc: Global, names: &[&str]) -> Result<Items<Text>, NoMemory>
-    ensures { IfOk result (λ copies. copies ≡ map (λ s. s.now) names.now) }
+fn files(named: Named) -> Option<Source>
+    ensures { result ≡ files_of named }
 {
-    let mut copies = Items::new(alloc);
-    for name in names {
-        copies.push(Text::of(alloc, name)?)?;
+    if named.lists.as_slice().len() > MOST_LISTS {
+        return None;
     }
-    Ok(copies)
+    Some(Source::Files(named))
 }
 
 /// The number of pods that the text spells.

@@ -1,12 +1,19 @@
 //! What the words of the program say.
 
-ghost use Rattle.std.specs.Prelude.{◌≡◌, IfOk};
-ghost use Rattle.tool_words.specs.Words.{IsWithinLimits, Reads, words_given};
+ghost use Rattle.std.specs.Prelude.{◌≡◌, IfOk, map, option_map};
+ghost use Rattle.clap.specs.Matches.{found_of};
+ghost use Rattle.clap.specs.Walk.{rows_of};
+ghost use Rattle.clap.specs.declared.builder.value_parser.ValueParser.TheVariants as parser;
+ghost use Rattle.tool_words.specs.Command.{counts_to, greatest_entry, requests_flag, stop_at_option};
+ghost use Rattle.tool_words.specs.Parse.{Passes};
+ghost use Rattle.tool_words.specs.Source.{IsStopWithin};
+ghost use Rattle.tool_words.specs.Words.{IsWithinLimits, Reads, named_in, words_given};
 
-use crate::command::{DUMP_FLAG, TRACE_FLAG};
-use crate::parse::{flag, lists, parse, pods, stop_at, threads};
-use crate::source::{Source, read_source};
-use cni_addr::{NoMemory, Text};
+use crate::command::{DUMP_FLAG, PODS_WORD, PROBE_OPTION, REQUESTS_FLAG, TRACE_FLAG};
+use crate::parse::{flag, lists, parse, stop_at, text, threads};
+use crate::source::{Named, Source, source_of};
+use clap::ArgMatches;
+use cni_addr::{Items, NoMemory, Text};
 use std::alloc::Global;
 
 /// What the words say.
@@ -43,20 +50,59 @@ impl From<NoMemory> for WordsEnd {
 /// Reads the words, without the program's own name, as clap takes them (its documentation of `Command` and `Arg`).
 ///
 /// Words that clap takes are refused where they name more than 64 lists. Where PODS begins `gen:`, a number from 1 to
-/// 10,000 stands behind it, without a sign or a leading zero, and no list beside it; else they are refused too.
+/// 10,000 stands behind it, without a sign or a leading zero, and no list, `--requests` or `--probe` beside it; else they
+/// are refused too.
 pub fn read_words(alloc: Global, words: &[Text]) -> Result<Words, WordsEnd>
     ensures exact { Reads (words_given words.now) result }
     ensures limits { IfOk result IsWithinLimits }
 {
     let matches = parse(alloc, words)?;
-    let Some(pods) = pods(&matches) else {
+    let Some(pods) = text(&matches, PODS_WORD) else {
         return Err(WordsEnd::Usage);
     };
-    let source = read_source(alloc, pods, lists(&matches), stop_at(&matches))?;
+    let named = read_named(alloc, &matches, pods)?;
+    let Some(source) = source_of(named) else {
+        return Err(WordsEnd::Usage);
+    };
     Ok(Words {
         threads: threads(&matches).unwrap_or(1),
         trace: flag(&matches, TRACE_FLAG),
         dump: flag(&matches, DUMP_FLAG),
         source,
     })
+}
+
+/// What the matches name beside this PODS.
+fn read_named<'a>(alloc: Global, matches: &ArgMatches<'a>, pods: &str) -> Result<Named, NoMemory>
+    requires stop_at { Passes matches.now stop_at_option (counts_to greatest_entry) }
+    requires flag { Passes matches.now requests_flag parser.Bool }
+    ensures named { IfOk result (λ named. named ≡ named_in (rows_of (found_of matches.now)) pods.now) }
+    ensures stop { IfOk result (λ named. IsStopWithin named.stop_at) }
+{
+    Ok(Named {
+        pods: Text::of(alloc, pods)?,
+        lists: copied_texts(alloc, lists(matches))?,
+        stop_at: stop_at(matches),
+        requests: flag(matches, REQUESTS_FLAG),
+        packets: copied_text(alloc, text(matches, PROBE_OPTION))?,
+    })
+}
+
+fn copied_texts(alloc: Global, texts: &[&str]) -> Result<Items<Text>, NoMemory>
+    ensures { IfOk result (λ copies. copies ≡ map (λ s. s.now) texts.now) }
+{
+    let mut copies = Items::new(alloc);
+    for text in texts {
+        copies.push(Text::of(alloc, text)?)?;
+    }
+    Ok(copies)
+}
+
+fn copied_text(alloc: Global, text: Option<&str>) -> Result<Option<Text>, NoMemory>
+    ensures { IfOk result (λ copy. copy ≡ option_map (λ s. s.now) text.entry) }
+{
+    match text {
+        Some(text) => Ok(Some(Text::of(alloc, text)?)),
+        None => Ok(None),
+    }
 }
