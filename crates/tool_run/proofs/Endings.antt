@@ -5,6 +5,7 @@ use Rattle.std.proofs.lemmas.Option.{none-some, same_Some}
 use Rattle.cni_io.specs.Files.{StoredFiles}
 use Rattle.cni_errors.specs.declared.answer.Answer.{Answer}
 use Rattle.cni_errors.specs.declared.answer.Answer.TheVariants.{OutOfMemory}
+use Rattle.packet_laws.specs.Packets.{EveryPacketGoesAsCached, PacketsGoAsCached}
 use Rattle.pod_laws.specs.Guaranteed.{EveryLegalHistoryIsGuaranteed, IsGuaranteed}
 use Rattle.exec_protocol.specs.Raw.{RawView}
 use Rattle.kernel_text.specs.Dump.{dump_of}
@@ -77,6 +78,10 @@ if_made words files sink status book (out_of_memory st none nothing) = subst (λ
 guaranteed : (words : List (List ℕ)) (files : FilesSeen) (sink : SinkSeen) (status : ℕ) (book : Option World) → EveryLegalHistoryIsGuaranteed → Ends words files sink status book → IfSome book IsGuaranteed
 guaranteed words files sink status None law how = tt
 guaranteed words files sink status (Some b) law how = law b (if_made words files sink status (Some b) how).1.legal
+
+packets_go : (words : List (List ℕ)) (files : FilesSeen) (sink : SinkSeen) (status : ℕ) (book : Option World) → EveryPacketGoesAsCached → Ends words files sink status book → IfSome book PacketsGoAsCached
+packets_go words files sink status None law how = tt
+packets_go words files sink status (Some b) law how = law b (if_made words files sink status (Some b) how).1.legal
 
 -- ---- a read that failed
 
@@ -174,11 +179,12 @@ determined words files sink status book law order (out_of_memory st none nothing
 
 -- ---- the run
 
-pub is_run : (words : List (List ℕ)) (files : FilesSeen) (sink : SinkSeen) (OneThread : Type 0) (status : ℕ) (book : Option World) → EveryLegalHistoryIsGuaranteed → OneOutcome
+pub is_run : (words : List (List ℕ)) (files : FilesSeen) (sink : SinkSeen) (OneThread : Type 0) (status : ℕ) (book : Option World) → EveryLegalHistoryIsGuaranteed → EveryPacketGoesAsCached → OneOutcome
     → (OneThread → IfSome book IsInFileOrder) → Ends words files sink status book → IsRunOf words files sink OneThread status book
-is_run words files sink OneThread status book law one order how = record {
+is_run words files sink OneThread status book law of_packets one order how = record {
   ends = how;
   guaranteed = guaranteed words files sink status book law how;
+  packets = packets_go words files sink status book of_packets how;
   order = order;
   determined = λ alone. determined words files sink status book one (order alone) how;
 }

@@ -12,6 +12,7 @@ use crate::settle::{settle, settle_alone};
 use cni_addr::Text;
 use cni_io::{Files, Sink};
 use kernel_model::Kernel;
+use packet_laws::every_packet_goes_as_cached;
 use pod_laws::every_legal_history_is_guaranteed;
 use pod_threads::Gate;
 use pod_workers::{Book, one_outcome};
@@ -54,6 +55,7 @@ where
     ensures untouched { NameNoFile words.now → files.new ≡ files.old }
 {
     every_legal_history_is_guaranteed();
+    every_packet_goes_as_cached();
     one_outcome();
     let settled = settle(rt, alloc, words, files, gate);
     report(sink, settled)
@@ -74,6 +76,7 @@ pub fn run_alone_over<K: FromHost + Drop, F: Files, S: Sink>(
     ensures untouched { NameNoFile words.now → files.new ≡ files.old }
 {
     every_legal_history_is_guaranteed();
+    every_packet_goes_as_cached();
     one_outcome();
     let settled = settle_alone(alloc, words, files);
     report(sink, settled)
