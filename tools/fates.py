@@ -9,6 +9,7 @@ the two readings differ.
 """
 
 import json
+import signal
 import sys
 
 sys.dont_write_bytecode = True
@@ -67,6 +68,7 @@ def lines_of(number, packet, rules, left_over):
 
 
 def main():
+    signal.signal(signal.SIGPIPE, signal.SIG_DFL)
     if len(sys.argv) != 2:
         sys.exit(__doc__)
     with open(sys.argv[1], encoding="utf-8") as file:
