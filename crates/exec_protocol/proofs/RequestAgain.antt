@@ -24,7 +24,7 @@ use Rattle.cni_result.specs.declared.version.Version.{Version}
 use Rattle.cni_result.specs.declared.version.Version.TheVariants.{V0_4, V1_0, V1_1}
 use Rattle.exec_protocol.specs.Laws.{IsReadAgain, RequestsAreReadAgain}
 use Rattle.exec_protocol.specs.Raw.{RawView, IsRaw}
-use Rattle.exec_protocol.specs.Reading.{prev_if, prev_at, lacks_prev, prev_needed, runtime_key, mapping_or_refused, mappings_within, mappings_at, valid_att_at, valid_of, valid_at, request_at, request_of_bytes}
+use Rattle.exec_protocol.specs.Reading.{prev_if, prev_at, lacks_prev, runtime_key, mapping_or_refused, mappings_within, mappings_at, valid_att_at, valid_of, valid_at, request_at, request_of_bytes}
 use Rattle.exec_protocol.specs.Request.{mappings_for, valid_key, valid_data, runtime_members, own_members, request_members, object_at, request_of}
 use Rattle.exec_protocol.specs.declared.types.Env.{Env}
 use Rattle.net_conf.proofs.ChainFacts.{each-at}
@@ -39,7 +39,6 @@ use Rattle.net_conf.specs.RuntimeKeys.{is_runtime_key, HaveSameKeys}
 use Rattle.net_conf.specs.Sets.{is_object}
 use Rattle.net_conf.specs.Versions.{single_version_of, single_version_at, listed_versions_at, version_texts_at, version_of, version_at}
 use Rattle.net_conf.specs.declared.error.ConfError.TheVariants as refusal
-use Rattle.net_conf.specs.declared.list.ListHeader.{ListHeader}
 use Rattle.net_conf.specs.declared.list.NetList.{NetList}
 use Rattle.net_conf.specs.declared.plugin.Plugin.{Plugin}
 use Rattle.pod_file.specs.declared.command.ValidAtt.{ValidAtt}

@@ -1,13 +1,13 @@
 -- What a line of a request needs to be read again: whole numbers, and no more levels than a reader takes.
-use Rattle.std.proofs.Common.{◌≡◌, ℕ, ◌+◌, ◌≤◌, List, false, Option, not, refl, arith, rules}
+use Rattle.std.proofs.Common.{◌≡◌, ◌+◌, ◌≤◌, List, false, Option, not, refl, arith, rules}
 use Rattle.std.specs.Prelude.{codes}
-use Rattle.serde_json.specs.Data.{Data, no_members, depth, members_depth}
+use Rattle.serde_json.specs.Data.{Data, Members, no_members, put, depth, members_depth}
 use Rattle.serde_json.specs.Read.{max_depth}
 use Rattle.serde_json.specs.Written.{has_float, members_have_float}
 use Rattle.cni_json.proofs.Building.{members_have_float-put}
 use Rattle.cni_json.proofs.Depths.{members_depth-put, members_depth-put_if, depth-list, members_depth-put_list, members_depth-put_object, depth-object}
 use Rattle.cni_json.proofs.KeptMembers.{members_depth-where, members_depth-members_in, members_have_float-where, members_have_float-members_in}
-use Rattle.cni_json.specs.Members.{members_in, text_data, list_data}
+use Rattle.cni_json.specs.Members.{members_in, text_data, list_data, ◌▷◌, put_if}
 use Rattle.cni_result.proofs.Depths.{result_depth}
 use Rattle.cni_result.proofs.ResultLemmas.{result_is_whole, mapping_is_whole}
 use Rattle.cni_result.proofs.WholeNumbers.{puts_are_whole, items_are_whole, put_if_is_whole, put_list_is_whole, put_object_is_whole}
@@ -20,6 +20,20 @@ use Rattle.exec_protocol.specs.Request.{mappings_for, valid_key, valid_data, run
 use Rattle.net_conf.specs.RuntimeKeys.{is_runtime_key}
 use Rattle.net_conf.specs.declared.list.NetList.{NetList}
 use Rattle.pod_file.specs.declared.command.ValidAtt.{ValidAtt}
+
+-- ---- a request, member by member
+
+abbrev up_to_valid : Data → Option (List ValidAtt) → Members
+up_to_valid d valid = own_members d ▷ put_if (list_data valid_data) valid_key valid
+
+abbrev up_to_version : NetList → Data → Option (List ValidAtt) → Members
+up_to_version list d valid = up_to_valid d valid ▷ put (codes "cniVersion") (version_data list.version)
+
+abbrev up_to_name : NetList → Data → Option (List ValidAtt) → Members
+up_to_name list d valid = up_to_version list d valid ▷ put (codes "name") (text_data list.name)
+
+abbrev up_to_prev : NetList → Data → Option AddResult → Option (List ValidAtt) → Members
+up_to_prev list d prev valid = up_to_name list d valid ▷ put_if result_data (codes "prevResult") prev
 
 -- ---- numbers
 
@@ -37,10 +51,10 @@ pub request_is_whole : (list : NetList) (d : Data) (prev : Option AddResult) (ma
 unfolding request_members
 request_is_whole list d prev mappings valid object =
     let atts = put_if_is_whole (list_data valid_data) valid_key valid (own_members d) (λ found. items_are_whole valid_data found valid_is_whole) (own_is_whole d object.whole) in
-    let version = members_have_float-put (codes "cniVersion") (version_data list.version) _ refl atts in
-    let name = members_have_float-put (codes "name") (text_data list.name) _ refl version in
-    let before = put_if_is_whole result_data (codes "prevResult") prev _ result_is_whole name in
-    put_object_is_whole (codes "runtimeConfig") (runtime_members (mappings_for d mappings)) _ (runtime_is_whole (mappings_for d mappings)) before
+    let version = members_have_float-put (codes "cniVersion") (version_data list.version) (up_to_valid d valid) refl atts in
+    let name = members_have_float-put (codes "name") (text_data list.name) (up_to_version list d valid) refl version in
+    let before = put_if_is_whole result_data (codes "prevResult") prev (up_to_name list d valid) result_is_whole name in
+    put_object_is_whole (codes "runtimeConfig") (runtime_members (mappings_for d mappings)) (up_to_prev list d prev valid) (runtime_is_whole (mappings_for d mappings)) before
 
 -- ---- levels
 
@@ -51,7 +65,10 @@ own_depth d object =
     omega (arith, all, kept, object.shallow)
 
 valid_depth : (att : ValidAtt) → depth (valid_data att) ≤ 1
-valid_depth att = depth-object 0 _ (search (rules, members_depth-put) depth 9)
+valid_depth att =
+    let container = members_depth-put 0 (codes "containerID") (text_data att.container) no_members (omega arith) (omega arith) in
+    let both = members_depth-put 0 (codes "ifname") (text_data att.ifname) (put (codes "containerID") (text_data att.container) no_members) (omega arith) container in
+    omega (arith, both)
 
 valid_list_depth : (atts : List ValidAtt) → depth (list_data valid_data atts) ≤ 125
 valid_list_depth atts = let list = depth-list 1 valid_data atts valid_depth in omega (arith, list)
@@ -74,8 +91,8 @@ pub request_depth : (list : NetList) (d : Data) (prev : Option AddResult) (mappi
 unfolding request_members
 request_depth list d prev mappings valid object =
     let atts = members_depth-put_if 125 (list_data valid_data) valid_key valid (own_members d) valid_list_depth (own_depth d object) in
-    let version = members_depth-put 125 (codes "cniVersion") (version_data list.version) _ (omega arith) atts in
-    let name = members_depth-put 125 (codes "name") (text_data list.name) _ (omega arith) version in
-    let before = members_depth-put_if 125 result_data (codes "prevResult") prev _ prev_depth name in
-    let whole = members_depth-put_object 124 (codes "runtimeConfig") (runtime_members (mappings_for d mappings)) _ (runtime_depth (mappings_for d mappings)) before in
+    let version = members_depth-put 125 (codes "cniVersion") (version_data list.version) (up_to_valid d valid) (omega arith) atts in
+    let name = members_depth-put 125 (codes "name") (text_data list.name) (up_to_version list d valid) (omega arith) version in
+    let before = members_depth-put_if 125 result_data (codes "prevResult") prev (up_to_name list d valid) prev_depth name in
+    let whole = members_depth-put_object 124 (codes "runtimeConfig") (runtime_members (mappings_for d mappings)) (up_to_prev list d prev valid) (runtime_depth (mappings_for d mappings)) before in
     omega (arith, whole)

@@ -1,6 +1,6 @@
 -- The request to one plugin: its own object, with what a runtime replaces in it (CNI specification 1.1.0, section 3,
 -- "Deriving execution configuration from plugin configuration").
-use Rattle.std.specs.Prelude.{ℕ, List, [], codes, Bool, not, if◌then◌else◌, Option, slice_index_or}
+use Rattle.std.specs.Prelude.{ℕ, List, [], codes, not, if◌then◌else◌, Option, slice_index_or}
 use Rattle.serde_json.specs.Data.{Data, null, object, Members, no_members, put}
 use Rattle.cni_json.specs.Members.{members_in, members_where, text_data, list_data, ◌▷◌, put_if, put_list_unless_empty, put_object_unless_empty}
 use Rattle.cni_result.specs.Mappings.{mapping_data}

@@ -155,12 +155,20 @@ pub fn request_value(
     request_to(alloc, list, raw.object(k), prev, mappings, valid)
 }
 
-/// Opens the bounds of each mapping's numbers to the proof.
-fn open_bounds(mappings: &[PortMapping])
+/// Opens the bounds of a mapping's numbers to the proof.
+fn is_mapping(mapping: PortMapping)
+    ensures { IsMapping mapping }
+{
+    if let Some(addr) = mapping.host_ip {
+        let _bits = addr.bits;
+    }
+}
+
+fn are_mappings(mappings: &[PortMapping])
     ensures { All IsMapping mappings.now }
 {
     for mapping in mappings {
-        let _bounds = (mapping.host_port, mapping.container_port, mapping.host_ip);
+        is_mapping(*mapping);
     }
 }
 
@@ -183,7 +191,7 @@ pub fn request(
 {
     a_request_is_read_again();
     raw.is_raw();
-    open_bounds(mappings);
+    are_mappings(mappings);
     let value = request_value(alloc, raw, k, prev, mappings, valid)?;
     let text = line_text(alloc, &value)?;
     Ok(text)
