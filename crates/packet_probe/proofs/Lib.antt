@@ -1,4 +1,3 @@
-pub mod Matching
 mod Filing
 mod Found
 mod KindMatches
