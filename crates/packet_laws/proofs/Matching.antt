@@ -51,10 +51,11 @@ dnat-fits att m a q h =
     let family = and_parts _ _ h in
     let dst = and_parts _ _ family.1 in
     let protocol = and_parts _ _ dst.1 in
-    let port = and_parts _ _ protocol.1 in
-    (and_from (proto_eq q.protocol m.protocol) (nat_eq q.dport m.host_port && asks (addr_eq q.dst) m.host_ip) protocol.0
-    (and_from (nat_eq q.dport m.host_port) (asks (addr_eq q.dst) m.host_ip) port.0 (to-host q m.host_ip dst.0)),
-    family-same a.family q.dst.family (and_parts _ _ family.0).1)
+    let port = and_parts _ _ protocol.1 in (
+      and_from (proto_eq q.protocol m.protocol) (nat_eq q.dport m.host_port && asks (addr_eq q.dst) m.host_ip) protocol.0
+          (and_from (nat_eq q.dport m.host_port) (asks (addr_eq q.dst) m.host_ip) port.0 (to-host q m.host_ip dst.0)),
+      family-same a.family q.dst.family (and_parts _ _ family.0).1,
+    )
 
 pub fits-dnat : (att : Att) (m : PortMapping) (a : Addr) (q : Packet) → is_for q m ≡ true → a.family ≡ q.dst.family → matches_in chains.Dnat q (dnat_of att m a) ≡ true
 fits-dnat att m a q fits family =
