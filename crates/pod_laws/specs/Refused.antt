@@ -1,6 +1,6 @@
 -- Why an ADD was refused, and what it left (CNI specification, section 5, "Error"; the codes from 100 on are this
 -- project's own).
-use Rattle.std.specs.Prelude.{◌≡◌, ◌≢◌, ℕ, ◌+◌, ◌⊎◌, Bool, true, false, List, [], ◌∷◌, length, None}
+use Rattle.std.specs.Prelude.{◌≡◌, ◌≢◌, ℕ, ◌+◌, ◌⊎◌, Bool, true, List, [], ◌∷◌, length, None}
 use Rattle.std.specs.List.{list_all}
 use Rattle.cni_addr.specs.declared.range.RangeSet.{RangeSet}
 use Rattle.cni_result.specs.declared.result.AddResult.{AddResult}
@@ -17,7 +17,7 @@ use Rattle.kernel_types.specs.declared.object.Tag.{Tag}
 use Rattle.kernel_types.specs.declared.call.Call.{Call}
 use Rattle.kernel_types.specs.declared.call.Call.TheVariants.{Begin, LeaseNext, MacvlanAdd}
 use Rattle.kernel_types.specs.declared.call.Reply.{Reply}
-use Rattle.kernel_types.specs.declared.call.Reply.TheVariants.{Done, NoNs, NoLink, Taken, Empty, Leased, Fault}
+use Rattle.kernel_types.specs.declared.call.Reply.TheVariants.{NoNs, NoLink, Taken, Empty, Fault}
 use Rattle.plugin_base.specs.Share.{Share, no_objects}
 use Rattle.pod_file.specs.declared.command.Command.{Command}
 use Rattle.pod_file.specs.declared.command.Verb.TheVariants as verbs
