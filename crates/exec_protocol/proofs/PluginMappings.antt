@@ -28,7 +28,7 @@ use Rattle.pod_file.specs.declared.command.Command.{Command}
 use Rattle.plugin_chain.specs.Plugins.{chained_plugin_of}
 use Rattle.plugin_chain.specs.Wanted.{chained_calls}
 use Rattle.cni_verbs.specs.Mappings.{mappings_of, takes_mappings}
-use Rattle.exec_protocol.specs.Request.{mappings_for}
+use Rattle.plugin_requests.specs.Request.{mappings_for}
 
 -- ---- what a `portmap` asks for
 

@@ -23,9 +23,9 @@ use Rattle.cni_result.specs.declared.result.AddResult.{AddResult}
 use Rattle.cni_result.specs.declared.version.Version.{Version}
 use Rattle.cni_result.specs.declared.version.Version.TheVariants.{V0_4, V1_0, V1_1}
 use Rattle.exec_protocol.specs.Laws.{IsReadAgain, RequestsAreReadAgain}
-use Rattle.exec_protocol.specs.Raw.{RawView, IsRaw}
+use Rattle.plugin_requests.specs.Raw.{RawView, IsRaw}
 use Rattle.exec_protocol.specs.Reading.{prev_if, prev_at, lacks_prev, runtime_key, mapping_or_refused, mappings_within, mappings_at, valid_att_at, valid_of, valid_at, request_at, request_of_bytes}
-use Rattle.exec_protocol.specs.Request.{mappings_for, valid_key, valid_data, runtime_members, own_members, request_members, object_at, request_of}
+use Rattle.plugin_requests.specs.Request.{mappings_for, valid_key, valid_data, runtime_members, own_members, request_members, object_at, request_of}
 use Rattle.exec_protocol.specs.declared.types.Env.{Env}
 use Rattle.net_conf.proofs.ChainFacts.{each-at}
 use Rattle.net_conf.proofs.SameKeys.{plugin_by_type_at-same}

@@ -20,8 +20,8 @@ use Rattle.cni_verbs.specs.AddCalls.{calls_of_add}
 use Rattle.cni_verbs.specs.Mappings.{mappings_of}
 use Rattle.exec_protocol.proofs.Chained.{first_work-result, length-objects, works-calls_of_add}
 use Rattle.exec_protocol.proofs.PluginMappings.{asked-calls}
-use Rattle.exec_protocol.specs.Raw.{IsRaw, RawView}
-use Rattle.exec_protocol.specs.Request.{mappings_for, object_at}
+use Rattle.plugin_requests.specs.Raw.{IsRaw, RawView}
+use Rattle.plugin_requests.specs.Request.{mappings_for, object_at}
 use Rattle.exec_protocol.specs.Work.{AreGivenFor, IsAddFor, addresses, chained_work, first_work, result_after, result_before, work_of}
 use Rattle.exec_protocol.specs.Works.{AreWorksOfAdd, EachWorkIsOfTheAdd, read_of_add}
 use Rattle.exec_protocol.specs.declared.types.Work.{Work}

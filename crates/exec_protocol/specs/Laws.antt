@@ -6,9 +6,9 @@ use Rattle.cni_result.specs.Laws.{IsMapping, IsReadable}
 use Rattle.cni_result.specs.declared.cached.PortMapping.{PortMapping}
 use Rattle.cni_result.specs.declared.result.AddResult.{AddResult}
 use Rattle.exec_protocol.specs.Env.{verb_at}
-use Rattle.exec_protocol.specs.Raw.{RawView, IsRaw, raw_of}
+use Rattle.plugin_requests.specs.Raw.{RawView, IsRaw, raw_of}
 use Rattle.exec_protocol.specs.Reading.{lacks_prev, request_at, request_of_bytes}
-use Rattle.exec_protocol.specs.Request.{mappings_for, object_at, request_of}
+use Rattle.plugin_requests.specs.Request.{mappings_for, object_at, request_of}
 use Rattle.exec_protocol.specs.declared.types.Env.{Env}
 use Rattle.exec_protocol.specs.declared.types.Request.{Request}
 use Rattle.net_conf.specs.List.{list_of}
@@ -18,10 +18,6 @@ use Rattle.net_conf.specs.declared.list.NetList.{NetList}
 use Rattle.net_conf.specs.declared.plugin.Plugin.{Plugin}
 use Rattle.pod_file.specs.declared.command.ValidAtt.{ValidAtt}
 use Rattle.pod_file.specs.declared.command.Verb.{Verb}
-
--- the same bytes are refused for the same cause, and else give the same list
-abbrev pub RawListsAreTheirLists : Type 0
-RawListsAreTheirLists = (bytes : List ℕ) → list_of bytes ≡ ok_map (λ (raw : RawView). raw.list) (raw_of bytes)
 
 -- the plugin in this place of a list, from 0
 abbrev pub plugin_in : NetList → ℕ → Option Plugin

@@ -1,9 +1,6 @@
-pub mod DataCode
 pub mod Env
 pub mod Laws
-pub mod Raw
 pub mod Reading
 pub mod Refusals
-pub mod Request
 pub mod Work
 pub mod Works

@@ -24,8 +24,8 @@ use Rattle.host_local.specs.Results.{ipam_result_of}
 use Rattle.cni_errors.specs.CommandFields.{add_refusal, att_of}
 use Rattle.plugin_chain.specs.Wanted.{all_chained_results, calls_after, calls_before, chained_calls, chained_result, first_plugin_result, first_result, ipam_of, sets_of}
 use Rattle.cni_verbs.specs.Mappings.{mappings_of}
-use Rattle.exec_protocol.specs.Raw.{RawView}
-use Rattle.exec_protocol.specs.Request.{request_data}
+use Rattle.plugin_requests.specs.Raw.{RawView}
+use Rattle.plugin_requests.specs.Request.{request_data}
 use Rattle.exec_protocol.specs.declared.types.Request.{Request}
 use Rattle.exec_protocol.specs.declared.types.Work.{Work}
 
@@ -82,25 +82,3 @@ pub record IsAddFor (list : NetList) (c : Command) : Type 0 where
   pub verb : c.verb ≡ verbs.Add
   pub network : c.network ≡ list.name
   pub fields : add_refusal c ≡ None
-
--- the result of the plugin in this place, where the first plugin has this one
-abbrev pub result_after : List Chained → AddResult → ℕ → AddResult
-result_after chained first k = all_chained_results (take k chained) first
-
--- the result of the plugin before it, if there is one
-abbrev pub result_before : List Chained → AddResult → ℕ → Option AddResult
-result_before chained first zero = None
-result_before chained first (suc k) = Some (result_after chained first k)
-
--- the request to the plugin in this place
-abbrev pub chain_request : NetList → List PortMapping → AddResult → ℕ → Data → Data
-chain_request list mappings first k d = request_data list d (result_before list.chained first k) mappings None
-
--- the requests to all plugins, in list order
-abbrev pub chain_requests : RawView → List PortMapping → AddResult → List Data
-chain_requests raw mappings first = scan (λ k d. k + 1) (chain_request raw.list mappings first) 0 raw.objects
-
--- those of an ADD that is leased these addresses
-abbrev pub add_requests : RawView → Command → List Addr → List Data
-add_requests raw c addrs =
-    chain_requests raw (mappings_of raw.list c) (first_plugin_result raw.list (att_of c) c.netns addrs)

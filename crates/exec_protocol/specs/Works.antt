@@ -11,8 +11,8 @@ use Rattle.cni_errors.specs.CommandFields.{att_of}
 use Rattle.plugin_chain.specs.Wanted.{cached_of, first_plugin_result}
 use Rattle.cni_verbs.specs.AddCalls.{calls_of_add}
 use Rattle.cni_verbs.specs.Mappings.{mappings_of}
-use Rattle.exec_protocol.specs.Raw.{IsRaw, RawView}
-use Rattle.exec_protocol.specs.Request.{mappings_for, object_at}
+use Rattle.plugin_requests.specs.Raw.{IsRaw, RawView}
+use Rattle.plugin_requests.specs.Request.{mappings_for, object_at}
 use Rattle.exec_protocol.specs.Work.{AreGivenFor, IsAddFor, addresses, result_before, work_of}
 use Rattle.exec_protocol.specs.declared.types.Env.{Env}
 use Rattle.exec_protocol.specs.declared.types.Request.{Request}

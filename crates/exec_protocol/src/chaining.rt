@@ -8,84 +8,21 @@ ghost use Rattle.cni_errors.specs.CommandFields.{att_of};
 ghost use Rattle.cni_json.specs.Json.{line_of};
 ghost use Rattle.cni_verbs.specs.AddCalls.{calls_of_add};
 ghost use Rattle.plugin_chain.specs.Wanted as wanted;
+ghost use Rattle.plugin_requests.specs.Adding.{add_requests};
 ghost use Rattle.exec_protocol.specs.Work as defined;
 
-use crate::raw_list::RawList;
 use crate::types::Chain;
 use crate::working::{chained_work, first_work, push_all};
-use crate::writing::request_to;
 use cni_addr::{Addr, Duplicate, Items, NoMemory, RefCounted, Text};
 use cni_errors::fields::named_att_of;
 use cni_json::{Value, line_text};
 use cni_result::{AddResult, Cached, PortMapping};
 use cni_verbs::mappings::mappings_of;
-use host_local::{given_of, ipam_result_of};
-use kernel_types::{Att, Call, Given, NamedAtt};
-use net_conf::{Chained, NetList};
-use plugin_chain::plugins::{chained_result, first_result, ipam_of};
-use plugin_chain::wanted::sets_of;
+use kernel_types::{Att, Call, Given};
+use net_conf::Chained;
+use plugin_requests::{RawList, requests_of_add};
 use pod_file::Command;
 use std::alloc::Global;
-
-// ---- requests
-
-fn first_plugin_result(
-    alloc: Global,
-    list: &NetList,
-    att: &NamedAtt,
-    netns: &Text,
-    addrs: &[Addr],
-) -> Result<AddResult, NoMemory>
-    ensures { IfOk result (λ r. r ≡ wanted.first_plugin_result list.now att.now netns.now addrs.now) }
-{
-    let given = given_of(alloc, sets_of(list), addrs)?;
-    let ipam = ipam_result_of(alloc, ipam_of(&list.first), given.as_slice(), list.version)?;
-    first_result(alloc, &list.first, att, netns, &ipam)
-}
-
-/// The requests to all plugins, where the first one has this result.
-fn chain_requests(
-    alloc: Global,
-    raw: &RawList,
-    mappings: &[PortMapping],
-    first: AddResult,
-) -> Result<Vec<Value>, NoMemory>
-    ensures requests { IfOk result (λ made. map view made.items ≡ defined.chain_requests raw.now mappings.now first) }
-    ensures numbers { IfOk result (λ made. All (λ v. has_float (view v) ≡ false) made.items) }
-{
-    let list = raw.list().get();
-    raw.is_raw();
-    let [object, others @ ..] = raw.objects() else {
-        unreachable!();
-    };
-    let mut requests = Vec::new(alloc);
-    requests.push(request_to(alloc, list, object, None, mappings, None)?)?;
-    let mut prev = first;
-    for (plugin, object) in list.chained.as_slice().iter().zip(others) {
-        requests.push(request_to(alloc, list, object, Some(&prev), mappings, None)?)?;
-        prev = chained_result(alloc, plugin, prev)?;
-    }
-    Ok(requests)
-}
-
-/// The requests of an ADD that is leased these addresses, the k-th of the k-th set: one to each plugin, in list order,
-/// and in each the result of the plugin before it, as JSON. Linear in the objects, and for each chained plugin in the
-/// result and the mappings.
-pub fn requests_of_add(
-    alloc: Global,
-    raw: &RawList,
-    command: &Command,
-    addrs: &[Addr],
-) -> Result<Vec<Value>, NoMemory>
-    ensures requests { IfOk result (λ made. map view made.items ≡ defined.add_requests raw.now command.now addrs.now) }
-    ensures numbers { IfOk result (λ made. All (λ v. has_float (view v) ≡ false) made.items) }
-{
-    let list = raw.list().get();
-    let att = named_att_of(alloc, command)?;
-    let first = first_plugin_result(alloc, list, &att, &command.netns, addrs)?;
-    let mappings = mappings_of(alloc, list, command)?;
-    chain_requests(alloc, raw, mappings.as_slice(), first)
-}
 
 fn lines_of(alloc: Global, values: &[Value]) -> Result<Items<Text>, NoMemory>
     requires { All (λ v. has_float (view v) ≡ false) values.now }
@@ -176,7 +113,7 @@ pub fn chain(
     ensures last { IfOk result (λ c. c.result
         ≡ wanted.result_of_add raw.now.list (att_of command.now) command.now.netns (defined.addresses given.now)) }
     ensures requests { IfOk result (λ c.
-        c.requests ≡ map line_of (defined.add_requests raw.now command.now (defined.addresses given.now))) }
+        c.requests ≡ map line_of (add_requests raw.now command.now (defined.addresses given.now))) }
 {
     let list = raw.list().get();
     let att = named_att_of(alloc, command)?;

@@ -1,15 +1,16 @@
-//! The execution protocol as bytes: what a plugin is asked, and what it does of that.
+//! The execution protocol as bytes: a plugin's call as the plugin reads it, and what it makes of that.
 //!
-//! To the crates above it promises that the request to each plugin of a list is the plugin's own object with what the
-//! runtime replaces in it (`specs/Request.antt`), whatever the list, and that a [`RawList`] is the list that
-//! `net_conf` reads of the same bytes, refused for the same causes (`specs/Raw.antt`).
+//! To the crates above it promises that a request that a runtime wrote is read as what it was made of, whatever the list
+//! (`specs/Laws.antt`); that words and bytes are refused for the first cause in the stated order (`specs/Env.antt`,
+//! `specs/Reading.antt`); and that what the plugins of a list make of their requests at an ADD is together the ADD
+//! (`specs/Work.antt`, `specs/Works.antt`). What a request is stands below, in `plugin_requests`.
 //!
 //! ```text
 //! // the second plugin is {"type":"portmap","capabilities":{"portMappings":true}}
 //! let raw = RawList::read(alloc, bytes)?;
-//! request(alloc, &raw, 1, Some(&prev), &mappings, None)?
-//! // {"capabilities":{"portMappings":true},"cniVersion":"1.1.0","name":"pods","prevResult":{..},
-//! //  "runtimeConfig":{"portMappings":[{"containerPort":80,"hostPort":8080,"protocol":"tcp"}]},"type":"portmap"}
+//! let text = request(alloc, &raw, 1, Some(&prev), &mappings, None)?;
+//! let read = read_request(alloc, &env, text.as_str().as_bytes())?;   // read.mappings are these, read.prev is that one
+//! work(alloc, &read, &[])?                                           // calls: the port's rules; result: prev
 //! ```
 #![tactic(auto)]
 
@@ -18,7 +19,6 @@ mod env;
 pub mod error;
 pub mod laws;
 mod members;
-pub mod raw_list;
 mod reading;
 #[cfg(test)]
 mod tests;
@@ -26,11 +26,11 @@ pub mod types;
 pub mod working;
 pub mod writing;
 
-pub use chaining::{chain, requests_of_add};
+pub use chaining::chain;
 pub use error::RequestError;
-pub use laws::{a_raw_list_has_its_list, a_request_is_read_again, each_work_is_of_the_add};
-pub use raw_list::RawList;
+pub use laws::{a_request_is_read_again, each_work_is_of_the_add};
+pub use plugin_requests::{RawList, requests_of_add};
 pub use reading::read_request;
 pub use types::{Chain, Env, Request, Work};
 pub use working::{chained_work, first_work, work};
-pub use writing::{request, request_to, request_value};
+pub use writing::{request, request_value};

@@ -6,8 +6,8 @@ use Rattle.serde_json.specs.View.{view}
 use Rattle.serde_json.specs.declared.value.Value.{Value}
 use Rattle.cni_result.specs.declared.cached.PortMapping.{PortMapping}
 use Rattle.cni_result.specs.declared.result.AddResult.{AddResult}
-use Rattle.exec_protocol.specs.Raw.{RawView}
-use Rattle.exec_protocol.specs.Request.{request_data}
+use Rattle.plugin_requests.specs.Raw.{RawView}
+use Rattle.plugin_requests.specs.Request.{request_data}
 use Rattle.net_conf.specs.declared.list.NetList.{NetList}
 use Rattle.pod_file.specs.declared.command.ValidAtt.{ValidAtt}
 use Rattle.pod_text.specs.Requests.{to_each}

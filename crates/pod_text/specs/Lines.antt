@@ -13,7 +13,7 @@ use Rattle.cni_errors.specs.declared.answer.Answer.{Answer}
 use Rattle.cni_errors.specs.declared.answer.Answer.TheVariants.{Added, Yes, Skipped, Versions, Refused, OutOfMemory, Stopped}
 use Rattle.cni_errors.specs.declared.answer.Skip.{Skip}
 use Rattle.cni_errors.specs.declared.answer.Skip.TheVariants as skips
-use Rattle.exec_protocol.specs.Raw.{RawView}
+use Rattle.plugin_requests.specs.Raw.{RawView}
 use Rattle.kernel_text.specs.Dump.{dump_of}
 use Rattle.kernel_text.specs.Replies.{trace_data}
 use Rattle.net_conf.specs.List.{disable_check_key, disable_gc_key}

@@ -15,9 +15,9 @@ use Rattle.cni_result.specs.declared.cached.Cached.{Cached}
 use Rattle.cni_result.specs.declared.cached.PortMapping.{PortMapping}
 use Rattle.cni_result.specs.declared.result.AddResult.{AddResult}
 use Rattle.cni_verbs.specs.Questions.{addresses_of_result}
-use Rattle.exec_protocol.specs.Raw.{RawView}
-use Rattle.exec_protocol.specs.Request.{request_data}
-use Rattle.exec_protocol.specs.Work.{add_requests}
+use Rattle.plugin_requests.specs.Raw.{RawView}
+use Rattle.plugin_requests.specs.Request.{request_data}
+use Rattle.plugin_requests.specs.Adding.{add_requests}
 use Rattle.kernel_types.specs.declared.call.Reply.{Reply}
 use Rattle.kernel_types.specs.declared.call.Reply.TheVariants as replies
 use Rattle.pod_file.specs.Commands.{verb_text}

@@ -1,8 +1,8 @@
 //! What is asked for in the text of a book.
 
 use cni_addr::Items;
-use exec_protocol::RawList;
 use packet_probe::Packet;
+use plugin_requests::RawList;
 
 /// What is printed of the commands.
 #[derive(Clone, Copy, Debug, PartialEq, Eq)]

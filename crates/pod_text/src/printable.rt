@@ -23,7 +23,7 @@ impl Model for Printable {
     ghost use Rattle.serde_json.specs.Data.{Data};
     ghost use Rattle.serde_json.specs.View.{view as data_of};
     ghost use Rattle.serde_json.specs.Written.{has_float};
-    ghost use Rattle.exec_protocol.specs.DataCode.{data_code};
+    ghost use Rattle.plugin_requests.specs.DataCode.{data_code};
 
     ghost Value = { Data };
 

@@ -10,7 +10,7 @@ use cni_errors::Answer;
 use cni_json::JsonObject;
 use cni_result::{AddResult, Cached, PortMapping};
 use cni_verbs::questions::addresses_of_result;
-use exec_protocol::{RawList, request_to, requests_of_add};
+use plugin_requests::{RawList, request_to, requests_of_add};
 use pod_file::{Command, ValidAtt, Verb, verb_text};
 use std::alloc::Global;
 

@@ -5,7 +5,7 @@ use Rattle.std.specs.List.{slice_index_or}
 use Rattle.std.proofs.lemmas.List.{map-append, take_more}
 use Rattle.cni_io.specs.Files.{StoredFiles}
 use Rattle.cni_json.specs.Outcome.{◌>>=◌}
-use Rattle.exec_protocol.specs.Raw.{RawView}
+use Rattle.plugin_requests.specs.Raw.{RawView}
 use Rattle.packet_probe.specs.declared.packet.Packet.{Packet}
 use Rattle.pod_file.specs.declared.pods.Pods.{Pods}
 use Rattle.pod_workers.specs.declared.plan.Plan.{Plan}

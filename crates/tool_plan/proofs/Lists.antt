@@ -4,7 +4,7 @@ use Rattle.std.specs.List.{slice_index_or}
 use Rattle.std.proofs.lemmas.List.{drop_more, take-append-drop, take_all, take_more}
 use Rattle.cni_io.specs.Files.{StoredFiles}
 use Rattle.cni_json.specs.Outcome.{◌>>=◌}
-use Rattle.exec_protocol.specs.Raw.{RawView}
+use Rattle.plugin_requests.specs.Raw.{RawView}
 use Rattle.tool_plan.specs.Causes.{GivesStored, ReachesList, WhereTold}
 use Rattle.tool_plan.specs.Verdict.{Judged, stored_list, stored_lists}
 use Rattle.tool_plan.specs.declared.plan.NoPlan.{NoPlan}

@@ -6,7 +6,7 @@ use Rattle.cni_io.specs.declared.files.FileFault.{FileFault}
 use Rattle.cni_io.specs.declared.files.FileFault.TheVariants as fault
 use Rattle.cni_json.specs.Outcome.{◌>>=◌}
 use Rattle.cni_result.specs.declared.error.CniError.{CniError}
-use Rattle.exec_protocol.specs.Raw.{RawView, raw_of}
+use Rattle.plugin_requests.specs.Raw.{RawView, raw_of}
 use Rattle.net_conf.specs.declared.list.NetList.{NetList}
 use Rattle.packet_probe.specs.PacketFile.{packets_of}
 use Rattle.packet_probe.specs.declared.packet.Packet.{Packet}

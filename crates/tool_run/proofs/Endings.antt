@@ -7,7 +7,7 @@ use Rattle.cni_errors.specs.declared.answer.Answer.{Answer}
 use Rattle.cni_errors.specs.declared.answer.Answer.TheVariants.{OutOfMemory}
 use Rattle.packet_laws.specs.Packets.{EveryPacketGoesAsCached, PacketsGoAsCached}
 use Rattle.pod_laws.specs.Guaranteed.{EveryLegalHistoryIsGuaranteed, IsGuaranteed}
-use Rattle.exec_protocol.specs.Raw.{RawView}
+use Rattle.plugin_requests.specs.Raw.{RawView}
 use Rattle.kernel_text.specs.Dump.{dump_of}
 use Rattle.pod_text.specs.Fates.{fates_from}
 use Rattle.pod_text.specs.Lines.{command_part, requests_asked, text_of, trace_lines, where_asked}

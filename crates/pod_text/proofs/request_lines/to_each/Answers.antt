@@ -3,7 +3,7 @@ use Rattle.std.proofs.lemmas.List.{take_all}
 use Rattle.std.specs.Option.{option_copied}
 use Rattle.serde_json.specs.View.{view}
 use Rattle.pod_text.proofs.Objects.{to_each-view}
-use Rattle.exec_protocol.specs.Request.{request_data}
+use Rattle.plugin_requests.specs.Request.{request_data}
 use Rattle.pod_text.proofs.request_lines.to_each.Goals as goal
 
 pub returns : goal.returns

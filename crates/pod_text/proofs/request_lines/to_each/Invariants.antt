@@ -1,7 +1,7 @@
 use Rattle.std.proofs.Common.{◌≡◌, map, take}
 use Rattle.std.specs.Option.{option_copied}
 use Rattle.serde_json.specs.View.{view}
-use Rattle.exec_protocol.specs.Request.{request_data}
+use Rattle.plugin_requests.specs.Request.{request_data}
 use Rattle.pod_text.proofs.request_lines.to_each.Given as goal
 
 -- the objects so far have their requests

@@ -4,10 +4,10 @@ use Rattle.std.specs.Iterator.Adapters.{zip_first, zip_second}
 use Rattle.std.specs.Slice.Iter.{iter_rest}
 use Rattle.serde_json.specs.View.{view}
 use Rattle.serde_json.specs.Written.{has_float}
-use Rattle.exec_protocol.proofs.Chained.{requests_left}
-use Rattle.exec_protocol.proofs.chaining.chain_requests.Given as goal
-use Rattle.exec_protocol.specs.Raw.{IsPluginObject}
-use Rattle.exec_protocol.specs.Work.{chain_requests}
+use Rattle.plugin_requests.proofs.Placed.{requests_left}
+use Rattle.plugin_requests.proofs.adding.chain_requests.Given as goal
+use Rattle.plugin_requests.specs.Raw.{IsPluginObject}
+use Rattle.plugin_requests.specs.Adding.{chain_requests}
 
 -- the requests so far and those to the plugins that are left are all
 abbrev pub invariant-loop-plugin : goal.invariant-loop-plugin

@@ -3,8 +3,8 @@
 ghost use Rattle.std.specs.Prelude.{◌≡◌, ◌<◌, All, IfOk, length, map};
 ghost use Rattle.serde_json.specs.View.{view};
 ghost use Rattle.cni_json.specs.Outcome.{Gives};
-ghost use Rattle.exec_protocol.specs.Raw.{IsPluginObject, IsRaw, raw_of};
-ghost use Rattle.exec_protocol.specs.Request.{object_at};
+ghost use Rattle.plugin_requests.specs.Raw.{IsPluginObject, IsRaw, raw_of};
+ghost use Rattle.plugin_requests.specs.Request.{object_at};
 ghost use Rattle.net_conf.specs.Refusals.{is_out_of_memory};
 
 use cni_addr::{NoMemory, RefCounted};
@@ -25,8 +25,8 @@ impl Model for RawList {
     ghost use Rattle.std.specs.Prelude.{map};
     ghost use Rattle.std.specs.Coded.{codes};
     ghost use Rattle.serde_json.specs.View as json;
-    ghost use Rattle.exec_protocol.specs.DataCode.{data_code};
-    ghost use Rattle.exec_protocol.specs.Raw.{IsRaw, RawView};
+    ghost use Rattle.plugin_requests.specs.DataCode.{data_code};
+    ghost use Rattle.plugin_requests.specs.Raw.{IsRaw, RawView};
 
     ghost Value = { RawView };
 

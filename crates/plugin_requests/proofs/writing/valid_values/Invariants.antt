@@ -1,7 +1,7 @@
 use Rattle.std.proofs.Common.{◌≡◌, map, take}
 use Rattle.serde_json.specs.View.{view}
-use Rattle.exec_protocol.proofs.writing.valid_values.Given as goal
-use Rattle.exec_protocol.specs.Request.{valid_data}
+use Rattle.plugin_requests.proofs.writing.valid_values.Given as goal
+use Rattle.plugin_requests.specs.Request.{valid_data}
 
 -- the attachments so far are in the list
 abbrev pub invariant-loop-att : goal.invariant-loop-att

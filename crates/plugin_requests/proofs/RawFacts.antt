@@ -15,7 +15,7 @@ use Rattle.cni_json.specs.Each.{each}
 use Rattle.cni_json.specs.Fields.{field_of}
 use Rattle.cni_json.specs.Json.{json_of}
 use Rattle.cni_json.specs.Outcome.{◌>>=◌}
-use Rattle.exec_protocol.specs.Raw.{RawView, IsPluginObject, IsRaw, objects_of, raw_at, raw_of}
+use Rattle.plugin_requests.specs.Raw.{RawView, IsPluginObject, IsRaw, objects_of, raw_at, raw_of}
 use Rattle.net_conf.proofs.ChainFacts.{network_list_at-each}
 use Rattle.net_conf.specs.List.{read_or_refused, network_list_at, list_of}
 use Rattle.net_conf.specs.Members.{ok_map}

@@ -4,8 +4,8 @@ use Rattle.std.specs.Prelude.{codes}
 use Rattle.serde_json.specs.Data.{put}
 use Rattle.cni_json.specs.Members.{list_data, put_if, put_object_unless_empty, text_data}
 use Rattle.cni_result.specs.Results.{result_data, version_data}
-use Rattle.exec_protocol.proofs.writing.request_object.Goals as goal
-use Rattle.exec_protocol.specs.Request.{request_members, valid_data, valid_key}
+use Rattle.plugin_requests.proofs.writing.request_object.Goals as goal
+use Rattle.plugin_requests.specs.Request.{request_members, valid_data, valid_key}
 
 pub returns : goal.returns
 unfolding request_members

@@ -1,9 +1,9 @@
 use Rattle.std.proofs.Common.{sym, subst}
 use Rattle.std.specs.Prelude.{All}
 use Rattle.serde_json.specs.View.{view}
-use Rattle.exec_protocol.proofs.RawFacts.{All-viewed}
-use Rattle.exec_protocol.proofs.raw_list.RawList.objects.Goals as goal
-use Rattle.exec_protocol.specs.Raw.{IsPluginObject}
+use Rattle.plugin_requests.proofs.RawFacts.{All-viewed}
+use Rattle.plugin_requests.proofs.raw_list.RawList.objects.Goals as goal
+use Rattle.plugin_requests.specs.Raw.{IsPluginObject}
 
 pub returns-clause-kept : goal.returns-clause-kept
 returns-clause-kept c =

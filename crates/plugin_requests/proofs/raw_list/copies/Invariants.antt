@@ -1,6 +1,6 @@
 use Rattle.std.proofs.Common.{◌≡◌, map, take}
 use Rattle.serde_json.specs.View.{view}
-use Rattle.exec_protocol.proofs.raw_list.copies.Given as goal
+use Rattle.plugin_requests.proofs.raw_list.copies.Given as goal
 
 -- the objects so far are copied
 abbrev pub invariant-loop-object : goal.invariant-loop-object

@@ -7,7 +7,7 @@ use Rattle.cni_result.specs.Mappings.{mapping_data}
 use Rattle.cni_result.specs.Results.{version_data, result_data}
 use Rattle.cni_result.specs.declared.cached.PortMapping.{PortMapping}
 use Rattle.cni_result.specs.declared.result.AddResult.{AddResult}
-use Rattle.exec_protocol.specs.Raw.{RawView}
+use Rattle.plugin_requests.specs.Raw.{RawView}
 use Rattle.net_conf.specs.Capabilities.{asks_for_mappings}
 use Rattle.net_conf.specs.RuntimeKeys.{is_runtime_key}
 use Rattle.net_conf.specs.declared.list.NetList.{NetList}

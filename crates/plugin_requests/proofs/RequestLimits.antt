@@ -15,8 +15,8 @@ use Rattle.cni_result.specs.Mappings.{mapping_data}
 use Rattle.cni_result.specs.Results.{version_data, result_data}
 use Rattle.cni_result.specs.declared.cached.PortMapping.{PortMapping}
 use Rattle.cni_result.specs.declared.result.AddResult.{AddResult}
-use Rattle.exec_protocol.specs.Raw.{IsPluginObject}
-use Rattle.exec_protocol.specs.Request.{mappings_for, valid_key, valid_data, runtime_members, own_members, request_members}
+use Rattle.plugin_requests.specs.Raw.{IsPluginObject}
+use Rattle.plugin_requests.specs.Request.{mappings_for, valid_key, valid_data, runtime_members, own_members, request_members}
 use Rattle.net_conf.specs.RuntimeKeys.{is_runtime_key}
 use Rattle.net_conf.specs.declared.list.NetList.{NetList}
 use Rattle.pod_file.specs.declared.command.ValidAtt.{ValidAtt}

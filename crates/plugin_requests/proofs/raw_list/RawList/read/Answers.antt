@@ -1,7 +1,7 @@
 use Rattle.std.proofs.Common.{sym, ap₂, ◌∙◌, Ok, map}
 use Rattle.serde_json.specs.View.{view}
-use Rattle.exec_protocol.proofs.RawFacts.{raw_is, raw_of-ok}
-use Rattle.exec_protocol.proofs.raw_list.RawList.read.Goals as goal
+use Rattle.plugin_requests.proofs.RawFacts.{raw_is, raw_of-ok}
+use Rattle.plugin_requests.proofs.raw_list.RawList.read.Goals as goal
 
 pub invariant_of-result : goal.invariant_of-result
 invariant_of-result c =

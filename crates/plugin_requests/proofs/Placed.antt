@@ -1,0 +1,69 @@
+-- Plugins and their objects, place by place: what is left of the requests of an ADD are those of the places that are left.
+use Rattle.std.proofs.Common.{◌≡◌, ℕ, zero, suc, ◌+◌, List, [], ◌∷◌, ◌++◌, length, map, take, Some, None, Result, Ok, refl, sym, ap, ◌∙◌, append_assoc, length-append, arith}
+use Rattle.std.specs.List.{scan}
+use Rattle.std.proofs.lemmas.List.Sums.{fold-append}
+use Rattle.std.proofs.Math.Seq.{take-append_seam}
+use Rattle.serde_json.specs.Data.{Data}
+use Rattle.serde_json.specs.View.{items_of}
+use Rattle.cni_json.proofs.Endings.{goes, ok_same}
+use Rattle.cni_json.specs.Each.{each}
+use Rattle.cni_result.specs.declared.cached.PortMapping.{PortMapping}
+use Rattle.cni_result.specs.declared.result.AddResult.{AddResult}
+use Rattle.net_conf.specs.Plugin.{plugin_by_type_at, plugins_in}
+use Rattle.net_conf.specs.declared.chained.Chained.{Chained}
+use Rattle.net_conf.specs.declared.list.NetList.{NetList}
+use Rattle.net_conf.specs.declared.plugin.Plugin.TheVariants as plugins
+use Rattle.plugin_chain.specs.Wanted.{all_chained_results, chained_result}
+use Rattle.plugin_requests.specs.Adding.{chain_request}
+use Rattle.plugin_requests.specs.Raw.{IsRaw, RawView}
+use Rattle.plugin_requests.specs.Request.{request_data}
+
+-- ---- objects
+
+length-each : {A E : Type 0} (read : Data → Result A E) (ds : List Data) (xs : List A) → each read (items_of ds) ≡ Ok xs → length ds ≡ length xs
+length-each read [] xs is = ap length (ok_same is)
+length-each read (d ∷ ds) xs is =
+    let first = goes (read d) _ xs is in
+    let rest = goes (each read (items_of ds)) _ xs first.rest in
+    ap suc (length-each read ds rest.value rest.first) ∙ ap length (ok_same rest.rest)
+
+length-map : {A B : Type 0} (f : A → B) (xs : List A) → length (map f xs) ≡ length xs
+length-map f [] = refl
+length-map f (x ∷ xs) = ap suc (length-map f xs)
+
+-- each plugin has its object
+pub length-objects : (raw : RawView) → IsRaw raw → length raw.objects ≡ suc (length raw.list.chained)
+length-objects raw is =
+    length-each plugin_by_type_at raw.objects (plugins_in raw.list.first raw.list.chained) is.plugins ∙ ap suc (length-map plugins.Chained raw.list.chained)
+
+-- ---- requests
+
+-- those to chained plugins that are left, of the objects that are left, after this result
+abbrev pub requests_left : NetList → List PortMapping → List Chained → List Data → AddResult → List Data
+requests_left list mappings [] ds prev = []
+requests_left list mappings (c ∷ cs) [] prev = []
+requests_left list mappings (c ∷ cs) (d ∷ ds) prev = request_data list d (Some prev) mappings None ∷ requests_left list mappings cs ds (chained_result c prev)
+
+-- they are those of their places
+requests_left-placed : (list : NetList) (mappings : List PortMapping) (first : AddResult) (before cs : List Chained) (ds : List Data) (k : ℕ)
+    → list.chained ≡ before ++ cs → length ds ≡ length cs → k ≡ suc (length before)
+    → requests_left list mappings cs ds (all_chained_results before first) ≡ scan (λ n d. n + 1) (chain_request list mappings first) k ds
+requests_left-placed list mappings first before [] [] k all even is = refl
+requests_left-placed list mappings first before [] (d ∷ ds) k all even is = absurd (omega arith)
+requests_left-placed list mappings first before (c ∷ cs) [] k all even is = absurd (omega arith)
+requests_left-placed list mappings first before (c ∷ cs) (d ∷ ds) k all even is =
+    let here : chain_request list mappings first k d ≡ request_data list d (Some (all_chained_results before first)) mappings None =
+    ap (λ n. chain_request list mappings first n d) is
+    ∙ ap (λ r. request_data list d (Some (all_chained_results r first)) mappings None) (ap (take (length before)) all ∙ take-append_seam before (c ∷ cs)) in
+    let next : chained_result c (all_chained_results before first) ≡ all_chained_results (before ++ c ∷ []) first =
+    sym (fold-append (λ r x. chained_result x r) first before (c ∷ [])) in
+    ap (λ r. request_data list d (Some (all_chained_results before first)) mappings None ∷ requests_left list mappings cs ds r) next
+    ∙ ap (λ l. request_data list d (Some (all_chained_results before first)) mappings None ∷ l)
+    (requests_left-placed list mappings first (before ++ c ∷ []) cs ds (k + 1) (all ∙ sym (append_assoc before (c ∷ []) cs)) (omega arith) (rw (length-append before (c ∷ [])) (omega (arith, is))))
+    ∙ ap (λ r. r ∷ scan (λ n x. n + 1) (chain_request list mappings first) (k + 1) ds) (sym here)
+
+-- the first request, and those that are left
+pub requests-begin : (list : NetList) (mappings : List PortMapping) (first : AddResult) (d : Data) (ds : List Data) → length ds ≡ length list.chained
+    → request_data list d None mappings None ∷ requests_left list mappings list.chained ds first ≡ scan (λ n d. n + 1) (chain_request list mappings first) 0 (d ∷ ds)
+requests-begin list mappings first d ds even =
+    ap (λ l. request_data list d None mappings None ∷ l) (requests_left-placed list mappings first [] list.chained ds 1 refl even refl)
