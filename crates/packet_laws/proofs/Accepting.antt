@@ -27,12 +27,12 @@ use Rattle.pod_workers.specs.declared.plan.Plan.{Plan}
 use Rattle.plugin_chain.specs.Wanted.{given_by_list}
 use Rattle.packet_laws.specs.Complete.{IsAttached}
 use Rattle.packet_laws.specs.Packets.{has_address, has_firewall, has_ip_masq, is_firewall, lets_through}
-use Rattle.packet_laws.proofs.Equal.{addr-itself, addr-same, chain-same}
+use Rattle.packet_laws.proofs.Equal.{addr-same, chain-same, equal-addr}
 use Rattle.packet_laws.proofs.Lists.{among-any, among-map, any-among, map-among, same_answer}
-use Rattle.packet_laws.proofs.Matching.{from-matches, matches-from, matches-replies, replies-matches}
+use Rattle.packet_laws.proofs.Matching.{from-matches, replies-matches}
 use Rattle.packet_laws.proofs.Settled.{IsSettled, cached-object, keeper, rule-of}
 use Rattle.packet_laws.proofs.WantedRules.{forward-wanted, wanted-forward}
-use Rattle.packet_laws.proofs.Ways.{IsOnItsWay, accepted-moved, moved, on_its_way}
+use Rattle.packet_laws.proofs.Ways.{IsOnItsWay, accepted-moved, moved, on_its_way, one-moved}
 
 -- ---- an accepted packet has an attachment that lets it through
 
@@ -42,24 +42,25 @@ has-firewall p att t list tag listed is =
 
 has-address : (cached : Cached) (ip : IpEntry) (addr : Addr) → IsAmong ip cached.result.ips → ip.address.addr ≡ addr → has_address cached addr ≡ true
 has-address cached ip addr at is =
-    among-any (addr_eq addr) ip.address.addr (addresses_of_result cached.result) (map-among (λ (i : IpEntry). i.address.addr) ip cached.result.ips at) (ap (addr_eq addr) is ∙ addr-itself addr)
+    among-any (addr_eq addr) ip.address.addr (addresses_of_result cached.result) (map-among (λ (i : IpEntry). i.address.addr) ip cached.result.ips at) (equal-addr addr ip.address.addr (sym is))
 
 -- the address of the rule is the packet's source, or its destination where it is established
-matched-address : (att : Att) (ip : IpEntry) (packet q : Packet) (r : Rule) → IsOnItsWay packet q → matches_in chains.Forward q r ≡ true → (r ≡ accept_replies_to att ip.address.addr) ⊎ (r ≡ accept_from att ip.address.addr)
+matched-address : (att : Att) (ip : IpEntry) (packet q : Packet) (r : Rule) → IsPacket q → IsOnItsWay packet q → matches_in chains.Forward q r ≡ true → (r ≡ accept_replies_to att ip.address.addr) ⊎ (r ≡ accept_from att ip.address.addr)
     → (ip.address.addr ≡ packet.src) ⊎ ((packet.established ≡ true) × (ip.address.addr ≡ packet.dst))
-matched-address att ip packet q r way is (inl replies) =
-    let by = replies-matches att ip.address.addr q (subst (λ x. matches_in chains.Forward q x ≡ true) replies is) in
+matched-address att ip packet q r one way is (inl replies) =
+    let by = and_parts (addr_eq ip.address.addr q.dst) q.established (sym (replies-matches att ip.address.addr q) ∙ subst (λ x. matches_in chains.Forward q x ≡ true) replies is) in
     let established : packet.established ≡ true = sym way.established ∙ by.1 in
-    inr (established, by.0 ∙ ap (λ (x : Packet). x.dst) (way.stands established))
-matched-address att ip packet q r way is (inr from) = inl (from-matches att ip.address.addr q (subst (λ x. matches_in chains.Forward q x ≡ true) from is) ∙ way.src)
+    inr (established, addr-same ip.address.addr q.dst by.0 ∙ ap (λ (x : Packet). x.dst) (way.stands established))
+matched-address att ip packet q r one way is (inr from) =
+    inl (addr-same ip.address.addr q.src (sym (from-matches att ip.address.addr q one) ∙ subst (λ x. matches_in chains.Forward q x ≡ true) from is) ∙ way.src)
 
 lets-by : (cached : Cached) (ip : IpEntry) (packet : Packet) → IsAmong ip cached.result.ips → (ip.address.addr ≡ packet.src) ⊎ ((packet.established ≡ true) × (ip.address.addr ≡ packet.dst))
     → (has_address cached packet.src || (packet.established && has_address cached packet.dst)) ≡ true
 lets-by cached ip packet at (inl src) = or_left (has_address cached packet.src) _ (has-address cached ip packet.src at src)
 lets-by cached ip packet at (inr dst) = or_right (has_address cached packet.src) _ (and_from packet.established (has_address cached packet.dst) dst.0 (has-address cached ip packet.dst at dst.1))
 
-accepted-let : (p : Plan) (host : Host) → IsSettled p host → (packet q : Packet) → IsOnItsWay packet q → any_match chains.Forward host.rules q ≡ true → list_any (lets_through p packet) host.cached ≡ true
-accepted-let p host s packet q way is =
+accepted-let : (p : Plan) (host : Host) → IsSettled p host → (packet q : Packet) → IsPacket q → IsOnItsWay packet q → any_match chains.Forward host.rules q ≡ true → list_any (lets_through p packet) host.cached ≡ true
+accepted-let p host s packet q one way is =
     let found = any-among (matches_in chains.Forward q) host.rules is in
     let r = found.0 in
     let of = rule-of p host s r found.1 in
@@ -67,7 +68,7 @@ accepted-let p host s packet q way is =
     let chain : r.chain ≡ chains.Forward = chain-same r.chain chains.Forward (and_parts (chain_eq r.chain chains.Forward) (matches q r) found.2).0 in
     let by = forward-wanted (has_ip_masq a.list.first) of.att (given_by_list a.list (addresses_of_result a.cached.result)) a.cached.mappings a.cached.result.ips a.list.chained r of.wanted chain in
     let object = cached-object host of.att a.cached a.is.kept in
-    let lets = lets-by a.cached by.1.ip packet by.1.there (matched-address of.att by.1.ip packet q r way found.2 by.1.is) in
+    let lets = lets-by a.cached by.1.ip packet by.1.there (matched-address of.att by.1.ip packet q r one way found.2 by.1.is) in
     among-any (lets_through p packet) object.0 host.cached object.1
     (and_from (has_firewall p object.0.tag) _ (has-firewall p of.att object.0.tag a.list object.2 a.is.listed by.0)
     (ap (λ (x : Cached). has_address x packet.src || (packet.established && has_address x packet.dst)) object.3 ∙ lets))
@@ -102,7 +103,7 @@ either-let true e d h = inl refl
 either-let false e d h = inr (and_parts e d h)
 
 -- its rule, which is in the host
-let-rule : (p : Plan) (host : Host) → IsSettled p host → (packet q : Packet) → IsPacket packet → IsOnItsWay packet q → (att : Att) (list : NetList) (cached : Cached) → IsAttached p host att list cached → list_any is_firewall list.chained ≡ true
+let-rule : (p : Plan) (host : Host) → IsSettled p host → (packet q : Packet) → IsPacket q → IsOnItsWay packet q → (att : Att) (list : NetList) (cached : Cached) → IsAttached p host att list cached → list_any is_firewall list.chained ≡ true
     → (has_address cached packet.src || (packet.established && has_address cached packet.dst)) ≡ true → any_match chains.Forward host.rules q ≡ true
 let-rule p host s packet q one way att list cached attached is lets =
     let mine = s.settled att list cached attached in
@@ -113,15 +114,16 @@ let-rule p host s packet q one way att list cached attached is lets =
     elim (either-let (has_address cached packet.src) packet.established (has_address cached packet.dst) lets) [
       | inl src ↦
           let ip = ip-of cached packet.src src in
-          let family = ap (λ (x : Addr). x.family) ip.2 ∙ one.family ∙ sym way.family in
-          among-any (matches_in chains.Forward q) (accept_from att ip.0.address.addr) host.rules (there ip.0 ip.1).0 (matches-from att ip.0.address.addr q (ip.2 ∙ sym way.src) family)
+          let is_src : addr_eq ip.0.address.addr q.src ≡ true = equal-addr ip.0.address.addr q.src (ip.2 ∙ sym way.src) in
+          among-any (matches_in chains.Forward q) (accept_from att ip.0.address.addr) host.rules (there ip.0 ip.1).0 (from-matches att ip.0.address.addr q one ∙ is_src)
       | inr dst ↦
           let ip = ip-of cached packet.dst dst.1 in
-          let at_dst = ip.2 ∙ sym (ap (λ (x : Packet). x.dst) (way.stands dst.0)) in
-          among-any (matches_in chains.Forward q) (accept_replies_to att ip.0.address.addr) host.rules (there ip.0 ip.1).1 (matches-replies att ip.0.address.addr q at_dst (way.established ∙ dst.0))
+          let is_dst : addr_eq ip.0.address.addr q.dst ≡ true = equal-addr ip.0.address.addr q.dst (ip.2 ∙ sym (ap (λ (x : Packet). x.dst) (way.stands dst.0))) in
+          among-any (matches_in chains.Forward q) (accept_replies_to att ip.0.address.addr) host.rules (there ip.0 ip.1).1
+          (replies-matches att ip.0.address.addr q ∙ and_from (addr_eq ip.0.address.addr q.dst) q.established is_dst (way.established ∙ dst.0))
     ]
 
-let-accepted : (p : Plan) (host : Host) → IsSettled p host → (packet q : Packet) → IsPacket packet → IsOnItsWay packet q → list_any (lets_through p packet) host.cached ≡ true → any_match chains.Forward host.rules q ≡ true
+let-accepted : (p : Plan) (host : Host) → IsSettled p host → (packet q : Packet) → IsPacket q → IsOnItsWay packet q → list_any (lets_through p packet) host.cached ≡ true → any_match chains.Forward host.rules q ≡ true
 let-accepted p host s packet q one way is =
     let found = any-among (lets_through p packet) host.cached is in
     let c = found.0 in
@@ -139,5 +141,6 @@ pub accepted-as_cached : (p : Plan) (host : Host) → IsSettled p host → (pack
 accepted-as_cached p host s packet one =
     let q = moved host.rules packet in
     let way = on_its_way host.rules packet in
+    let still = one-moved packet q one way in
     accepted-moved host.rules packet
-    ∙ same_answer (any_match chains.Forward host.rules q) (list_any (lets_through p packet) host.cached) (accepted-let p host s packet q way) (let-accepted p host s packet q one way)
+    ∙ same_answer (any_match chains.Forward host.rules q) (list_any (lets_through p packet) host.cached) (accepted-let p host s packet q still way) (let-accepted p host s packet q still way)

@@ -1,8 +1,9 @@
 -- A host where CHECK finds all is complete.
-use Rattle.std.proofs.Common.{◌≡◌, true, ap, sym, ◌∙◌}
+use Rattle.std.proofs.Common.{◌≡◌, Bool, true, false, refl, ap, sym, ◌∙◌}
 use Rattle.std.proofs.lemmas.Bool.{and_parts}
+use Rattle.std.specs.Prelude.{◌&&◌}
 use Rattle.cni_result.specs.declared.cached.Cached.{Cached}
-use Rattle.kernel_types.specs.Equal.{lease_eq, rule_eq}
+use Rattle.kernel_types.specs.Equal.{addr_obj_eq, lease_eq, link_eq, route_eq, rule_eq, setting_eq}
 use Rattle.kernel_types.specs.declared.object.Att.{Att}
 use Rattle.kernel_types.specs.declared.object.Host.{Host}
 use Rattle.net_conf.specs.declared.list.NetList.{NetList}
@@ -11,11 +12,20 @@ use Rattle.pod_laws.specs.Checked.{are_in, has_objects_of}
 use Rattle.pod_workers.specs.declared.plan.Plan.{Plan}
 use Rattle.packet_laws.specs.Complete.{CheckedHostsAreComplete, IsAttached, IsChecked, wanted_of}
 
-rules-held : (host : Host) (s : Share) → has_objects_of host s ≡ true → are_in rule_eq s.rules host.rules ≡ true
-rules-held host s h = (and_parts _ _ (and_parts _ _ (and_parts _ _ (and_parts _ _ h).1).1).1).0
+two-of_six : (a b c d e f : Bool) → (a && (b && (c && (d && (e && f))))) ≡ true → (d ≡ true) × (f ≡ true)
+two-of_six true true true true true true h = (refl, refl)
+two-of_six true true true true true false h = cc
+two-of_six true true true true false f h = cc
+two-of_six true true true false e f h = cc
+two-of_six true true false d e f h = cc
+two-of_six true false c d e f h = cc
+two-of_six false b c d e f h = cc
 
-leases-held : (host : Host) (s : Share) → has_objects_of host s ≡ true → are_in lease_eq s.leases host.leases ≡ true
-leases-held host s h = (and_parts _ _ (and_parts _ _ (and_parts _ _ (and_parts _ _ (and_parts _ _ h).1).1).1).1).1
+-- the rules and the leases among the objects that the host holds
+held-both : (host : Host) (s : Share) → has_objects_of host s ≡ true → (are_in rule_eq s.rules host.rules ≡ true) × (are_in lease_eq s.leases host.leases ≡ true)
+held-both host s h =
+    two-of_six (are_in link_eq s.links host.links) (are_in addr_obj_eq s.addresses host.addresses) (are_in route_eq s.routes host.routes) (are_in rule_eq s.rules host.rules)
+    (are_in setting_eq s.settings host.settings) (are_in lease_eq s.leases host.leases) h
 
 -- the host holds all that the cached result wants
 held : (p : Plan) (host : Host) → IsChecked p host → (att : Att) (list : NetList) (cached : Cached) → IsAttached p host att list cached → has_objects_of host (wanted_of list att cached) ≡ true
@@ -26,6 +36,6 @@ held p host checked att list cached attached =
 pub checked_hosts_are_complete : CheckedHostsAreComplete
 checked_hosts_are_complete p host checked = record {
   cached = checked.cached;
-  rules = λ att list cached attached. rules-held host (wanted_of list att cached) (held p host checked att list cached attached);
-  leases = λ att list cached attached. leases-held host (wanted_of list att cached) (held p host checked att list cached attached);
+  rules = λ att list cached attached. (held-both host (wanted_of list att cached) (held p host checked att list cached attached)).0;
+  leases = λ att list cached attached. (held-both host (wanted_of list att cached) (held p host checked att list cached attached)).1;
 }

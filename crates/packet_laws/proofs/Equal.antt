@@ -1,5 +1,5 @@
 -- Rules and leases are the same by the test only where they are equal.
-use Rattle.std.proofs.Common.{◌≡◌, ℕ, Bool, true, List, Option, Some, None, refl, ap, eqb-true, nat_eq, arith}
+use Rattle.std.proofs.Common.{◌≡◌, ℕ, Bool, true, List, Option, Some, None, refl, sym, ◌∙◌, ap, eqb-true, nat_eq, arith}
 use Rattle.std.proofs.lemmas.Bool.{and_parts}
 use Rattle.std.specs.Cmp.{booleans_Decides, partial_equiv_from_equiv}
 use Rattle.std.specs.Option.{option_eq}
@@ -11,6 +11,7 @@ use Rattle.cni_addr.specs.declared.address.Cidr.{Cidr}
 use Rattle.cni_addr.specs.declared.address.Family.{Family}
 use Rattle.cni_addr.specs.declared.address.Family.TheVariants as families
 use Rattle.cni_addr.proofs.KeyLists.{each_key_once-first_of_each}
+use Rattle.cni_addr.proofs.Networks.{family_eq-true}
 use Rattle.cni_result.specs.declared.cached.Proto.{Proto}
 use Rattle.cni_result.specs.declared.cached.Proto.TheVariants as protos
 use Rattle.kernel_types.specs.Equal.{addr_eq, chain_eq, cidr_eq, family_eq, lease_eq, proto_eq, rule_eq, table_eq, target_eq}
@@ -29,17 +30,11 @@ use Rattle.packet_laws.proofs.Lists.{IsSame}
 
 -- ---- what has a number
 
-pub family-same : (f g : Family) → family_eq f g ≡ true → f ≡ g
-family-same families.V4 families.V4 h = refl
-family-same families.V4 families.V6 h = cc
-family-same families.V6 families.V4 h = cc
-family-same families.V6 families.V6 h = refl
-
 pub family-itself : (f : Family) → family_eq f f ≡ true
 family-itself families.V4 = refl
 family-itself families.V6 = refl
 
-pub proto-same : (p q : Proto) → proto_eq p q ≡ true → p ≡ q
+proto-same : (p q : Proto) → proto_eq p q ≡ true → p ≡ q
 proto-same protos.Tcp protos.Tcp h = refl
 proto-same protos.Tcp protos.Udp h = cc
 proto-same protos.Tcp protos.Sctp h = cc
@@ -49,11 +44,6 @@ proto-same protos.Udp protos.Sctp h = cc
 proto-same protos.Sctp protos.Tcp h = cc
 proto-same protos.Sctp protos.Udp h = cc
 proto-same protos.Sctp protos.Sctp h = refl
-
-pub proto-itself : (p : Proto) → proto_eq p p ≡ true
-proto-itself protos.Tcp = refl
-proto-itself protos.Udp = refl
-proto-itself protos.Sctp = refl
 
 table-same : (t u : Table) → table_eq t u ≡ true → t ≡ u
 table-same tables.Nat tables.Nat h = refl
@@ -71,12 +61,6 @@ chain-same chains.HostMasq c h = cc
 chain-same chains.Masq c h = cc
 chain-same chains.Forward c h = cc
 
-pub chain-itself : (c : Chain) → chain_eq c c ≡ true
-chain-itself chains.Dnat = refl
-chain-itself chains.HostMasq = refl
-chain-itself chains.Masq = refl
-chain-itself chains.Forward = refl
-
 -- ---- values of parts
 
 option-same : {X : Type 0} (same : X → X → Bool) → ((x y : X) → same x y ≡ true → x ≡ y) → (a b : Option X) → option_eq same a b ≡ true → a ≡ b
@@ -88,12 +72,15 @@ option-same same w (Some x) (Some y) h = ap Some (w x y h)
 pub addr-same : (a b : Addr) → addr_eq a b ≡ true → a ≡ b
 addr-same a b h =
     let parts = and_parts (family_eq a.family b.family) (nat_eq a.bits b.bits) h in
-    let family = family-same a.family b.family parts.0 in
+    let family = family_eq-true a.family b.family parts.0 in
     let bits = eqb-true a.bits b.bits parts.1 in
     λ i. record { family = family i; bits = bits i }
 
 pub addr-itself : (a : Addr) → addr_eq a a ≡ true
 addr-itself a = grind (arith, family-itself a.family)
+
+pub equal-addr : (a b : Addr) → a ≡ b → addr_eq a b ≡ true
+equal-addr a b e = ap (addr_eq a) (sym e) ∙ addr-itself a
 
 cidr-same : (c d : Cidr) → cidr_eq c d ≡ true → c ≡ d
 cidr-same c d h =
@@ -116,7 +103,7 @@ target-same (targets.Dnat a p) u h = cc
 
 -- ---- rules
 
-rule-equal : (a b : Rule) → rule_eq a b ≡ true → a ≡ b
+pub rule-equal : (a b : Rule) → rule_eq a b ≡ true → a ≡ b
 rule-equal a b h0 =
     let h1 = and_parts _ _ h0 in
     let h2 = and_parts _ _ h1.1 in

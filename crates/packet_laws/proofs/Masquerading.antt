@@ -36,7 +36,7 @@ use Rattle.packet_laws.proofs.MasqRules.{inner-from, outer-from, says, says-masq
 use Rattle.packet_laws.proofs.PluginRules.{IsMasqRule, is_in, masq-rule}
 use Rattle.packet_laws.proofs.Settled.{IsRuleOf, IsSettled, IsSettledFor, lessee, rule-of, rules_for}
 use Rattle.packet_laws.proofs.WantedRules.{masq-wanted}
-use Rattle.packet_laws.proofs.Ways.{IsOnItsWay, dst-moved, masqueraded-moved, moved, on_its_way}
+use Rattle.packet_laws.proofs.Ways.{IsOnItsWay, dst-moved, masqueraded-moved, moved, on_its_way, one-moved}
 
 -- ---- leases
 
@@ -84,16 +84,16 @@ masq-of p host s r of chain =
     (subst (IsAmong r) (masq-wanted (has_ip_masq a.list.first) of.att given a.cached.mappings a.cached.result.ips a.list.chained)
     (filter-among (is_in chains.Masq) r (rules_for a.list of.att a.cached) of.wanted chain))
 
-masq-from : (att : Att) (g : Given) (q : Packet) (r : Rule) → (r ≡ no_masquerade_in_subnet att g) ⊎ (r ≡ masquerade_out att g) → matches_in chains.Masq q r ≡ true → g.address.addr ≡ q.src
-masq-from att g q r (inl inner) is = inner-from att g q (subst (λ x. matches_in chains.Masq q x ≡ true) inner is)
-masq-from att g q r (inr outer) is = outer-from att g q (subst (λ x. matches_in chains.Masq q x ≡ true) outer is)
+masq-from : (att : Att) (g : Given) (q : Packet) (r : Rule) → IsPacket q → (r ≡ no_masquerade_in_subnet att g) ⊎ (r ≡ masquerade_out att g) → matches_in chains.Masq q r ≡ true → g.address.addr ≡ q.src
+masq-from att g q r one (inl inner) is = inner-from att g q one (subst (λ x. matches_in chains.Masq q x ≡ true) inner is)
+masq-from att g q r one (inr outer) is = outer-from att g q one (subst (λ x. matches_in chains.Masq q x ≡ true) outer is)
 
-masq-own : CandidatesAreGiven → (p : Plan) (host : Host) → IsSettled p host → (att : Att) (q : Packet) → IsOnlyLessee host att q.src → (r : Rule) → IsAmong r host.rules → matches_in chains.Masq q r ≡ true → is_own att r.tag ≡ true
-masq-own law p host s att q only r at is =
+masq-own : CandidatesAreGiven → (p : Plan) (host : Host) → IsSettled p host → (att : Att) (q : Packet) → IsPacket q → IsOnlyLessee host att q.src → (r : Rule) → IsAmong r host.rules → matches_in chains.Masq q r ≡ true → is_own att r.tag ≡ true
+masq-own law p host s att q one only r at is =
     let of = rule-of p host s r at in
     let a = of.attached in
     let by = masq-of p host s r of (in-chain p r q is) in
-    let src = masq-from of.att by.one q r by.is is in
+    let src = masq-from of.att by.one q r one by.is is in
     let leased = given-leased law host of.att a.list a.cached (s.settled of.att a.list a.cached a.is) by.one by.there in
     let owner = leases-only host att of.att q.src only (subst (λ x. IsAmong (lease_of of.att x) host.leases) src leased) in
     own-own att r.tag (of.tag ∙ owner)
@@ -123,11 +123,11 @@ own-masq p host att list cached mine =
     (filter-among (λ (x : Rule). is_own att x.tag) r host.rules (mine.rules_there r wanted.0) (own-own att r.tag (masq-tag att by.one r by.is))) wanted.1)
 
 -- so the first that matches is found there
-found-masq : CandidatesAreGiven → (p : Plan) (host : Host) → IsSettled p host → (att : Att) (list : NetList) (cached : Cached) → IsAttached p host att list cached → (q : Packet) → IsOnlyLessee host att q.src
+found-masq : CandidatesAreGiven → (p : Plan) (host : Host) → IsSettled p host → (att : Att) (list : NetList) (cached : Cached) → IsAttached p host att list cached → (q : Packet) → IsPacket q → IsOnlyLessee host att q.src
     → first_match chains.Masq host.rules q ≡ find (matches_in chains.Masq q) (masquerade_rules (has_ip_masq list.first) att (given_for list cached))
-found-masq law p host s att list cached attached q only =
+found-masq law p host s att list cached attached q one only =
     let own = (share_of att host).rules in
-    sym (find-filter (matches_in chains.Masq q) (λ (r : Rule). is_own att r.tag) host.rules (masq-own law p host s att q only))
+    sym (find-filter (matches_in chains.Masq q) (λ (r : Rule). is_own att r.tag) host.rules (masq-own law p host s att q one only))
     ∙ sym (find-filter (matches_in chains.Masq q) (is_in chains.Masq) own (λ r at. in-chain p r q))
     ∙ ap (find (matches_in chains.Masq q)) (own-masq p host att list cached (s.settled att list cached attached))
 
@@ -143,7 +143,7 @@ source-there q gs g at is =
     any-found (λ (x : Given). addr_eq x.address.addr q.src) gs (among-any (λ (x : Given). addr_eq x.address.addr q.src) g gs at (ap (addr_eq g.address.addr) (sym is) ∙ addr-itself g.address.addr))
 
 -- of a packet that is this one on its way, and that no rule of a published port masquerades
-lessee-fate : CandidatesAreGiven → (p : Plan) (host : Host) → IsSettled p host → (packet q : Packet) (fate : Fate) → packet.src.family ≡ packet.dst.family → IsOnItsWay packet q → q.established ≡ false → (att : Att) → IsOnlyLessee host att packet.src
+lessee-fate : CandidatesAreGiven → (p : Plan) (host : Host) → IsSettled p host → (packet q : Packet) (fate : Fate) → IsPacket q → IsOnItsWay packet q → q.established ≡ false → (att : Att) → IsOnlyLessee host att packet.src
     → any_match chains.HostMasq host.rules q ≡ false → fate.masqueraded ≡ is_masqueraded host.rules q → fate.dst ≡ q.dst → IsMasqueradedAsListed p host att packet.src fate
 lessee-fate law p host s packet q fate one way new att lone none fate_is dst_is =
     let only : IsOnlyLessee host att q.src = subst (IsOnlyLessee host att) (sym way.src) lone in
@@ -156,7 +156,7 @@ lessee-fate law p host s packet q fate one way new att lone none fate_is dst_is 
     let first = first_match chains.Masq host.rules q in
     let said : fate.masqueraded ≡ says first = fate_is ∙ masq-alone q.established (any_match chains.HostMasq host.rules q) (says first) new none in
     let listed : says first ≡ (ip_masq && is_outward source.0 q.dst) =
-    ap says (found-masq law p host s att a.list a.cached a.is q only) ∙ says-masq ip_masq att q gs source.0 (ap (λ (x : Addr). x.family) way.src ∙ one ∙ sym way.family) source.1 in
+    ap says (found-masq law p host s att a.list a.cached a.is q one only) ∙ says-masq ip_masq att q gs source.0 one source.1 in
     record {
       list = a.list;
       cached = a.cached;
@@ -170,4 +170,4 @@ pub masqueraded-as_listed : CandidatesAreGiven → (p : Plan) (host : Host) → 
     → any_match chains.HostMasq host.rules (moved host.rules packet) ≡ false → IsMasqueradedAsListed p host att packet.src (fate_of host packet)
 masqueraded-as_listed law p host s packet one new att lone none =
     let way = on_its_way host.rules packet in
-    lessee-fate law p host s packet (moved host.rules packet) (fate_of host packet) one.family way (way.established ∙ new) att lone none (masqueraded-moved host.rules packet) (dst-moved host.rules packet)
+    lessee-fate law p host s packet (moved host.rules packet) (fate_of host packet) (one-moved packet (moved host.rules packet) one way) way (way.established ∙ new) att lone none (masqueraded-moved host.rules packet) (dst-moved host.rules packet)

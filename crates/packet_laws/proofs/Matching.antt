@@ -1,80 +1,116 @@
 -- Which packets the plugins' rules match.
-use Rattle.std.proofs.Common.{◌≡◌, true, false, Option, Some, None, refl, sym, ◌∙◌, ap, nat_eq}
+use Rattle.std.proofs.Common.{◌≡◌, Bool, true, false, not, Option, Some, None, refl, ◌∙◌, ap, ap₂, nat_eq}
 use Rattle.std.proofs.lemmas.Bool.{and_from, and_parts}
 use Rattle.std.specs.Prelude.{◌&&◌}
 use Rattle.std.specs.Option.{option_map}
 use Rattle.cni_addr.specs.Network.{contains, whole}
 use Rattle.cni_addr.specs.declared.address.Addr.{Addr}
+use Rattle.cni_addr.specs.declared.address.Cidr.{Cidr}
 use Rattle.cni_addr.specs.declared.address.Family.{Family}
-use Rattle.cni_addr.proofs.Networks.{contains_whole}
+use Rattle.cni_addr.specs.declared.address.Family.TheVariants.{V4, V6}
+use Rattle.cni_addr.proofs.Networks.{contains_between, contains_whole}
 use Rattle.cni_result.specs.declared.cached.PortMapping.{PortMapping}
 use Rattle.firewall_tuning.specs.Firewall.{accept_from, accept_replies_to}
 use Rattle.kernel_types.specs.Equal.{addr_eq, family_eq, proto_eq}
+use Rattle.kernel_types.specs.declared.call.Given.{Given}
 use Rattle.kernel_types.specs.declared.object.Att.{Att}
 use Rattle.kernel_types.specs.declared.rule.Chain.TheVariants as chains
 use Rattle.packet_probe.specs.Fate.{asks, is_of_family, is_to, matches_in}
+use Rattle.packet_probe.specs.Value.{IsPacket}
 use Rattle.packet_probe.specs.declared.packet.Packet.{Packet}
+use Rattle.plugin_base.specs.Shapes.{masquerade_out, multicast, no_masquerade_in_subnet}
 use Rattle.portmap.specs.Portmap.{dnat_of}
 use Rattle.packet_laws.specs.Packets.{is_for}
-use Rattle.packet_laws.proofs.Equal.{addr-itself, addr-same, family-itself, family-same}
+use Rattle.packet_laws.proofs.Equal.{addr-same, equal-addr, family-itself}
+use Rattle.packet_laws.proofs.Lists.{same_answer}
 
--- ---- one address
+-- ---- one network
 
-whole-family : (a : Addr) → (whole a).addr.family ≡ a.family
-unfolding whole
-whole-family a = refl
+-- it has addresses of its family alone, so that need not be tested
+network-part : (c : Cidr) (a : Addr) (f : Family) → a.family ≡ f → (is_of_family f c && contains c a) ≡ contains c a
+network-part c a f same =
+    same_answer (is_of_family f c && contains c a) (contains c a) (λ h. (and_parts (is_of_family f c) (contains c a) h).1)
+    (λ inside. and_from (is_of_family f c) (contains c a) (ap (λ g. family_eq g f) (((contains_between c a).0 inside).0 ∙ same) ∙ family-itself f) inside)
 
-pub whole-of : (a : Addr) (f : Family) → a.family ≡ f → is_of_family f (whole a) ≡ true
-whole-of a f e = ap (λ g. family_eq g f) (whole-family a ∙ e) ∙ family-itself f
-
-whole-has : (a : Addr) → contains (whole a) a ≡ true
-whole-has a = (contains_whole a a).1 refl
+-- that of one address has no other
+whole-part : (a b : Addr) (f : Family) → b.family ≡ f → (is_of_family f (whole a) && contains (whole a) b) ≡ addr_eq a b
+whole-part a b f same =
+    network-part (whole a) b f same
+    ∙ same_answer (contains (whole a) b) (addr_eq a b) (λ inside. equal-addr a b ((contains_whole a b).0 inside)) (λ is. (contains_whole a b).1 (addr-same a b is))
 
 -- ---- published ports
 
--- a packet goes to the address that is asked for, if one is
-to-host : (q : Packet) (o : Option Addr) → asks (is_to false q.dst) (option_map whole o) ≡ true → asks (addr_eq q.dst) o ≡ true
-to-host q None h = refl
-to-host q (Some ip) h = ap (addr_eq q.dst) ((contains_whole ip q.dst).0 h) ∙ addr-itself q.dst
+-- what a rule tests, put together by what it tests of
+published_alone : (f l c p n : Bool) → ((f && l) && (c && (p && (n && true)))) ≡ (l && ((f && c) && (p && n)))
+published_alone true true true true true = refl
+published_alone true true true true false = refl
+published_alone true true true false n = refl
+published_alone true true false p n = refl
+published_alone true false c p n = refl
+published_alone false true c p n = refl
+published_alone false false c p n = refl
 
-host-to : (q : Packet) (o : Option Addr) → asks (addr_eq q.dst) o ≡ true → asks (is_to false q.dst) (option_map whole o) ≡ true
-host-to q None h = refl
-host-to q (Some ip) h = (contains_whole ip q.dst).1 (sym (addr-same q.dst ip h))
+to-host : (q : Packet) (o : Option Addr) (l p n : Bool)
+    → ((asks (is_of_family q.dst.family) (option_map whole o) && l) && (asks (is_to false q.dst) (option_map whole o) && (p && (n && true)))) ≡ (l && (asks (λ ip. addr_eq ip q.dst) o && (p && n)))
+to-host q None l p n = published_alone true l true p n
+to-host q (Some ip) l p n =
+    published_alone (is_of_family q.dst.family (whole ip)) l (contains (whole ip) q.dst) p n ∙ ap (λ b. l && (b && (p && n))) (whole-part ip q.dst q.dst.family refl)
 
-host-of : (q : Packet) (o : Option Addr) → asks (addr_eq q.dst) o ≡ true → asks (is_of_family q.dst.family) (option_map whole o) ≡ true
-host-of q None h = refl
-host-of q (Some ip) h = whole-of ip q.dst.family (ap (λ (a : Addr). a.family) (sym (addr-same q.dst ip h)))
-
--- the packets of the mapping, in the family of its address
-pub dnat-fits : (att : Att) (m : PortMapping) (a : Addr) (q : Packet) → matches_in chains.Dnat q (dnat_of att m a) ≡ true → (is_for q m ≡ true) × (a.family ≡ q.dst.family)
-dnat-fits att m a q h =
-    let family = and_parts _ _ h in
-    let dst = and_parts _ _ family.1 in
-    let protocol = and_parts _ _ dst.1 in
-    let port = and_parts _ _ protocol.1 in (
-      and_from (proto_eq q.protocol m.protocol) (nat_eq q.dport m.host_port && asks (addr_eq q.dst) m.host_ip) protocol.0
-          (and_from (nat_eq q.dport m.host_port) (asks (addr_eq q.dst) m.host_ip) port.0 (to-host q m.host_ip dst.0)),
-      family-same a.family q.dst.family (and_parts _ _ family.0).1,
-    )
-
-pub fits-dnat : (att : Att) (m : PortMapping) (a : Addr) (q : Packet) → is_for q m ≡ true → a.family ≡ q.dst.family → matches_in chains.Dnat q (dnat_of att m a) ≡ true
-fits-dnat att m a q fits family =
-    let protocol = and_parts (proto_eq q.protocol m.protocol) (nat_eq q.dport m.host_port && asks (addr_eq q.dst) m.host_ip) fits in
-    let port = and_parts (nat_eq q.dport m.host_port) (asks (addr_eq q.dst) m.host_ip) protocol.1 in
-    let target : family_eq a.family q.dst.family ≡ true = ap (λ f. family_eq f q.dst.family) family ∙ family-itself q.dst.family in
-    and_from _ _ (and_from _ _ (host-of q m.host_ip port.1) target)
-    (and_from _ _ (host-to q m.host_ip port.1) (and_from _ _ protocol.0 (and_from _ _ port.0 refl)))
+-- the packets of the mapping, in the family of the address that it leads to
+pub dnat-matches : (att : Att) (m : PortMapping) (a : Addr) (q : Packet) → matches_in chains.Dnat q (dnat_of att m a) ≡ (family_eq a.family q.dst.family && is_for q m)
+dnat-matches att m a q = to-host q m.host_ip (family_eq a.family q.dst.family) (proto_eq q.protocol m.protocol) (nat_eq q.dport m.host_port)
 
 -- ---- what is let through
 
-pub from-matches : (att : Att) (a : Addr) (q : Packet) → matches_in chains.Forward q (accept_from att a) ≡ true → a ≡ q.src
-from-matches att a q h = (contains_whole a q.src).0 (and_parts _ _ (and_parts _ _ h).1).0
+from_alone : (f c : Bool) → ((f && true) && ((c && true) && true)) ≡ (f && c)
+from_alone true true = refl
+from_alone true false = refl
+from_alone false c = refl
 
-pub matches-from : (att : Att) (a : Addr) (q : Packet) → a ≡ q.src → a.family ≡ q.dst.family → matches_in chains.Forward q (accept_from att a) ≡ true
-matches-from att a q e family = and_from _ _ (and_from _ _ (whole-of a q.dst.family family) refl) (and_from _ _ ((contains_whole a q.src).1 e) refl)
+-- what comes from the address
+pub from-matches : (att : Att) (a : Addr) (q : Packet) → IsPacket q → matches_in chains.Forward q (accept_from att a) ≡ addr_eq a q.src
+from-matches att a q one = from_alone (is_of_family q.dst.family (whole a)) (contains (whole a) q.src) ∙ whole-part a q.src q.dst.family one.family
 
-pub replies-matches : (att : Att) (a : Addr) (q : Packet) → matches_in chains.Forward q (accept_replies_to att a) ≡ true → (a ≡ q.dst) × (q.established ≡ true)
-replies-matches att a q h = let parts = and_parts _ _ (and_parts _ _ h).1 in ((contains_whole a q.dst).0 parts.0, parts.1)
+replies_alone : (f c e : Bool) → ((f && true) && (c && e)) ≡ ((f && c) && e)
+replies_alone true c e = refl
+replies_alone false c e = refl
 
-pub matches-replies : (att : Att) (a : Addr) (q : Packet) → a ≡ q.dst → q.established ≡ true → matches_in chains.Forward q (accept_replies_to att a) ≡ true
-matches-replies att a q e established = and_from _ _ (and_from _ _ (whole-of a q.dst.family (ap (λ (x : Addr). x.family) e)) refl) (and_from _ _ ((contains_whole a q.dst).1 e) established)
+-- what goes to it where its connection stands
+pub replies-matches : (att : Att) (a : Addr) (q : Packet) → matches_in chains.Forward q (accept_replies_to att a) ≡ (addr_eq a q.dst && q.established)
+replies-matches att a q =
+    replies_alone (is_of_family q.dst.family (whole a)) (contains (whole a) q.dst) q.established ∙ ap (λ b. b && q.established) (whole-part a q.dst q.dst.family refl)
+
+-- ---- what leaves a container
+
+both_alone : (f g c d : Bool) → ((f && (g && true)) && ((c && d) && true)) ≡ ((f && c) && (g && d))
+both_alone true true true true = refl
+both_alone true true true false = refl
+both_alone true true false d = refl
+both_alone true false true d = refl
+both_alone true false false d = refl
+both_alone false g c d = refl
+
+-- what comes from the address and goes into its subnet
+pub inner-matches : (att : Att) (g : Given) (q : Packet) → IsPacket q → matches_in chains.Masq q (no_masquerade_in_subnet att g) ≡ (addr_eq g.address.addr q.src && contains g.subnet q.dst)
+inner-matches att g q one =
+    both_alone (is_of_family q.dst.family (whole g.address.addr)) (is_of_family q.dst.family g.subnet) (contains (whole g.address.addr) q.src) (contains g.subnet q.dst)
+    ∙ ap₂ (λ b c. b && c) (whole-part g.address.addr q.src q.dst.family one.family) (network-part g.subnet q.dst q.dst.family refl)
+
+multicast-family : (f : Family) → (multicast f).addr.family ≡ f
+multicast-family V4 = refl
+multicast-family V6 = refl
+
+-- what comes from it and doesn't go to many, in whose family it is
+of_source : (s f d : Bool) → (s ≡ true → f ≡ true) → (s && (f && d)) ≡ (s && d)
+of_source true f d w = ap (λ b. b && d) (w refl)
+of_source false f d w = refl
+
+pub outer-matches : (att : Att) (g : Given) (q : Packet) → IsPacket q → matches_in chains.Masq q (masquerade_out att g) ≡ (addr_eq g.address.addr q.src && not (contains (multicast g.address.addr.family) q.dst))
+outer-matches att g q one =
+    let many = multicast g.address.addr.family in
+    both_alone (is_of_family q.dst.family (whole g.address.addr)) (is_of_family q.dst.family many) (contains (whole g.address.addr) q.src) (not (contains many q.dst))
+    ∙ ap (λ b. b && (is_of_family q.dst.family many && not (contains many q.dst))) (whole-part g.address.addr q.src q.dst.family one.family)
+    ∙ of_source (addr_eq g.address.addr q.src) (is_of_family q.dst.family many) (not (contains many q.dst))
+    (λ same.
+    let family = multicast-family g.address.addr.family ∙ ap (λ (a : Addr). a.family) (addr-same g.address.addr q.src same) ∙ one.family in
+    ap (λ f. family_eq f q.dst.family) family ∙ family-itself q.dst.family)

@@ -1,6 +1,6 @@
 -- A packet is sent on as its port is published.
 use Rattle.std.proofs.Common.{◌≡◌, Bool, true, false, List, ◌∷◌, ◌++◌, Option, Some, None, refl, sym, ◌∙◌, ap, subst}
-use Rattle.std.proofs.lemmas.Bool.{and_parts, both_ways}
+use Rattle.std.proofs.lemmas.Bool.{and_from, and_parts, both_ways}
 use Rattle.std.proofs.lemmas.Option.{none-some, same_Some}
 use Rattle.std.specs.Prelude.{if◌then◌else◌}
 use Rattle.std.specs.List.{list_any}
@@ -8,6 +8,7 @@ use Rattle.std.specs.Option.{option_and_then, option_map, option_map_or}
 use Rattle.cni_addr.specs.Lists.{IsAmong}
 use Rattle.cni_addr.specs.declared.address.Addr.{Addr}
 use Rattle.cni_addr.specs.declared.address.Family.{Family}
+use Rattle.cni_addr.proofs.Networks.{family_eq-true}
 use Rattle.cni_result.specs.declared.result.IpEntry.{IpEntry}
 use Rattle.cni_verbs.specs.Questions.{addresses_of_result}
 use Rattle.kernel_types.specs.Equal.{addr_eq, chain_eq, family_eq}
@@ -21,10 +22,10 @@ use Rattle.plugin_base.specs.Families.{first_of_family, is_of_family}
 use Rattle.plugin_chain.specs.Wanted.{given_by_list}
 use Rattle.pod_workers.specs.declared.plan.Plan.{Plan}
 use Rattle.portmap.specs.Portmap.{dnat_of, host_ip_allows}
-use Rattle.packet_laws.specs.Packets.{IsPublished, IsRewrittenAsPublished, PublishedPort, has_ip_masq, left, rule_by, sent}
-use Rattle.packet_laws.proofs.Equal.{addr-same, chain-same, family-itself, family-same}
+use Rattle.packet_laws.specs.Packets.{IsPublished, IsRewrittenAsPublished, PublishedPort, has_ip_masq, is_for, left, rule_by, sent}
+use Rattle.packet_laws.proofs.Equal.{addr-same, chain-same, family-itself}
 use Rattle.packet_laws.proofs.Lists.{among-any, any-found, first-among, first-found}
-use Rattle.packet_laws.proofs.Matching.{dnat-fits, fits-dnat}
+use Rattle.packet_laws.proofs.Matching.{dnat-matches}
 use Rattle.packet_laws.proofs.Settled.{IsSettled, rule-of}
 use Rattle.packet_laws.proofs.WantedRules.{dnat-wanted, wanted-dnat}
 
@@ -32,7 +33,7 @@ use Rattle.packet_laws.proofs.WantedRules.{dnat-wanted, wanted-dnat}
 
 -- it is of the family
 first-family : (f : Family) (ips : List IpEntry) (ip : IpEntry) → first_of_family f ips ≡ Some ip → ip.address.addr.family ≡ f
-first-family f ips ip is = family-same ip.address.addr.family f (first-found (λ (i : IpEntry). is_of_family f i.address) ips ip is).passes
+first-family f ips ip is = family_eq-true ip.address.addr.family f (first-found (λ (i : IpEntry). is_of_family f i.address) ips ip is).passes
 
 ip-at : (o : Option IpEntry) (addr : Addr) → option_map (λ (i : IpEntry). i.address.addr) o ≡ Some addr → (ip : IpEntry) × (o ≡ Some ip) × (ip.address.addr ≡ addr)
 ip-at None addr is = absurd (none-some addr is)
@@ -52,8 +53,8 @@ matched-published p host s packet r at is =
     let chain : r.chain ≡ chains.Dnat = chain-same r.chain chains.Dnat (and_parts (chain_eq r.chain chains.Dnat) (matches packet r) is).0 in
     let d = dnat-wanted (has_ip_masq a.list.first) of.att (given_by_list a.list (addresses_of_result a.cached.result)) a.cached.mappings a.cached.result.ips a.list.chained r of.wanted chain in
     let addr = d.ip.address.addr in
-    let fits = dnat-fits of.att d.mapping addr packet (subst (λ x. matches_in chains.Dnat packet x ≡ true) d.is is) in
-    let family : d.family ≡ packet.dst.family = sym (first-family d.family a.cached.result.ips d.ip d.first) ∙ fits.1 in
+    let fits = and_parts (family_eq addr.family packet.dst.family) (is_for packet d.mapping) (sym (dnat-matches of.att d.mapping addr packet) ∙ subst (λ x. matches_in chains.Dnat packet x ≡ true) d.is is) in
+    let family : d.family ≡ packet.dst.family = sym (first-family d.family a.cached.result.ips d.ip d.first) ∙ family_eq-true addr.family packet.dst.family fits.0 in
     record {
       port = record { att = of.att; mapping = d.mapping; addr = addr };
       published = record {
@@ -62,7 +63,7 @@ matched-published p host s packet r at is =
         attached = a.is;
         takes = (s.settled of.att a.list a.cached a.is).takes d.mapping d.mapped;
         mapped = d.mapped;
-        fits = fits.0;
+        fits = fits.1;
         first = ap (λ f. option_map (λ (i : IpEntry). i.address.addr) (first_of_family f a.cached.result.ips)) (sym family) ∙ ap (option_map (λ (i : IpEntry). i.address.addr)) d.first;
       };
       rule = d.is;
@@ -71,10 +72,10 @@ matched-published p host s packet r at is =
 -- ---- and the rule of a published port is there, and matches
 
 -- a mapping for the packet asks for no address of another family
-allowed-by : (packet : Packet) (o : Option Addr) (addr : Addr) → asks (addr_eq packet.dst) o ≡ true → addr.family ≡ packet.dst.family → host_ip_allows o addr ≡ true
+allowed-by : (packet : Packet) (o : Option Addr) (addr : Addr) → asks (λ ip. addr_eq ip packet.dst) o ≡ true → addr.family ≡ packet.dst.family → host_ip_allows o addr ≡ true
 allowed-by packet None addr fits family = refl
 allowed-by packet (Some ip) addr fits family =
-    let same : ip.family ≡ addr.family = ap (λ (x : Addr). x.family) (sym (addr-same packet.dst ip fits)) ∙ sym family in
+    let same : ip.family ≡ addr.family = ap (λ (x : Addr). x.family) (addr-same ip packet.dst fits) ∙ sym family in
     ap (λ f. family_eq f addr.family) same ∙ family-itself addr.family
 
 published-family : (p : Plan) (host : Host) (packet : Packet) (port : PublishedPort) → IsPublished p host packet port → port.addr.family ≡ packet.dst.family
@@ -83,13 +84,15 @@ published-family p host packet port b =
     ap (λ (x : Addr). x.family) (sym ip.2) ∙ first-family packet.dst.family b.cached.result.ips ip.0 ip.1
 
 published-matches : (p : Plan) (host : Host) (packet : Packet) (port : PublishedPort) → IsPublished p host packet port → matches_in chains.Dnat packet (rule_by port) ≡ true
-published-matches p host packet port b = fits-dnat port.att port.mapping port.addr packet b.fits (published-family p host packet port b)
+published-matches p host packet port b =
+    let family : family_eq port.addr.family packet.dst.family ≡ true = ap (λ f. family_eq f packet.dst.family) (published-family p host packet port b) ∙ family-itself packet.dst.family in
+    dnat-matches port.att port.mapping port.addr packet ∙ and_from (family_eq port.addr.family packet.dst.family) (is_for packet port.mapping) family b.fits
 
 published-there : (p : Plan) (host : Host) → IsSettled p host → (packet : Packet) (port : PublishedPort) → IsPublished p host packet port → IsAmong (rule_by port) host.rules
 published-there p host s packet port b =
     let ip = ip-at (first_of_family packet.dst.family b.cached.result.ips) port.addr b.first in
     let family : ip.0.address.addr.family ≡ packet.dst.family = first-family packet.dst.family b.cached.result.ips ip.0 ip.1 in
-    let asked : asks (addr_eq packet.dst) port.mapping.host_ip ≡ true = (and_parts _ _ (and_parts _ _ b.fits).1).1 in
+    let asked : asks (λ ip. addr_eq ip packet.dst) port.mapping.host_ip ≡ true = (and_parts _ _ b.fits).0 in
     let wanted = wanted-dnat (has_ip_masq b.list.first) port.att (given_by_list b.list (addresses_of_result b.cached.result)) b.cached.mappings b.cached.result.ips b.list.chained port.mapping packet.dst.family ip.0 b.takes b.mapped ip.1
     (allowed-by packet port.mapping.host_ip ip.0.address.addr asked family) in
     subst (λ a. IsAmong (dnat_of port.att port.mapping a) host.rules) ip.2 ((s.settled port.att b.list b.cached b.attached).rules_there (dnat_of port.att port.mapping ip.0.address.addr) wanted)

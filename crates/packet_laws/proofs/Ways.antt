@@ -1,15 +1,17 @@
 -- The packet as it is after the rewriting, by which its fate is told.
-use Rattle.std.proofs.Common.{◌≡◌, Bool, true, false, List, Option, Some, None, refl}
+use Rattle.std.proofs.Common.{◌≡◌, Bool, true, false, List, Option, Some, None, refl, sym, ◌∙◌, ap}
 use Rattle.std.proofs.lemmas.Bool.{and_parts}
 use Rattle.std.specs.Prelude.{unwrap_or, if◌then◌else◌}
 use Rattle.std.specs.Option.{option_and_then, option_map_or}
+use Rattle.cni_addr.specs.declared.address.Addr.{Addr}
+use Rattle.cni_addr.proofs.Networks.{family_eq-true}
 use Rattle.kernel_types.specs.declared.rule.Chain.TheVariants as chains
 use Rattle.kernel_types.specs.declared.rule.Rule.{Rule}
 use Rattle.kernel_types.specs.declared.rule.Target.{Target}
 use Rattle.kernel_types.specs.declared.rule.Target.TheVariants as targets
 use Rattle.packet_probe.specs.Fate.{any_match, fate_at, fate_by, first_match, is_masqueraded, leads_into, matches_in, rewriting, sent_by, sent_to}
+use Rattle.packet_probe.specs.Value.{IsPacket}
 use Rattle.packet_probe.specs.declared.packet.Packet.{Packet}
-use Rattle.packet_laws.proofs.Equal.{family-same}
 use Rattle.packet_laws.proofs.Lists.{first-found}
 
 -- ---- the packet on its way
@@ -27,7 +29,7 @@ unmoved p = record { src = refl; established = refl; family = refl; stands = λ 
 sent-way : (p : Packet) (t : Target) → p.established ≡ false → leads_into p.dst.family t ≡ true → IsOnItsWay p (unwrap_or (sent_to p t) p)
 sent-way p targets.Accept new leads = unmoved p
 sent-way p targets.Masquerade new leads = unmoved p
-sent-way p (targets.Dnat addr port) new leads = record { src = refl; established = refl; family = family-same addr.family p.dst.family leads; stands = λ established. cc }
+sent-way p (targets.Dnat addr port) new leads = record { src = refl; established = refl; family = family_eq-true addr.family p.dst.family leads; stands = λ established. cc }
 
 found-way : (p : Packet) (o : Option Rule) → p.established ≡ false → ((r : Rule) → o ≡ Some r → leads_into p.dst.family r.target ≡ true) → IsOnItsWay p (unwrap_or (option_and_then (sent_by p) o) p)
 found-way p None new leads = unmoved p
@@ -47,6 +49,10 @@ moved rules p = unwrap_or (rewriting rules p) p
 
 pub on_its_way : (rules : List Rule) (p : Packet) → IsOnItsWay p (moved rules p)
 on_its_way rules p = way-by p.established p (first_match chains.Dnat rules p) refl (λ r is. matches-leads p r (first-found (matches_in chains.Dnat p) rules r is).passes)
+
+-- its addresses have one family still
+pub one-moved : (p q : Packet) → IsPacket p → IsOnItsWay p q → IsPacket q
+one-moved p q one way = record { family = ap (λ (a : Addr). a.family) way.src ∙ one.family ∙ sym way.family }
 
 -- ---- its fate
 

@@ -41,10 +41,11 @@ use Rattle.packet_laws.specs.Complete.{IsAttached, IsComplete}
 
 -- ---- published ports
 
--- the mapping is of the packet's protocol and port, and of its destination or of every address of the host
+-- the mapping is of the packet's destination or of every address of the host, and of its protocol and port
 abbrev pub is_for : Packet → PortMapping → Bool
 is_for packet m =
-    proto_eq packet.protocol m.protocol && (packet.dport == m.host_port && asks (addr_eq packet.dst) m.host_ip)
+    asks (λ ip. addr_eq ip packet.dst) m.host_ip
+    && (proto_eq packet.protocol m.protocol && packet.dport == m.host_port)
 
 -- a port mapping of an attachment, and where it leads
 pub record PublishedPort : Type 0 where
