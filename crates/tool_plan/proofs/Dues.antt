@@ -50,6 +50,8 @@ of_generator count stop_at files input made = λ stored at. ap (λ (i : Input). 
 pub by_generator : (count : ℕ) (stop_at : Option ℕ) (input : Input) → input ≡ generated_input stop_at count → IsInputBy (Generated count stop_at) input
 by_generator count stop_at input made = subst (IsInputBy (Generated count stop_at)) (sym made) (record { requests = refl; packets = λ none. refl })
 
+pub ruleset inputs = (of_files, of_generator, by_generator, some_named)
+
 pub asked_by : (by : Words) (input : Input) (plan : Plan) (asked : Asked) → plan ≡ input.plan → asked ≡ asked_of by input → IsInputBy by.source input → IsAskedBy by plan asked
 asked_by by input plan asked same is given =
     subst (λ (p : Plan). IsAskedBy by p asked) (sym same) (subst (IsAskedBy by input.plan) (sym is) (record {

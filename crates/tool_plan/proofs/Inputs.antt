@@ -1,5 +1,5 @@
 -- What pod file, lists and packet file come to, one after another.
-use Rattle.std.proofs.Common.{◌≡◌, ◌∙◌, ◌+◌, ◌<◌, ◌≤◌, ℕ, Bool, true, false, List, [], ◌∷◌, ◌++◌, length, take, inl, inr, refl, sym, ap, subst, arith, Ok, Err, IsOk, Option, Some, None, option_map}
+use Rattle.std.proofs.Common.{◌≡◌, ◌∙◌, ◌+◌, ◌<◌, ◌≤◌, ℕ, Bool, true, false, List, [], ◌∷◌, ◌++◌, length, take, inl, inr, refl, sym, ap, subst, arith, Ok, Err, IsOk, Option, Some, option_map}
 use Rattle.std.specs.Bool.{then_some}
 use Rattle.std.specs.List.{slice_index_or}
 use Rattle.std.proofs.lemmas.List.{map-append, take_more}
@@ -11,7 +11,7 @@ use Rattle.pod_file.specs.declared.pods.Pods.{Pods}
 use Rattle.pod_workers.specs.declared.plan.Plan.{Plan}
 use Rattle.tool_words.specs.declared.source.Named.{Named}
 use Rattle.tool_words.specs.declared.source.Source.TheVariants.{Files}
-use Rattle.tool_plan.specs.Causes.{AreTakenPods, GivesJudged, GivesStored, ReachesFile, ReachesList, WhereTold}
+use Rattle.tool_plan.specs.Causes.{GivesJudged, GivesStored, ReachesFile, ReachesList, WhereTold}
 use Rattle.tool_plan.specs.Verdict.{AreRequestsOf, Judged, input_of_files, judged_plan, lists_of, stored_lists, stored_packets, stored_pods}
 use Rattle.tool_plan.specs.declared.plan.Input.{Input}
 use Rattle.tool_plan.specs.declared.plan.NoPlan.{NoPlan}

@@ -60,7 +60,7 @@ fn read_due_of<F: Files>(
 }
 
 /// The input that the source asks for, from files or of generated pods.
-#[tactic(auto, using(crate::proofs::Dues::of_files, crate::proofs::Dues::of_generator, crate::proofs::Dues::by_generator, crate::proofs::Dues::some_named))]
+#[tactic(auto, using(crate::proofs::Dues::inputs))]
 fn input_for<F: Files>(alloc: Global, files: &mut F, source: &Source) -> Result<Input, NoPlan>
     requires { IsSourceWithin source.now }
     ensures gives { GivesInput source.now (files_seen F.files F.failure_count files.old files.new) result }

@@ -3,8 +3,8 @@
 //! What it promises above: [`read_due`] gives a [`Due`], which is a plan with what is to be printed of it, or why there
 //! is none (`ComesToDue` of `specs/Dues.antt`). Where the files are told, both are those that the definition
 //! `verdict_of` (`specs/Verdict.antt`) makes of words and files; a failed read names a file that reading gets to. Where
-//! pods are generated no file is read, and the plan is the generator's whatever the files. Each plan is well formed, and
-//! the requests that are to be printed are to the plugins of its lists.
+//! pods are generated no file is read, and the plan is the generator's whatever the files. Each plan is well formed,
+//! and the requests that are to be printed are to the plugins of its lists.
 //!
 //! ```text
 //! // words: --threads 4 --requests pods.json net.json

@@ -120,7 +120,7 @@ requests-any_round w round (Some raws) = refl
 text-any_round : (w : World) (round : ℕ) (asked : Asked) → text_of (record w { round = round }) asked ≡ text_of w asked
 unfolding text_of
 text-any_round w round asked =
-    ap₂ (λ (part requests : List ℕ). part ++ requests ++ where_asked asked.trace (trace_lines w) ++ where_asked asked.dump (dump_of (host_of w)) ++ fates_from 0 (host_of w) asked.packets)
+    ap₂ (λ (part requests : List ℕ). part ++ requests ++ where_asked asked.trace (trace_lines w) ++ where_asked asked.dump (dump_of (host_of w)) ++ fates_from 0 (host_of w).rules asked.packets)
     (part-any_round w round asked.commands) (requests-any_round w round asked.requests)
 
 text-same : (v w : World) (asked : Asked) → v.plan ≡ w.plan → v.history ≡ w.history → v.answers ≡ w.answers → text_of v asked ≡ text_of w asked
