@@ -116,15 +116,15 @@ def wrong_in(program, path, table, used, counts):
         recorded = Recorded(told)
         beside = Beside(program, kept["pods"], kept["lists"])
         beside.carry_out(recorded)
-        counts["scenarios"] += 1
-        counts["the same"] += beside.same
+        counts[version, "scenarios"] += 1
+        counts[version, "the same"] += beside.same
         for it in recorded.wrong:
             yield f"{path.stem} {version}: {compact(it)}"
         if not recorded.wrong and recorded.left():
             yield f"{path.stem} {version}: less is asked than was recorded"
         for it in beside.found:
             name = known(it, table, path.stem, version)
-            counts["different"] += 1
+            counts[version, "different"] += 1
             used.add(name)
             if name is None and not it.after:
                 yield f"{path.stem} {version}: {line_of(it, name)}"
@@ -141,8 +141,10 @@ def kept(program):
     for text in [*(f"no recording shows the difference {it}" for it in unused), *untold(table)]:
         wrong += 1
         print(text)
-    numbers = ", ".join(f"{counts[it]} {it}" for it in ("scenarios", "the same", "different"))
-    print(f"real: {numbers}, {wrong} wrong")
+    for version in sorted({it[0] for it in counts}):
+        numbers = ", ".join(f"{counts[version, it]} {it}" for it in ("scenarios", "the same", "different"))
+        print(f"real {version}: {numbers}")
+    print(f"real: {wrong} wrong")
     return 1 if wrong else 0
 
 
