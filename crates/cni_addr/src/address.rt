@@ -1,5 +1,6 @@
 //! Network addresses as numbers.
 
+use std::cmp::Ordering;
 use std::marker::Model;
 
 /// The family of an address: RFC 791 or RFC 4291.
@@ -29,8 +30,41 @@ impl Eq for Family {
     ghost laws = { on_equiv family_code nat_eq_equiv };
 }
 
+impl PartialOrd for Family {
+    ghost use Rattle.std.specs.Ordering.{as_partial_cmp, nat_cmp, on};
+    ghost use Rattle.std.specs.Cmp.{nat_cmp_total, on_total, po, unsigned_ties};
+    ghost use Rattle.cni_addr.specs.Codes.{family_code};
+
+    ghost partial_cmp = { as_partial_cmp (on family_code nat_cmp) };
+
+    ghost laws = { po (on_total family_code nat_cmp_total) (λ x y. unsigned_ties (family_code x) (family_code y)) };
+
+    fn partial_cmp(&self, other: &Family) -> Option<Ordering> {
+        Some(self.cmp(other))
+    }
+}
+
+impl Ord for Family {
+    ghost use Rattle.std.specs.Prelude.{refl};
+    ghost use Rattle.std.specs.Ordering.{nat_cmp, on};
+    ghost use Rattle.std.specs.Cmp.{nat_cmp_total, on_total, unsigned_ties};
+    ghost use Rattle.cni_addr.specs.Codes.{family_code};
+
+    ghost cmp = { on family_code nat_cmp };
+
+    ghost total = { on_total family_code nat_cmp_total };
+
+    ghost matches_partial_cmp = { λ x y. refl };
+
+    ghost matches_eq = { λ x y. unsigned_ties (family_code x) (family_code y) };
+
+    fn cmp(&self, other: &Family) -> Ordering {
+        (*self as u8).cmp(&(*other as u8))
+    }
+}
+
 /// An address as a number, its first byte the highest. It fits its family: the invariant says so.
-#[derive(Clone, Copy, Debug, PartialEq, Eq, Hash)]
+#[derive(Clone, Copy, Debug, PartialEq, Eq, PartialOrd, Ord, Hash)]
 pub struct Addr {
     pub family: Family,
     pub bits: u128,
@@ -49,7 +83,7 @@ impl Model for Addr {
 }
 
 /// An address with the length of its network's prefix (RFC 4632). Host bits are kept.
-#[derive(Clone, Copy, Debug, PartialEq, Eq, Hash)]
+#[derive(Clone, Copy, Debug, PartialEq, Eq, PartialOrd, Ord, Hash)]
 pub struct Cidr {
     pub addr: Addr,
     pub prefix: u8,

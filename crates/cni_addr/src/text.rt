@@ -4,12 +4,13 @@ ghost use Rattle.std.specs.Prelude.{◌≡◌, IfOk};
 
 use crate::memory::{Duplicate, NoMemory};
 use std::alloc::Global;
+use std::cmp::Ordering;
 use std::convert::AsStr;
 use std::hash::{Hash, Hasher};
 use std::marker::Model;
 use std::sync::ArcStr;
 
-/// A text in UTF-8. Contracts see it as the list of its bytes.
+/// A text in UTF-8, in the order of its bytes. Contracts see it as the list of its bytes.
 ///
 /// It is one pointer to bytes that its copies share, since the history of a run holds millions of texts.
 #[derive(Drop)]
@@ -70,6 +71,38 @@ impl Eq for Text {
     ghost use Rattle.std.specs.Cmp.Lexicographic.{nat_list_eq_equiv};
 
     ghost laws = { nat_list_eq_equiv };
+}
+
+impl PartialOrd for Text {
+    ghost use Rattle.std.specs.Prelude.{Some};
+    ghost use Rattle.std.specs.Ordering.{nat_cmp};
+    ghost use Rattle.std.specs.Cmp.Lexicographic.{slice_cmp, texts_po};
+
+    ghost partial_cmp = { λ x y. Some (slice_cmp nat_cmp x y) };
+
+    ghost laws = { texts_po };
+
+    fn partial_cmp(&self, other: &Text) -> Option<Ordering> {
+        Some(self.cmp(other))
+    }
+}
+
+impl Ord for Text {
+    ghost use Rattle.std.specs.Ordering.{nat_cmp};
+    ghost use Rattle.std.specs.Cmp.Lexicographic.{slice_cmp, nat_list_cmp_total, texts_ties};
+    ghost use Rattle.std.proofs.Common.{refl};
+
+    ghost cmp = { slice_cmp nat_cmp };
+
+    ghost total = { nat_list_cmp_total };
+
+    ghost matches_partial_cmp = { λ x y. refl };
+
+    ghost matches_eq = { texts_ties };
+
+    fn cmp(&self, other: &Text) -> Ordering {
+        self.as_str().cmp(other.as_str())
+    }
 }
 
 impl AsStr for Text {

@@ -6,6 +6,7 @@ ghost use Rattle.cni_result.specs.Mappings.{proto_text, proto_named};
 
 use crate::result::AddResult;
 use cni_addr::{Addr, Duplicate, Items, NoMemory, Text};
+use std::cmp::Ordering;
 
 /// A transport protocol of a published port.
 #[derive(Clone, Copy, Debug, Hash)]
@@ -60,6 +61,39 @@ impl Eq for Proto {
     ghost use Rattle.cni_result.specs.Codes.{proto_code};
 
     ghost laws = { on_equiv proto_code nat_eq_equiv };
+}
+
+impl PartialOrd for Proto {
+    ghost use Rattle.std.specs.Ordering.{as_partial_cmp, nat_cmp, on};
+    ghost use Rattle.std.specs.Cmp.{nat_cmp_total, on_total, po, unsigned_ties};
+    ghost use Rattle.cni_result.specs.Codes.{proto_code};
+
+    ghost partial_cmp = { as_partial_cmp (on proto_code nat_cmp) };
+
+    ghost laws = { po (on_total proto_code nat_cmp_total) (λ x y. unsigned_ties (proto_code x) (proto_code y)) };
+
+    fn partial_cmp(&self, other: &Proto) -> Option<Ordering> {
+        Some(self.cmp(other))
+    }
+}
+
+impl Ord for Proto {
+    ghost use Rattle.std.specs.Prelude.{refl};
+    ghost use Rattle.std.specs.Ordering.{nat_cmp, on};
+    ghost use Rattle.std.specs.Cmp.{nat_cmp_total, on_total, unsigned_ties};
+    ghost use Rattle.cni_result.specs.Codes.{proto_code};
+
+    ghost cmp = { on proto_code nat_cmp };
+
+    ghost total = { on_total proto_code nat_cmp_total };
+
+    ghost matches_partial_cmp = { λ x y. refl };
+
+    ghost matches_eq = { λ x y. unsigned_ties (proto_code x) (proto_code y) };
+
+    fn cmp(&self, other: &Proto) -> Ordering {
+        (*self as u8).cmp(&(*other as u8))
+    }
 }
 
 /// A port of the host that is published to a port of the container (the `portMappings` capability). Without
