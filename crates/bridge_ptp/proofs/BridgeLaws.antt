@@ -1,34 +1,25 @@
 -- `bridge` keeps the laws of a first plugin.
-use Rattle.std.proofs.Common.{◌≡◌, ℕ, ◌+◌, ◌*◌, ◌≤◌, Bool, true, List, ◌++◌, map, length, Option, Some, None, refl, sym, arith}
-use Rattle.std.specs.Prelude.{option_map, option_to_list}
-use Rattle.std.specs.List.{list_all}
-use Rattle.std.specs.Cmp.Lexicographic.{nat_list_eq_equiv}
-use Rattle.std.proofs.lemmas.List.{length-append, length-map}
+use Rattle.std.proofs.Common.{◌≡◌, ℕ, ◌+◌, ◌*◌, ◌≤◌, Bool, true, List, ◌++◌, map, length, Option, Some, None, refl, sym}
+use Rattle.std.proofs.{Common.arith, lemmas.List.{length-append, length-map}}
+use Rattle.std.specs.{Cmp.Lexicographic.nat_list_eq_equiv, List.list_all, Prelude.{option_map, option_to_list}}
 use Rattle.cni_addr.specs.declared.address.Family.TheVariants.{V4, V6}
-use Rattle.cni_result.specs.declared.result.IpEntry.{IpEntry}
-use Rattle.cni_result.specs.declared.result.RouteEntry.{RouteEntry}
-use Rattle.net_conf.specs.BridgeModes.{hairpin, is_default, is_gateway}
-use Rattle.net_conf.specs.declared.first.BridgeConf.{BridgeConf}
+use Rattle.cni_result.specs.declared.result.{IpEntry.IpEntry, RouteEntry.RouteEntry}
+use Rattle.net_conf.specs.{BridgeModes.{hairpin, is_default, is_gateway}, declared.first.BridgeConf.BridgeConf}
+use Rattle.kernel_types.specs.declared.call.{Call.TheVariants.{AddrAdd, RouteAdd, RuleAppend}, Given.Given}
 use Rattle.kernel_types.specs.declared.object.Att.{Att}
-use Rattle.kernel_types.specs.declared.call.Call.TheVariants.{AddrAdd, RouteAdd, RuleAppend}
-use Rattle.kernel_types.specs.declared.call.Given.{Given}
-use Rattle.plugin_base.specs.Families.{first_of_family}
-use Rattle.plugin_base.specs.PluginLaws.{AreCallsAfter, AreCallsBefore, FirstLaws}
+use Rattle.plugin_base.specs.{Families.first_of_family, PluginLaws.{AreCallsAfter, AreCallsBefore, FirstLaws}}
 use Rattle.plugin_base.specs.Shapes.{addresses_on, forward_calls, masquerade_rules, routes_on}
-use Rattle.plugin_base.proofs.CallLists.{share_plus-links}
-use Rattle.plugin_base.proofs.Counts.{length-addresses, length-forward, length-if, length-masquerades, length-routes}
-use Rattle.plugin_base.proofs.KeyLists.{length-each_key_once, list_all-append, list_all-if}
-use Rattle.plugin_base.proofs.PluginCalls.{calls-after, fit-addresses, fit-forward, fit-masquerades, fit-routes, fits, fits-gateway, passes-once}
+use Rattle.plugin_base.proofs.{CallLists.share_plus-links, Counts.{length-addresses, length-forward, length-if}}
+use Rattle.plugin_base.proofs.{Counts.{length-masquerades, length-routes}, KeyLists.length-each_key_once}
+use Rattle.plugin_base.proofs.{KeyLists.{list_all-append, list_all-if}, PluginCalls.{calls-after, fit-addresses}}
+use Rattle.plugin_base.proofs.PluginCalls.{fit-forward, fit-masquerades, fit-routes, fits, fits-gateway, passes-once}
 use Rattle.plugin_base.proofs.ResultLemmas.{addresses-at}
-use Rattle.host_local.specs.Conf.{routes_of}
-use Rattle.host_local.specs.Results.{ip_of}
+use Rattle.host_local.specs.{Conf.routes_of, Results.ip_of}
 use Rattle.host_local.proofs.KindLemmas.{interface_kinds-leases, interface_kinds-rules}
 use Rattle.bridge_ptp.specs.Bridge.{bridge_calls_after, bridge_entries, bridge_kinds_of, bridge_plugin, gateway_calls}
-use Rattle.bridge_ptp.specs.Gateways.{gateway_call, gateway_of, gateways_on, is_same_gateway}
-use Rattle.bridge_ptp.specs.Results.{added_default, bridge_routes}
-use Rattle.bridge_ptp.specs.Veth.{veth_links}
-use Rattle.bridge_ptp.proofs.Shares.{share-bridge_after}
-use Rattle.bridge_ptp.proofs.VethLemmas.{veth-inner, veth-own, veth-well_formed}
+use Rattle.bridge_ptp.specs.{Gateways.{gateway_call, gateway_of, gateways_on, is_same_gateway}, Results.added_default}
+use Rattle.bridge_ptp.specs.{Results.bridge_routes, Veth.veth_links}
+use Rattle.bridge_ptp.proofs.{Shares.share-bridge_after, VethLemmas.{veth-inner, veth-own, veth-well_formed}}
 
 -- ---- before the leases
 

@@ -1,26 +1,20 @@
 -- `ptp` keeps the laws of a first plugin.
-use Rattle.std.proofs.Common.{◌≡◌, ℕ, ◌+◌, ◌*◌, ◌≤◌, Bool, true, false, List, ◌++◌, map, length, Some, None, refl, sym, arith}
-use Rattle.std.specs.Prelude.{flat_map}
-use Rattle.std.specs.List.{list_all}
-use Rattle.std.proofs.lemmas.Bool.{and_from}
-use Rattle.std.proofs.lemmas.List.{length-append, length-map}
+use Rattle.std.proofs.Common.{◌≡◌, ℕ, ◌+◌, ◌*◌, ◌≤◌, Bool, true, false, List, ◌++◌, map, length, Some, None, refl, sym}
+use Rattle.std.proofs.{Common.arith, lemmas.{Bool.and_from, List.{length-append, length-map}}}
+use Rattle.std.specs.{List.list_all, Prelude.flat_map}
 use Rattle.cni_addr.specs.Network.{whole}
 use Rattle.net_conf.specs.declared.first.PtpConf.{PtpConf}
-use Rattle.kernel_types.specs.declared.object.Att.{Att}
-use Rattle.kernel_types.specs.declared.call.Call.TheVariants.{RuleAppend}
-use Rattle.kernel_types.specs.declared.call.Given.{Given}
-use Rattle.plugin_base.specs.PluginLaws.{AreCallsAfter, AreCallsBefore, FirstLaws}
-use Rattle.plugin_base.specs.Shapes.{forward_calls, gateway_for, host_key, inner_key, masquerade_rules, route_on}
-use Rattle.plugin_base.proofs.CallLists.{share_plus-links}
-use Rattle.plugin_base.proofs.Counts.{length-each, length-forward, length-masquerades}
-use Rattle.plugin_base.proofs.KeyLists.{length-each_key_once, list_all-append, list_all-each_key_once, list_all-every, list_all-flat, list_all-mapped}
-use Rattle.plugin_base.proofs.PluginCalls.{calls-after, fit-forward, fit-masquerades, fits, fits-address, fits-route}
-use Rattle.plugin_base.proofs.ResultLemmas.{addresses-at}
+use Rattle.kernel_types.specs.declared.{call.{Call.TheVariants.RuleAppend, Given.Given}, object.Att.Att}
+use Rattle.plugin_base.specs.{PluginLaws.{AreCallsAfter, AreCallsBefore, FirstLaws}, Shapes.forward_calls}
+use Rattle.plugin_base.specs.Shapes.{gateway_for, host_key, inner_key, masquerade_rules, route_on}
+use Rattle.plugin_base.proofs.{CallLists.share_plus-links, Counts.{length-each, length-forward, length-masquerades}}
+use Rattle.plugin_base.proofs.KeyLists.{length-each_key_once, list_all-append, list_all-each_key_once, list_all-every}
+use Rattle.plugin_base.proofs.{KeyLists.{list_all-flat, list_all-mapped}, PluginCalls.{calls-after, fit-forward}}
+use Rattle.plugin_base.proofs.{PluginCalls.{fit-masquerades, fits, fits-address, fits-route}, ResultLemmas.addresses-at}
 use Rattle.host_local.proofs.KindLemmas.{interface_kinds-leases, interface_kinds-rules}
-use Rattle.bridge_ptp.specs.Ptp.{AddressOrRoute, Route, call_for, ptp_calls_after, ptp_kinds_of, ptp_objects, ptp_objects_for, ptp_plugin, same_key}
-use Rattle.bridge_ptp.specs.Veth.{veth_links}
-use Rattle.bridge_ptp.proofs.Shares.{share-ptp_after}
-use Rattle.bridge_ptp.proofs.VethLemmas.{veth-inner, veth-outer, veth-own, veth-well_formed}
+use Rattle.bridge_ptp.specs.Ptp.{AddressOrRoute, Route, call_for, ptp_calls_after, ptp_kinds_of, ptp_objects}
+use Rattle.bridge_ptp.specs.{Ptp.{ptp_objects_for, ptp_plugin, same_key}, Veth.veth_links}
+use Rattle.bridge_ptp.proofs.{Shares.share-ptp_after, VethLemmas.{veth-inner, veth-outer, veth-own, veth-well_formed}}
 
 -- ---- before the leases
 

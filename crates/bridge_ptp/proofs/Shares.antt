@@ -2,21 +2,17 @@
 use Rattle.std.proofs.Common.{◌≡◌, ℕ, ap, List, [], ◌∷◌, ◌++◌, map, refl, sym, ◌∙◌, append_assoc}
 use Rattle.std.proofs.lemmas.List.{append-nil}
 use Rattle.std.specs.Prelude.{filter_map}
-use Rattle.net_conf.specs.BridgeModes.{is_gateway}
-use Rattle.net_conf.specs.declared.first.BridgeConf.{BridgeConf}
-use Rattle.net_conf.specs.declared.first.PtpConf.{PtpConf}
+use Rattle.net_conf.specs.{BridgeModes.is_gateway, declared.first.{BridgeConf.BridgeConf, PtpConf.PtpConf}}
+use Rattle.kernel_types.specs.declared.call.{Call.TheVariants.{AddrAdd, RouteAdd, RuleAppend}, Given.Given}
 use Rattle.kernel_types.specs.declared.object.Att.{Att}
-use Rattle.kernel_types.specs.declared.call.Call.TheVariants.{AddrAdd, RouteAdd, RuleAppend}
-use Rattle.kernel_types.specs.declared.call.Given.{Given}
-use Rattle.plugin_base.specs.Plugins.{added_after}
-use Rattle.plugin_base.specs.Shapes.{addresses_on, routes_on, masquerade_rules, forward_calls}
+use Rattle.plugin_base.specs.{Plugins.added_after, Shapes.{addresses_on, routes_on, masquerade_rules, forward_calls}}
 use Rattle.plugin_base.specs.Share.{Share, share_after_call, share_after_calls, share_plus}
-use Rattle.plugin_base.proofs.Appends.{share-laid_on}
-use Rattle.plugin_base.proofs.CallLists.{share_after_calls-then, share_after_calls-forward, share_after_calls-if, share_after_calls-shared_rules, share_plus-laid_on}
+use Rattle.plugin_base.proofs.{Appends.share-laid_on, CallLists.{share_after_calls-then, share_after_calls-forward}}
+use Rattle.plugin_base.proofs.CallLists.{share_after_calls-if, share_after_calls-shared_rules, share_plus-laid_on}
 use Rattle.bridge_ptp.specs.Bridge.{bridge_calls_after, bridge_entries, bridge_plugin, gateway_calls}
+use Rattle.bridge_ptp.specs.{Gateways.{gateway_call, gateways_on}, Ptp.{AddressOrRoute, Address, Route, address_in}}
+use Rattle.bridge_ptp.specs.Ptp.{route_in, call_for, ptp_objects, ptp_calls_after, ptp_plugin}
 use Rattle.bridge_ptp.specs.declared.bridge.Gateway.{Gateway}
-use Rattle.bridge_ptp.specs.Gateways.{gateway_call, gateways_on}
-use Rattle.bridge_ptp.specs.Ptp.{AddressOrRoute, Address, Route, address_in, route_in, call_for, ptp_objects, ptp_calls_after, ptp_plugin}
 
 -- ---- bridge
 

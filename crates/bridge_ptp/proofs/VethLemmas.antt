@@ -1,16 +1,10 @@
 -- The veth pair of an attachment: both ends are its own, well formed, and where they should be.
 use Rattle.std.proofs.Common.{◌≡◌, ℕ, Bool, true, false, List, [], Option, refl, arith}
-use Rattle.std.specs.List.{list_any}
-use Rattle.std.specs.Cmp.Lexicographic.{nat_list_eq_equiv}
-use Rattle.kernel_types.specs.Allowed.{IsVethPair}
-use Rattle.kernel_types.specs.Names.{host_name_of}
-use Rattle.kernel_types.specs.Terms.{is_host_ns, is_link_of}
+use Rattle.std.specs.{Cmp.Lexicographic.nat_list_eq_equiv, List.list_any}
+use Rattle.kernel_types.specs.{Allowed.IsVethPair, Names.host_name_of, Terms.{is_host_ns, is_link_of}}
+use Rattle.kernel_types.specs.declared.object.{Att.Att, Tag.TheVariants.Own}
 use Rattle.kernel_types.proofs.Cases.{att_eq-refl}
-use Rattle.kernel_types.specs.declared.object.Att.{Att}
-use Rattle.kernel_types.specs.declared.object.Tag.TheVariants.{Own}
-use Rattle.plugin_base.specs.Calls.{is_plugin_call_of}
-use Rattle.plugin_base.specs.PluginCalls.{has_inner}
-use Rattle.plugin_base.specs.Shapes.{host_end, inner_end}
+use Rattle.plugin_base.specs.{Calls.is_plugin_call_of, PluginCalls.has_inner, Shapes.{host_end, inner_end}}
 use Rattle.plugin_base.proofs.PluginCalls.{link-there}
 use Rattle.bridge_ptp.specs.Veth.{veth_links, veth_pair}
 

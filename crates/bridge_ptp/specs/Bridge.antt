@@ -1,20 +1,12 @@
 -- The `bridge` plugin: the container's end of a veth pair, whose other end has a bridge of the host as master.
 use Rattle.std.specs.Prelude.{ℕ, ◌+◌, ◌*◌, List, [], ◌∷◌, ◌++◌, length, map, Some, None, if◌then◌else◌}
 use Rattle.cni_result.specs.declared.result.RouteEntry.{RouteEntry}
-use Rattle.net_conf.specs.BridgeModes.{is_gateway, is_default, hairpin, promisc}
-use Rattle.net_conf.specs.declared.first.BridgeConf.{BridgeConf}
-use Rattle.kernel_types.specs.declared.object.Att.{Att}
-use Rattle.kernel_types.specs.declared.call.Given.{Given}
-use Rattle.kernel_types.specs.declared.call.Kind.{Kind}
-use Rattle.kernel_types.specs.declared.call.Call.{Call}
-use Rattle.kernel_types.specs.declared.call.Call.TheVariants.{BridgeEnsure, AddrAdd, RouteAdd, RuleAppend}
-use Rattle.plugin_base.specs.Plugins.{FirstPlugin}
-use Rattle.plugin_base.specs.Shapes.{addresses_on, routes_on, masquerade_rules, forward_calls}
-use Rattle.host_local.specs.Conf.{routes_of}
-use Rattle.host_local.specs.Results.{ip_of}
-use Rattle.bridge_ptp.specs.Gateways.{gateway_call, gateways_on}
-use Rattle.host_local.specs.Kinds.{interface_kinds}
-use Rattle.bridge_ptp.specs.Results.{bridge_result_of, bridge_routes}
+use Rattle.net_conf.specs.{BridgeModes.{is_gateway, is_default, hairpin, promisc}, declared.first.BridgeConf.BridgeConf}
+use Rattle.kernel_types.specs.declared.call.Call.{Call, TheVariants.{BridgeEnsure, AddrAdd, RouteAdd, RuleAppend}}
+use Rattle.kernel_types.specs.declared.{call.{Given.Given, Kind.Kind}, object.Att.Att}
+use Rattle.plugin_base.specs.{Plugins.FirstPlugin, Shapes.{addresses_on, routes_on, masquerade_rules, forward_calls}}
+use Rattle.host_local.specs.{Conf.routes_of, Kinds.interface_kinds, Results.ip_of}
+use Rattle.bridge_ptp.specs.{Gateways.{gateway_call, gateways_on}, Results.{bridge_result_of, bridge_routes}}
 use Rattle.bridge_ptp.specs.Veth.{veth_links, veth_pair}
 
 -- ---- the routes

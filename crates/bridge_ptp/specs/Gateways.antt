@@ -1,10 +1,7 @@
 -- The gateways on a bridge, as objects that a call asks for.
 use Rattle.std.specs.Prelude.{ℕ, Bool, List, map}
-use Rattle.cni_addr.specs.Equal.{addr_eq}
-use Rattle.kernel_types.specs.declared.call.Call.{Call}
-use Rattle.kernel_types.specs.declared.call.Call.TheVariants.{GatewayEnsure}
-use Rattle.kernel_types.specs.declared.call.Given.{Given}
-use Rattle.cni_addr.specs.Lists.{each_key_once}
+use Rattle.cni_addr.specs.{Equal.addr_eq, Lists.each_key_once}
+use Rattle.kernel_types.specs.declared.call.{Call.{Call, TheVariants.GatewayEnsure}, Given.Given}
 use Rattle.bridge_ptp.specs.declared.bridge.Gateway.{Gateway}
 
 -- with its subnet's prefix

@@ -1,12 +1,9 @@
 -- The test whether two objects have one key is an equivalence, and objects of one key feed a hasher alike.
-use Rattle.std.specs.Prelude.{◌≡◌, true, refl}
+use Rattle.std.specs.{Cmp.{IsEquivalence, on_equiv}, Hash.{Alike, HashWrites, on_Alike}, Prelude.{◌≡◌, true, refl}}
 use Rattle.std.proofs.Common.{sym, true≢false}
-use Rattle.std.specs.Cmp.{IsEquivalence, on_equiv}
-use Rattle.std.specs.Hash.{Alike, HashWrites, on_Alike}
-use Rattle.plugin_base.specs.KeyLaws.{addr_alike, addr_key-alike, addr_key-laws, addr_laws, route_key-alike, route_key-laws}
-use Rattle.plugin_base.specs.KeyWrites.{addr_writes, cidr_writes}
-use Rattle.bridge_ptp.specs.Gateways.{is_same_gateway}
-use Rattle.bridge_ptp.specs.Ptp.{AddressOrRoute, Address, Route, same_key}
+use Rattle.plugin_base.specs.KeyLaws.{addr_alike, addr_key-alike, addr_key-laws, addr_laws, route_key-alike}
+use Rattle.plugin_base.specs.{KeyLaws.route_key-laws, KeyWrites.{addr_writes, cidr_writes}}
+use Rattle.bridge_ptp.specs.{Gateways.is_same_gateway, Ptp.{AddressOrRoute, Address, Route, same_key}}
 use Rattle.bridge_ptp.specs.declared.bridge.Gateway.{Gateway}
 
 -- ---- gateways

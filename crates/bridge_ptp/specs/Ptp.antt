@@ -1,22 +1,15 @@
 -- The `ptp` plugin: a veth pair with routes on both ends and no bridge.
-use Rattle.std.specs.Prelude.{ℕ, ◌+◌, ◌*◌, Bool, false, List, [], ◌∷◌, ◌++◌, length, map, flat_map, filter_map, Option, Some, None}
-use Rattle.cni_addr.specs.Network.{whole}
-use Rattle.cni_addr.specs.declared.address.Addr.{Addr}
+use Rattle.std.specs.Prelude.{ℕ, ◌+◌, ◌*◌, Bool, false, List, [], ◌∷◌, ◌++◌, length, map, flat_map, filter_map, Option}
+use Rattle.std.specs.Prelude.{Some, None}
+use Rattle.cni_addr.specs.{Lists.each_key_once, Network.whole, declared.address.Addr.Addr}
 use Rattle.net_conf.specs.declared.first.PtpConf.{PtpConf}
-use Rattle.kernel_types.specs.Apply.Calls.{is_same_addr, is_same_route}
-use Rattle.kernel_types.specs.declared.object.Att.{Att}
-use Rattle.kernel_types.specs.declared.object.AddrObj.{AddrObj}
-use Rattle.kernel_types.specs.declared.object.RouteObj.{RouteObj}
-use Rattle.kernel_types.specs.declared.call.Given.{Given}
-use Rattle.kernel_types.specs.declared.call.Kind.{Kind}
-use Rattle.kernel_types.specs.declared.call.Call.{Call}
-use Rattle.kernel_types.specs.declared.call.Call.TheVariants.{AddrAdd, RouteAdd, RuleAppend}
-use Rattle.cni_addr.specs.Lists.{each_key_once}
-use Rattle.plugin_base.specs.Plugins.{FirstPlugin}
-use Rattle.plugin_base.specs.Shapes.{host_key, address_at, route_at, address_on, route_by, route_on, masquerade_rules, forward_calls}
+use Rattle.kernel_types.specs.{Apply.Calls.{is_same_addr, is_same_route}, declared.call.Call.Call}
+use Rattle.kernel_types.specs.declared.call.{Call.TheVariants.{AddrAdd, RouteAdd, RuleAppend}, Given.Given, Kind.Kind}
+use Rattle.kernel_types.specs.declared.object.{AddrObj.AddrObj, Att.Att, RouteObj.RouteObj}
+use Rattle.plugin_base.specs.{Plugins.FirstPlugin, Shapes.{host_key, address_at, route_at, address_on, route_by}}
+use Rattle.plugin_base.specs.Shapes.{route_on, masquerade_rules, forward_calls}
 use Rattle.host_local.specs.Kinds.{interface_kinds}
-use Rattle.bridge_ptp.specs.Results.{ptp_result_of}
-use Rattle.bridge_ptp.specs.Veth.{veth_links, veth_pair}
+use Rattle.bridge_ptp.specs.{Results.ptp_result_of, Veth.{veth_links, veth_pair}}
 -- an address or a route, in the order in which they are asked for
 pub use Rattle.bridge_ptp.specs.declared.ptp.AddressOrRoute.{AddressOrRoute}
 pub use Rattle.bridge_ptp.specs.declared.ptp.AddressOrRoute.TheVariants.{Address, Route}

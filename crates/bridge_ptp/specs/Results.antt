@@ -1,25 +1,13 @@
 -- The results of `bridge` and `ptp` (CNI specification, section 5, ADD Success).
-use Rattle.std.specs.Prelude.{ℕ, Bool, not, ◌&&◌, List, [], ◌∷◌, ◌++◌, Option, Some, None, option_map, option_to_list, if◌then◌else◌}
-use Rattle.std.specs.List.{list_any}
-use Rattle.cni_addr.specs.Equal.{cidr_eq}
-use Rattle.cni_addr.specs.declared.address.Cidr.{Cidr}
-use Rattle.cni_addr.specs.declared.address.Family.{Family}
-use Rattle.cni_addr.specs.declared.address.Family.TheVariants.{V4, V6}
-use Rattle.cni_result.specs.Versions.{mtu_since_1_1}
-use Rattle.cni_result.specs.declared.version.Version.{Version}
-use Rattle.cni_result.specs.declared.result.Interface.{Interface}
-use Rattle.cni_result.specs.declared.result.IpEntry.{IpEntry}
-use Rattle.cni_result.specs.declared.result.RouteEntry.{RouteEntry}
-use Rattle.cni_result.specs.declared.result.AddResult.{AddResult}
-use Rattle.net_conf.specs.BridgeModes.{is_default}
-use Rattle.net_conf.specs.declared.first.BridgeConf.{BridgeConf}
-use Rattle.net_conf.specs.declared.first.PtpConf.{PtpConf}
+use Rattle.std.specs.{List.list_any, Prelude.{ℕ, Bool, not, ◌&&◌, List, [], ◌∷◌, ◌++◌, Option, Some, None, option_map}}
+use Rattle.std.specs.Prelude.{option_to_list, if◌then◌else◌}
+use Rattle.cni_addr.specs.{Equal.cidr_eq, declared.address.{Cidr.Cidr, Family.{Family, TheVariants.{V4, V6}}}}
+use Rattle.cni_result.specs.{Versions.mtu_since_1_1, declared.result.{AddResult.AddResult, Interface.Interface}}
+use Rattle.cni_result.specs.declared.{result.{IpEntry.IpEntry, RouteEntry.RouteEntry}, version.Version.Version}
+use Rattle.net_conf.specs.{BridgeModes.is_default, declared.first.{BridgeConf.BridgeConf, PtpConf.PtpConf}}
 use Rattle.link_names.specs.Names.{link_mac_of}
-use Rattle.kernel_types.specs.Names.{host_name_of, host_mac_of}
-use Rattle.kernel_types.specs.declared.object.Att.{Att}
-use Rattle.plugin_base.specs.Families.{first_of_family}
-use Rattle.plugin_base.specs.Results.{inner_interface, completed}
-use Rattle.plugin_base.specs.Shapes.{default_route}
+use Rattle.kernel_types.specs.{Names.{host_name_of, host_mac_of}, declared.object.Att.Att}
+use Rattle.plugin_base.specs.{Families.first_of_family, Results.{inner_interface, completed}, Shapes.default_route}
 
 -- ---- interfaces
 

@@ -1,9 +1,6 @@
 -- The veth pair between a container and the host.
 use Rattle.std.specs.Prelude.{ℕ, Bool, List, [], ◌∷◌, Option}
-use Rattle.kernel_types.specs.declared.object.Att.{Att}
-use Rattle.kernel_types.specs.declared.object.Link.{Link}
-use Rattle.kernel_types.specs.declared.call.Call.{Call}
-use Rattle.kernel_types.specs.declared.call.Call.TheVariants.{VethAdd}
+use Rattle.kernel_types.specs.declared.{call.Call.{Call, TheVariants.VethAdd}, object.{Att.Att, Link.Link}}
 use Rattle.plugin_base.specs.Shapes.{host_end, inner_end}
 
 -- both ends, the host's under this master

@@ -1,22 +1,18 @@
 -- What is read of an address's text is its grammar, both ways, and what is written is read again.
-use Rattle.std.proofs.Common.{◌≡◌, ℕ, ◌/◌, ◌%◌, ◌^◌, ◌<◌, ◌⊎◌, inl, inr, List, [], ◌∷◌, length, get_or, All, Option, Some, None, refl, sym, ap, ◌∙◌, subst, arith, append-nil, lit≤}
-use Rattle.std.specs.Prelude.{option_map}
-use Rattle.std.specs.Option.{option_or}
+use Rattle.std.proofs.Common.{◌≡◌, ℕ, ◌/◌, ◌%◌, ◌^◌, ◌<◌, ◌⊎◌, inl, inr, List, [], ◌∷◌, length, get_or, All, Option}
+use Rattle.std.proofs.Common.{Some, None, refl, sym, ap, ◌∙◌, subst, arith, append-nil, lit≤}
+use Rattle.std.proofs.NetLemmas.{Ipv4.{read_ipv4_complete, read_ipv4_sound}, Ipv6.IsDotted-not_colon_hex}
+use Rattle.std.proofs.NetLemmas.{Options.map_some, Texts.{IsDotted-ipv4_text, IsColonHex-hex_groups_text}}
 use Rattle.std.proofs.lemmas.Nat.{be_bytes_4, from_be_bytes-to_be_bytes_4}
-use Rattle.std.specs.Int.{w32, w128, to_be_bytes, from_be_bytes}
-use Rattle.std.specs.Net.Addr.{segments_of}
-use Rattle.std.specs.Net.Grammar.{IsDotted, IsColonHex}
-use Rattle.std.specs.Net.Reader.{Read, read_ipv4, read_ipv6, whole_value}
-use Rattle.std.proofs.NetLemmas.Options.{map_some}
-use Rattle.std.proofs.NetLemmas.Ipv4.{read_ipv4_complete, read_ipv4_sound}
-use Rattle.std.proofs.NetLemmas.Ipv6.{IsDotted-not_colon_hex}
-use Rattle.std.proofs.NetLemmas.Texts.{IsDotted-ipv4_text, IsColonHex-hex_groups_text}
-use Rattle.cni_addr.specs.declared.address.Family.{Family}
+use Rattle.std.specs.{Int.{w32, w128, to_be_bytes, from_be_bytes}, Net.{Addr.segments_of, Grammar.IsDotted}}
+use Rattle.std.specs.{Net.{Grammar.IsColonHex, Reader.{Read, read_ipv4, read_ipv6, whole_value}}, Option.option_or}
+use Rattle.std.specs.Prelude.{option_map}
+use Rattle.cni_addr.specs.AddrText.{Spells, IsAddrText, address_of_octets, address_of_groups, addr_of_text, bits_text}
+use Rattle.cni_addr.specs.{AddrText.addr_text, Value.{AddrValue, IsAddr, bits_below}, declared.address.Family.Family}
 use Rattle.cni_addr.specs.declared.address.Family.TheVariants.{V4, V6}
-use Rattle.cni_addr.specs.Value.{AddrValue, IsAddr, bits_below}
-use Rattle.cni_addr.specs.AddrText.{Spells, IsAddrText, address_of_octets, address_of_groups, addr_of_text, bits_text, addr_text}
-use Rattle.cni_addr.proofs.Groups.{groups_of_number, number_of_groups_fits, number_of_groups, AllOctets-number, AllSegments-segments_of}
-use Rattle.cni_addr.proofs.GroupTexts.{octet_fits, whole_some, colon_hex_fits, whole_groups, groups_whole, IsPlain, dotted_plain, colon_hex_plain}
+use Rattle.cni_addr.proofs.GroupTexts.{octet_fits, whole_some, colon_hex_fits, whole_groups, groups_whole, IsPlain}
+use Rattle.cni_addr.proofs.{GroupTexts.{dotted_plain, colon_hex_plain}, Groups.groups_of_number}
+use Rattle.cni_addr.proofs.Groups.{number_of_groups_fits, number_of_groups, AllOctets-number, AllSegments-segments_of}
 
 -- an option without a value
 pub none_of : {A : Type 0} (r : Option A) → ((x : A) → r ≡ Some x → ⊥) → r ≡ None

@@ -1,31 +1,22 @@
 -- What is read of a network's text is its grammar, both ways, and what is written is read again.
-use Rattle.std.proofs.Common.{◌≡◌, ◌≢◌, ℕ, ◌^◌, ◌<◌, ◌≤◌, Bool, true, false, cond, not, List, [], ◌∷◌, ◌++◌, inl, inr, ◌+◌, ◌-◌, ap₂, take, drop, length-drop, length-append, take_at, drop_at, append_assoc, eqb-true, suc, lt-ltb, le-leb, length, get_or, Option, Some, None, Result, Ok, Err, decimal, refl, sym, ap, ◌∙◌, subst, arith, append-nil, lit≤}
-use Rattle.std.proofs.lemmas.Option.{none-some}
-use Rattle.std.proofs.lemmas.List.{drop_all, take_all}
-use Rattle.std.proofs.lemmas.Bool.{cases_lt, ltb-true, leb-true, lt-leb}
-use Rattle.std.proofs.lemmas.Bool.Decides.{nat_tests}
-use Rattle.std.proofs.lemmas.Fmt.{decimal_is_IsNumeral, decimal_digit, first_decimal, decimal-digits_value, IsAscii-decimal}
-use Rattle.std.proofs.lemmas.Str.{IsUtf8-from_ascii}
-use Rattle.std.proofs.lemmas.Str.Parse.{numerals_by_value, tells_digits, without_leading_plus_none}
-use Rattle.std.specs.Result.{result_ok}
-use Rattle.std.specs.Str.{IsUtf8}
+use Rattle.std.proofs.Common.{◌≡◌, ◌≢◌, ℕ, ◌^◌, ◌<◌, ◌≤◌, Bool, true, false, cond, not, List, [], ◌∷◌, ◌++◌, inl, inr}
+use Rattle.std.proofs.Common.{◌+◌, ◌-◌, ap₂, take, drop, length-drop, length-append, take_at, drop_at, append_assoc}
+use Rattle.std.proofs.Common.{eqb-true, suc, lt-ltb, le-leb, length, get_or, Option, Some, None, Result, Ok, Err}
+use Rattle.std.proofs.Common.{decimal, refl, sym, ap, ◌∙◌, subst, arith, append-nil, lit≤}
+use Rattle.std.proofs.NetLemmas.{Ipv4.{read_octet_complete, read_octet_sound}, Options.cond_some}
+use Rattle.std.proofs.lemmas.{Bool.{cases_lt, ltb-true, leb-true, lt-leb, Decides.nat_tests}, Fmt.decimal_is_IsNumeral}
+use Rattle.std.proofs.lemmas.{Fmt.{decimal_digit, first_decimal, decimal-digits_value, IsAscii-decimal}, List.drop_all}
+use Rattle.std.proofs.lemmas.List.{take_all, Elements.All-get_or, Sums.{split_at_first, passes_at_first}}
+use Rattle.std.proofs.lemmas.{Option.none-some, Str.{IsUtf8-from_ascii, Parse.{numerals_by_value, tells_digits}}}
+use Rattle.std.proofs.lemmas.Str.Parse.{without_leading_plus_none}
+use Rattle.std.specs.{List.{position, position_or_len, before_first, after_first}, Net.Reader.{Read, read_number}}
+use Rattle.std.specs.{Net.Reader.{read_octet, whole_value}, Prelude.if◌then◌else◌, Result.result_ok, Str.IsUtf8}
 use Rattle.std.specs.Str.Parse.{IsNumeral, digits_value, ParsesUnsigned}
-use Rattle.std.specs.Net.Reader.{Read, read_number, read_octet, whole_value}
-use Rattle.std.proofs.NetLemmas.Ipv4.{read_octet_complete, read_octet_sound}
-use Rattle.cni_addr.specs.CidrText.{slash, is_slash, begins_plainly, prefix_of_text, with_prefix, cidr_of_parts, cidr_of_text, cidr_text}
-use Rattle.cni_addr.specs.AddrText.{IsAddrText}
-use Rattle.cni_addr.specs.CidrText.{IsCidrText}
-use Rattle.cni_addr.specs.Network.{IsCidr}
-use Rattle.cni_addr.proofs.Networks.{at_prefix, longest_prefix-most}
-use Rattle.std.proofs.lemmas.List.Elements.{All-get_or}
-use Rattle.std.proofs.lemmas.List.Sums.{split_at_first, passes_at_first}
-use Rattle.std.specs.Prelude.{if◌then◌else◌}
-use Rattle.cni_addr.specs.AddrText.{addr_of_text, addr_text}
-use Rattle.cni_addr.specs.Value.{AddrValue, CidrValue, longest_prefix}
-use Rattle.std.specs.List.{position, position_or_len, before_first, after_first}
-use Rattle.std.proofs.NetLemmas.Options.{cond_some}
+use Rattle.cni_addr.specs.{AddrText.{IsAddrText, addr_of_text, addr_text}, CidrText.{slash, is_slash, begins_plainly}}
+use Rattle.cni_addr.specs.CidrText.{prefix_of_text, with_prefix, cidr_of_parts, cidr_of_text, cidr_text, IsCidrText}
+use Rattle.cni_addr.specs.{Network.IsCidr, Value.{AddrValue, CidrValue, longest_prefix}}
 use Rattle.cni_addr.proofs.AddrTexts.{none_of, address_plain, spelled_is_read, read_is_spelled, written_is_spelled}
-use Rattle.cni_addr.proofs.GroupTexts.{whole_some, IsPlain}
+use Rattle.cni_addr.proofs.{GroupTexts.{whole_some, IsPlain}, Networks.{at_prefix, longest_prefix-most}}
 
 -- the decimal text of a number is read
 pub read_decimal : (n : ℕ) → n < 256 → prefix_of_text (decimal n) ≡ Some n

@@ -1,21 +1,16 @@
 -- Texts of addresses: which groups they spell, how they are read and written, and of which bytes they are made.
-use Rattle.std.proofs.Common.{◌≡◌, ℕ, zero, suc, ◌-◌, ◌^◌, ◌<◌, ◌≤◌, Bool, true, false, List, [], ◌∷◌, ◌++◌, length, get_or, replicate, All, Some, None, inl, inr, refl, sym, ap, ◌∙◌, subst, arith, append-nil, lit≤, ne_eqb, length-append}
+use Rattle.std.proofs.Common.{◌≡◌, ℕ, zero, suc, ◌-◌, ◌^◌, ◌<◌, ◌≤◌, Bool, true, false, List, [], ◌∷◌, ◌++◌, length}
+use Rattle.std.proofs.Common.{get_or, replicate, All, Some, None, inl, inr, refl, sym, ap, ◌∙◌, subst, arith}
+use Rattle.std.proofs.{Common.{append-nil, lit≤, ne_eqb, length-append}, Math.Nat.pow-le-pow_right}
+use Rattle.std.proofs.NetLemmas.{Alphabet.{IsDigitOrDot, All-ipv4_text}, Ipv6.{read_ipv6_complete, read_ipv6_sound}}
+use Rattle.std.proofs.NetLemmas.{Ipv6.EndsGroups-nil, Texts.{AllSegments, IsZeroRun-longest_zero_run}}
+use Rattle.std.proofs.{NetLemmas.Texts.longest_zero_run_first, lemmas.Int.Digits.digits_value-lt}
+use Rattle.std.proofs.lemmas.List.{length-replicate, Elements.{All-nil, All-cons, All-append, All-weaker}}
 use Rattle.std.proofs.lemmas.Option.{none-some}
-use Rattle.std.proofs.Math.Nat.{pow-le-pow_right}
-use Rattle.std.proofs.lemmas.Int.Digits.{digits_value-lt}
-use Rattle.std.proofs.lemmas.List.{length-replicate}
-use Rattle.std.proofs.lemmas.List.Elements.{All-nil, All-cons, All-append, All-weaker}
-use Rattle.std.specs.Char.{digit_value}
+use Rattle.std.specs.{Char.digit_value, Net.{Addr.segments_of, Grammar.{IsDotted, IsGroup, IsGroupsAfter, IsColonHex}}}
+use Rattle.std.specs.Net.{Reader.{Read, read_ipv6, whole_value}, Text.{ipv4_text, hex_groups_text, longest_zero_run}}
 use Rattle.std.specs.Str.Parse.{AllDigits}
-use Rattle.std.specs.Net.Addr.{segments_of}
-use Rattle.std.specs.Net.Grammar.{IsDotted, IsGroup, IsGroupsAfter, IsColonHex}
-use Rattle.std.specs.Net.Reader.{Read, read_ipv6, whole_value}
-use Rattle.std.specs.Net.Text.{ipv4_text, hex_groups_text, longest_zero_run}
-use Rattle.std.proofs.NetLemmas.Alphabet.{IsDigitOrDot, All-ipv4_text}
-use Rattle.std.proofs.NetLemmas.Ipv6.{read_ipv6_complete, read_ipv6_sound, EndsGroups-nil}
-use Rattle.std.proofs.NetLemmas.Texts.{AllSegments, IsZeroRun-longest_zero_run, longest_zero_run_first}
-use Rattle.cni_addr.specs.CidrText.{is_slash}
-use Rattle.cni_addr.specs.GroupText.{IsRecommended}
+use Rattle.cni_addr.specs.{CidrText.is_slash, GroupText.IsRecommended}
 use Rattle.cni_addr.proofs.Groups.{AllSegments-segments_of}
 
 -- each of four octets fits

@@ -1,10 +1,9 @@
 -- A number of 128 bits as sixteen octets, and as eight groups of 16 bits, the first the highest.
-use Rattle.std.proofs.Common.{◌≡◌, ℕ, zero, suc, ◌+◌, ◌*◌, ◌/◌, ◌%◌, ◌^◌, ◌<◌, List, [], ◌∷◌, length, get_or, refl, sym, ap, ap₂, ◌∙◌, subst, arith, pow-suc}
-use Rattle.std.proofs.lemmas.Nat.{mul-add-lt, div-mul-add, mod-mul-add}
-use Rattle.std.specs.Int.{w128, to_be_bytes, from_be_bytes, byte_at, bytes_high_first}
-use Rattle.std.specs.Net.Addr.{segments_of, octets_of}
-use Rattle.std.proofs.NetLemmas.Arrays.{sixteen_items}
-use Rattle.std.proofs.NetLemmas.Texts.{AllSegments}
+use Rattle.std.proofs.Common.{◌≡◌, ℕ, zero, suc, ◌+◌, ◌*◌, ◌/◌, ◌%◌, ◌^◌, ◌<◌, List, [], ◌∷◌, length, get_or, refl, sym}
+use Rattle.std.proofs.{Common.{ap, ap₂, ◌∙◌, subst, arith, pow-suc}, NetLemmas.Arrays.sixteen_items}
+use Rattle.std.proofs.{NetLemmas.Texts.AllSegments, lemmas.Nat.{mul-add-lt, div-mul-add, mod-mul-add}}
+use Rattle.std.specs.{Int.{w128, to_be_bytes, from_be_bytes, byte_at, bytes_high_first}, Net.Addr.segments_of}
+use Rattle.std.specs.Net.Addr.{octets_of}
 
 -- each number is an octet
 abbrev pub AllOctets : List ℕ → Type 0

@@ -1,14 +1,11 @@
 -- Hex digits of either case: what decodes is, in lower case, the encoding of what it decodes to.
-use Rattle.std.proofs.Common.{◌≡◌, ℕ, zero, suc, ◌+◌, ◌*◌, ◌/◌, ◌%◌, ◌<◌, ◌==◌, nat_lt, Bool, true, ◌&&◌, List, [], ◌∷◌, slice_index, Option, Some, None, Result, Ok, Err, refl, sym, ap, ap₂, ◌∙◌, arith, inl, inr, eqb-true}
-use Rattle.std.specs.Prelude.{if◌then◌else◌}
-use Rattle.std.proofs.lemmas.Bool.{and_parts, cases_lt}
-use Rattle.std.proofs.lemmas.Bool.Decides.{nat_tests}
-use Rattle.std.specs.Char.{to_ascii_lowercase}
-use Rattle.std.specs.Str.{str_to_ascii_lowercase}
-use Rattle.hex.specs.declared.error.FromHexError.{FromHexError}
-use Rattle.hex.specs.Hex.{IsBytes, decode_pairs, digit_or_error, encode_lower, encode_with, hex_digit_value, lower_digits, pair_value, value_at, ◌>>=◌}
-use Rattle.hex.proofs.HexLemmas.{IsDigits-lower_digits}
-use Rattle.hex.proofs.Pairs.{cons_byte, decode_pairs-ok_pair}
+use Rattle.std.proofs.Common.{◌≡◌, ℕ, zero, suc, ◌+◌, ◌*◌, ◌/◌, ◌%◌, ◌<◌, ◌==◌, nat_lt, Bool, true, ◌&&◌, List, [], ◌∷◌}
+use Rattle.std.proofs.Common.{slice_index, Option, Some, None, Result, Ok, Err, refl, sym, ap, ap₂, ◌∙◌, arith, inl}
+use Rattle.std.proofs.{Common.{inr, eqb-true}, lemmas.Bool.{and_parts, cases_lt, Decides.nat_tests}}
+use Rattle.std.specs.{Char.to_ascii_lowercase, Prelude.if◌then◌else◌, Str.str_to_ascii_lowercase}
+use Rattle.hex.specs.Hex.{IsBytes, decode_pairs, digit_or_error, encode_lower, encode_with, hex_digit_value}
+use Rattle.hex.specs.{Hex.{lower_digits, pair_value, value_at, ◌>>=◌}, declared.error.FromHexError.FromHexError}
+use Rattle.hex.proofs.{HexLemmas.IsDigits-lower_digits, Pairs.{cons_byte, decode_pairs-ok_pair}}
 
 -- the digit of a number below sixteen, in lower case
 abbrev glyph : ℕ → ℕ

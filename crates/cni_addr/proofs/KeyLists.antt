@@ -1,13 +1,8 @@
 -- Lists in which each key stands once.
-use Rattle.std.proofs.Common.{◌≡◌, ◌+◌, ◌≤◌, ◌⊎◌, inl, inr, Bool, true, false, List, [], ◌∷◌, ◌++◌, length, refl, ap, ◌∙◌, arith}
-use Rattle.std.specs.Prelude.{fold, if◌then◌else◌, ◌||◌}
-use Rattle.std.specs.List.{list_any, list_all}
-use Rattle.std.specs.Cmp.{IsPartialEquivalence}
-use Rattle.std.proofs.lemmas.List.{length_push}
-use Rattle.std.proofs.lemmas.List.Folds.{list_any-append}
-use Rattle.std.proofs.lemmas.List.Sums.{fold_push}
-use Rattle.cni_addr.specs.Lists.{IsAmong, distinct, push_unless_there, each_key_once}
-use Rattle.cni_addr.specs.KeyLaws.{HasFirstOfEachKey}
+use Rattle.std.proofs.Common.{◌≡◌, ◌+◌, ◌≤◌, ◌⊎◌, inl, inr, Bool, true, false, List, [], ◌∷◌, ◌++◌, length, refl, ap}
+use Rattle.std.proofs.{Common.{◌∙◌, arith}, lemmas.List.{length_push, Folds.list_any-append, Sums.fold_push}}
+use Rattle.std.specs.{Cmp.IsPartialEquivalence, List.{list_any, list_all}, Prelude.{fold, if◌then◌else◌, ◌||◌}}
+use Rattle.cni_addr.specs.{KeyLaws.HasFirstOfEachKey, Lists.{IsAmong, distinct, push_unless_there, each_key_once}}
 use Rattle.cni_addr.proofs.Lists.{distinct-push, list_all-push, list_any-same_test}
 
 -- ---- what each passes

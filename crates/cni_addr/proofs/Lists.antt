@@ -1,8 +1,7 @@
 -- Laws of the definitions on lists that every crate uses. Nearly each is an induction that one call of `grind` closes.
 use Rattle.std.proofs.Common.{◌≡◌, Bool, true, false, not, List, [], ◌∷◌, ◌++◌, refl, ◌∙◌, arith}
-use Rattle.std.specs.Prelude.{filter, map}
-use Rattle.std.specs.List.{list_any, list_all}
 use Rattle.std.proofs.lemmas.Bool.{and_from, or_from, or_left, or_right}
+use Rattle.std.specs.{List.{list_any, list_all}, Prelude.{filter, map}}
 use Rattle.std.proofs.lemmas.List.Folds as folds
 use Rattle.cni_addr.specs.Lists.{distinct}
 

@@ -1,23 +1,17 @@
 -- What is read of a hardware address's text is its grammar, both ways, and what is written is read again.
-use Rattle.std.proofs.Common.{◌≡◌, ℕ, ◌+◌, ◌/◌, ◌%◌, ◌<◌, slice_index, true, false, List, [], ◌∷◌, ◌++◌, length, take, get_or, map, Option, Some, None, Result, Ok, Err, refl, sym, ap, ap₂, subst, eqb-true, ◌==◌, Bool, ◌∙◌, arith, append_assoc, length-take-le}
-use Rattle.std.specs.Prelude.{MatchResult, if◌then◌else◌, option_map}
-use Rattle.std.specs.Result.{result_ok}
-use Rattle.std.proofs.lemmas.List.{take_more, map-append, length-map}
-use Rattle.std.specs.List.{join_with_byte}
-use Rattle.hex.specs.declared.error.FromHexError.{FromHexError}
+use Rattle.std.proofs.Common.{◌≡◌, ℕ, ◌+◌, ◌/◌, ◌%◌, ◌<◌, slice_index, true, false, List, [], ◌∷◌, ◌++◌, length, take}
+use Rattle.std.proofs.Common.{get_or, map, Option, Some, None, Result, Ok, Err, refl, sym, ap, ap₂, subst, eqb-true}
+use Rattle.std.proofs.{Common.{◌==◌, Bool, ◌∙◌, arith, append_assoc, length-take-le}, Math.ListN.get_or-map}
+use Rattle.std.proofs.{NetLemmas.Options.map_some, lemmas.{Bool.{and_parts, Decides.nat_tests}, List.take_more}}
+use Rattle.std.proofs.lemmas.{List.{map-append, length-map}, Option.none-some, Slice.Eq.text_from_reads}
+use Rattle.std.specs.{Char.to_ascii_lowercase, List.join_with_byte, Prelude.{MatchResult, if◌then◌else◌, option_map}}
+use Rattle.std.specs.{Result.result_ok, Str.str_to_ascii_lowercase}
 use Rattle.hex.specs.Hex.{IsBytes, decode_pairs, decode_sized, encode_lower, encode_with, lower_digits}
+use Rattle.hex.specs.declared.error.FromHexError.{FromHexError}
 use Rattle.cni_addr.proofs.HexDigits.{lower_of_digit, decoded_if_lower, lower_if_decoded}
-use Rattle.std.specs.Char.{to_ascii_lowercase}
-use Rattle.std.specs.Str.{str_to_ascii_lowercase}
-use Rattle.std.proofs.Math.ListN.{get_or-map}
-use Rattle.std.proofs.lemmas.Bool.Decides.{nat_tests}
-use Rattle.std.proofs.lemmas.Slice.Eq.{text_from_reads}
-use Rattle.cni_addr.specs.declared.mac.Mac.{Mac}
-use Rattle.cni_addr.specs.MacText.{colon, byte_text, mac_text, has_colons, digits_in, mac_of_bytes, mac_of_digits, mac_of_text, IsMac, IsMacText}
+use Rattle.cni_addr.specs.MacText.{colon, byte_text, mac_text, has_colons, digits_in, mac_of_bytes, mac_of_digits}
+use Rattle.cni_addr.specs.{MacText.{mac_of_text, IsMac, IsMacText}, declared.mac.Mac.Mac}
 use Rattle.hex.proofs.HexLemmas.{decode_pairs-ok}
-use Rattle.std.proofs.lemmas.Bool.{and_parts}
-use Rattle.std.proofs.lemmas.Option.{none-some}
-use Rattle.std.proofs.NetLemmas.Options.{map_some}
 
 -- ---- what is written
 

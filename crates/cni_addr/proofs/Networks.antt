@@ -1,17 +1,14 @@
 -- Networks as numbers.
-use Rattle.std.proofs.Common.{◌==◌, ◌&&◌, nat_le, bit_and, true, false, refl, ap₂, leb-true, le-leb, eqb-true, eq-eqb, ne_eqb, Bool, Option, Some, None, inl, inr, ◌≡◌, ℕ, ◌+◌, ◌-◌, ◌*◌, ◌/◌, ◌%◌, ◌^◌, ◌<◌, ◌≤◌, sym, ap, ◌∙◌, subst, arith}
-use Rattle.std.proofs.Math.Nat.{mul-le-mul_left}
-use Rattle.std.proofs.lemmas.Nat.{pow_pos, pow-add, div_below, le-div, mod-mul-add, and_mask}
-use Rattle.std.proofs.lemmas.Bool.{and_parts, and_from, cases_eq}
-use Rattle.std.proofs.lemmas.Option.{none-some}
-use Rattle.std.specs.Prelude.{if◌then◌else◌}
+use Rattle.std.proofs.Common.{◌==◌, ◌&&◌, nat_le, bit_and, true, false, refl, ap₂, leb-true, le-leb, eqb-true, eq-eqb}
+use Rattle.std.proofs.Common.{ne_eqb, Bool, Option, Some, None, inl, inr, ◌≡◌, ℕ, ◌+◌, ◌-◌, ◌*◌, ◌/◌, ◌%◌, ◌^◌, ◌<◌}
+use Rattle.std.proofs.{Common.{◌≤◌, sym, ap, ◌∙◌, subst, arith}, Math.Nat.mul-le-mul_left, lemmas.Bool.and_parts}
+use Rattle.std.proofs.lemmas.{Bool.{and_from, cases_eq}, Nat.{pow_pos, pow-add, div_below, le-div, mod-mul-add}}
+use Rattle.std.proofs.lemmas.{Nat.and_mask, Option.none-some}
+use Rattle.std.specs.Prelude.{if◌then◌else◌, ◌↔◌}
 use Rattle.cni_addr.proofs.AddrTexts.{some_same}
-use Rattle.std.specs.Prelude.{◌↔◌}
-use Rattle.cni_addr.specs.declared.address.Family.{Family}
-use Rattle.cni_addr.specs.declared.address.Family.TheVariants.{V4, V6}
-use Rattle.cni_addr.specs.Value.{AddrValue, CidrValue, IsAddr, bits_below, longest_prefix}
-use Rattle.cni_addr.specs.Codes.{family_eq}
-use Rattle.cni_addr.specs.Network.{network_size, network_bits, network_of, last_of, contains, whole, next_addr, IsCidr}
+use Rattle.cni_addr.specs.{Codes.family_eq, Network.{network_size, network_bits, network_of, last_of, contains, whole}}
+use Rattle.cni_addr.specs.{Network.{next_addr, IsCidr}, Value.{AddrValue, CidrValue, IsAddr, bits_below}}
+use Rattle.cni_addr.specs.{Value.longest_prefix, declared.address.Family.{Family, TheVariants.{V4, V6}}}
 
 -- the highest number with the bits of n above the lowest h is below a bound that is a multiple of 2 ^ h
 pub last_below : (n h w : ℕ) → h ≤ w → n < 2 ^ w → n - n % 2 ^ h + (2 ^ h - 1) < 2 ^ w

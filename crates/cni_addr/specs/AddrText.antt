@@ -1,14 +1,8 @@
 -- Addresses as texts: read by the grammar of std's addresses, and written by RFC 5952, section 4.
-use Rattle.std.specs.Prelude.{ℕ, List, Option, option_map}
-use Rattle.std.specs.Option.{option_or}
-use Rattle.std.specs.Int.{w32, w128, to_be_bytes, from_be_bytes}
-use Rattle.std.specs.Net.Addr.{segments_of, octets_of}
-use Rattle.std.specs.Net.Grammar.{IsDotted, IsColonHex}
-use Rattle.std.specs.Net.Reader.{read_ipv4, read_ipv6, whole_value}
-use Rattle.std.specs.Net.Text.{ipv4_text, hex_groups_text}
-use Rattle.cni_addr.specs.declared.address.Family.{Family}
-use Rattle.cni_addr.specs.declared.address.Family.TheVariants.{V4, V6}
-use Rattle.cni_addr.specs.Value.{AddrValue, IsAddr}
+use Rattle.std.specs.{Int.{w32, w128, to_be_bytes, from_be_bytes}, Net.Addr.{segments_of, octets_of}}
+use Rattle.std.specs.Net.{Grammar.{IsDotted, IsColonHex}, Reader.{read_ipv4, read_ipv6, whole_value}, Text.ipv4_text}
+use Rattle.std.specs.{Net.Text.hex_groups_text, Option.option_or, Prelude.{ℕ, List, Option, option_map}}
+use Rattle.cni_addr.specs.{Value.{AddrValue, IsAddr}, declared.address.Family.{Family, TheVariants.{V4, V6}}}
 
 -- the text spells the number as an address of the family: four decimal numbers without leading zeros, joined by
 -- dots (RFC 3986, 3.2.2, IPv4address), or eight groups of one to four hex digits, joined by colons, of which the last

@@ -1,10 +1,8 @@
 -- Networks as texts: an address, a slash, and the length of the prefix (RFC 4632, 3.1).
-use Rattle.std.specs.Prelude.{◌≡◌, ℕ, ◌≤◌, ◌==◌, nat_le, Bool, not, ◌&&◌, ◌||◌, slice_index, length, if◌then◌else◌, List, ◌++◌, Option, Some, None, option_and_then, codes, decimal}
-use Rattle.std.specs.List.{before_first, after_first}
-use Rattle.std.specs.Str.{byte}
-use Rattle.std.specs.Net.Reader.{read_octet, whole_value}
-use Rattle.cni_addr.specs.Value.{AddrValue, CidrValue, longest_prefix}
-use Rattle.cni_addr.specs.AddrText.{IsAddrText, addr_of_text, addr_text}
+use Rattle.std.specs.{List.{before_first, after_first}, Net.Reader.{read_octet, whole_value}, Prelude.{◌≡◌, ℕ, ◌≤◌}}
+use Rattle.std.specs.Prelude.{◌==◌, nat_le, Bool, not, ◌&&◌, ◌||◌, slice_index, length, if◌then◌else◌, List, ◌++◌}
+use Rattle.std.specs.{Prelude.{Option, Some, None, option_and_then, codes, decimal}, Str.byte}
+use Rattle.cni_addr.specs.{AddrText.{IsAddrText, addr_of_text, addr_text}, Value.{AddrValue, CidrValue, longest_prefix}}
 
 -- an address, a slash, and the length of the prefix in decimal, without leading zeros
 pub record IsCidrText (text : List ℕ) (c : CidrValue) : Type 0 where

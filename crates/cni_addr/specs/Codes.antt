@@ -1,8 +1,7 @@
 -- Enums without fields, by number, and when two are the same.
 use Rattle.std.specs.Prelude.{ℕ, Bool, ◌==◌}
-use Rattle.cni_addr.specs.declared.address.Family.{Family}
+use Rattle.cni_addr.specs.declared.{address.Family.Family, macvlan.MacvlanMode.MacvlanMode}
 use Rattle.cni_addr.specs.declared.address.Family.TheVariants as families
-use Rattle.cni_addr.specs.declared.macvlan.MacvlanMode.{MacvlanMode}
 use Rattle.cni_addr.specs.declared.macvlan.MacvlanMode.TheVariants as modes
 
 abbrev pub family_code : Family → ℕ

@@ -1,9 +1,6 @@
 -- When two values are the same, as tests that compute. Each is what `==` of the type computes.
-use Rattle.std.specs.Prelude.{Bool, ◌&&◌, ◌==◌}
-use Rattle.std.specs.Cmp.Lexicographic.{pointwise}
-use Rattle.cni_addr.specs.declared.mac.Mac.{Mac}
-use Rattle.cni_addr.specs.Codes.{family_eq}
-use Rattle.cni_addr.specs.Value.{AddrValue, CidrValue}
+use Rattle.std.specs.{Cmp.Lexicographic.pointwise, Prelude.{Bool, ◌&&◌, ◌==◌}}
+use Rattle.cni_addr.specs.{Codes.family_eq, Value.{AddrValue, CidrValue}, declared.mac.Mac.Mac}
 
 abbrev pub addr_eq : AddrValue → AddrValue → Bool
 addr_eq a b = family_eq a.family b.family && a.bits == b.bits

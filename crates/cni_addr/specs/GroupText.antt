@@ -1,6 +1,6 @@
 -- The text of an IPv6 address that RFC 5952, section 4, recommends.
-use Rattle.std.specs.Prelude.{◌≡◌, ℕ, ◌+◌, ◌≤◌, List, ◌++◌, length, take, drop, replicate, codes, nat_lt, if◌then◌else◌}
-use Rattle.std.specs.Net.Text.{groups_text}
+use Rattle.std.specs.{Net.Text.groups_text, Prelude.{◌≡◌, ℕ, ◌+◌, ◌≤◌, List, ◌++◌, length, take, drop, replicate}}
+use Rattle.std.specs.Prelude.{codes, nat_lt, if◌then◌else◌}
 
 -- so many groups of zeros stand at this place
 abbrev pub AreZeros : List ℕ → ℕ → ℕ → Type 0

@@ -1,6 +1,5 @@
 -- What it means that each key of a list stands once, by the first element that has it.
-use Rattle.std.specs.Prelude.{◌≡◌, Bool, true, List, [], ◌∷◌, ◌++◌, if◌then◌else◌}
-use Rattle.std.specs.List.{list_any}
+use Rattle.std.specs.{List.list_any, Prelude.{◌≡◌, Bool, true, List, [], ◌∷◌, ◌++◌, if◌then◌else◌}}
 use Rattle.cni_addr.specs.Lists.{IsAmong, distinct}
 
 -- no two of its elements are the same; each element of the list has one there that is the same, and what is there is of

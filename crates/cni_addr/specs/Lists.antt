@@ -1,6 +1,6 @@
 -- Whether an element is in a list, a list without an element, and lists in which each key stands once.
-use Rattle.std.specs.Prelude.{◌≡◌, ◌⊎◌, Bool, true, not, ◌&&◌, List, [], ◌∷◌, ◌++◌, fold, if◌then◌else◌}
-use Rattle.std.specs.List.{list_any}
+use Rattle.std.specs.{List.list_any, Prelude.{◌≡◌, ◌⊎◌, Bool, true, not, ◌&&◌, List, [], ◌∷◌, ◌++◌, fold}}
+use Rattle.std.specs.Prelude.{if◌then◌else◌}
 
 -- the element is in the list, said as one of so many cases: std tells a member by its place
 abbrev pub IsAmong : {X : Type 0} → X → List X → Type 0

@@ -1,8 +1,7 @@
 -- Hardware addresses as texts: six pairs of hex digits joined by colons, as `ip link` writes them (IEEE 802, EUI-48).
-use Rattle.std.specs.Prelude.{◌≡◌, ℕ, ◌==◌, ◌&&◌, Bool, if◌then◌else◌, List, [], ◌∷◌, map, length, slice_index, Option, None, option_map}
-use Rattle.std.specs.List.{join_with_byte, list_all}
-use Rattle.std.specs.Result.{result_ok}
-use Rattle.std.specs.Str.{byte, str_to_ascii_lowercase}
+use Rattle.std.specs.{List.{join_with_byte, list_all}, Prelude.{◌≡◌, ℕ, ◌==◌, ◌&&◌, Bool, if◌then◌else◌, List, [], ◌∷◌}}
+use Rattle.std.specs.{Prelude.{map, length, slice_index, Option, None, option_map}, Result.result_ok, Str.byte}
+use Rattle.std.specs.Str.{str_to_ascii_lowercase}
 use Rattle.hex.specs.Hex.{IsBytes, encode_lower, decode_sized}
 use Rattle.cni_addr.specs.declared.mac.Mac.{Mac}
 

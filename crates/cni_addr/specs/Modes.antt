@@ -1,9 +1,7 @@
 -- The modes of a macvlan link by their names (the `mode` of the reference plugin `macvlan`).
-use Rattle.std.specs.Prelude.{ℕ, List, codes, Option, find}
-use Rattle.std.specs.Str.{bytes_eq}
+use Rattle.std.specs.{Prelude.{ℕ, List, codes, Option, find}, Str.bytes_eq}
+use Rattle.cni_addr.specs.declared.macvlan.MacvlanMode.{MacvlanMode, TheVariants.{Bridge, Private, Vepa, Passthru}}
 use Rattle.cni_addr.specs.declared.macvlan.TheConstants.MacvlanMode.{ALL}
-use Rattle.cni_addr.specs.declared.macvlan.MacvlanMode.{MacvlanMode}
-use Rattle.cni_addr.specs.declared.macvlan.MacvlanMode.TheVariants.{Bridge, Private, Vepa, Passthru}
 
 -- a mode as the `macvlan` plugin is configured with it
 abbrev pub mode_text : MacvlanMode → List ℕ

@@ -1,7 +1,6 @@
 -- Networks as numbers: addresses that share the first bits, the network's prefix (RFC 4632, 3.1).
 use Rattle.std.specs.Prelude.{ℕ, ◌+◌, ◌-◌, ◌/◌, ◌%◌, ◌^◌, ◌≤◌, ◌==◌, ◌&&◌, Bool, if◌then◌else◌, Option, Some, None}
-use Rattle.cni_addr.specs.Codes.{family_eq}
-use Rattle.cni_addr.specs.Value.{AddrValue, CidrValue, IsAddr, bits_below, longest_prefix}
+use Rattle.cni_addr.specs.{Codes.family_eq, Value.{AddrValue, CidrValue, IsAddr, bits_below, longest_prefix}}
 
 -- an address with a prefix of its family
 pub record IsCidr (c : CidrValue) : Type 0 where

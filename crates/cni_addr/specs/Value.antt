@@ -1,7 +1,6 @@
 -- What contracts see of addresses and ranges, and what their types keep.
 use Rattle.std.specs.Prelude.{◌≡◌, ℕ, ◌^◌, ◌<◌}
-use Rattle.cni_addr.specs.declared.address.Family.{Family}
-use Rattle.cni_addr.specs.declared.address.Family.TheVariants.{V4, V6}
+use Rattle.cni_addr.specs.declared.address.Family.{Family, TheVariants.{V4, V6}}
 
 -- an address as a number
 pub record AddrValue : Type 0 where

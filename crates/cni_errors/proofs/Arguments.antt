@@ -1,10 +1,10 @@
 -- How a piece of a command's arguments is cut at `=`.
-use Rattle.std.proofs.Common.{◌≡◌, ℕ, ◌+◌, ◌<◌, ◌≤◌, Bool, true, false, not, cond, eqb, List, [], ◌∷◌, length, refl, sym, ap, ◌∙◌, arith, Option, Some, None}
-use Rattle.std.specs.Prelude.{◌||◌, ◌&&◌, ◌==◌, find, filter_map, option_map, option_to_list}
-use Rattle.std.specs.Str.{bytes_eq}
+use Rattle.std.proofs.Common.{◌≡◌, ℕ, ◌+◌, ◌<◌, ◌≤◌, Bool, true, false, not, cond, eqb, List, [], ◌∷◌, length, refl}
+use Rattle.std.proofs.{Common.{sym, ap, ◌∙◌, arith, Option, Some, None}, lemmas.Bool.or_parts}
+use Rattle.std.proofs.lemmas.List.Splits.{slice_split-cons_yes, slice_split-cons_no, slice_split_first}
+use Rattle.std.proofs.lemmas.List.Splits.{length-slice_split}
 use Rattle.std.specs.List.{list_any, slice_split, onto_first, position_or_len, before_first, after_first, cons_option}
-use Rattle.std.proofs.lemmas.Bool.{or_parts}
-use Rattle.std.proofs.lemmas.List.Splits.{slice_split-cons_yes, slice_split-cons_no, slice_split_first, length-slice_split}
+use Rattle.std.specs.{Prelude.{◌||◌, ◌&&◌, ◌==◌, find, filter_map, option_map, option_to_list}, Str.bytes_eq}
 use Rattle.cni_errors.specs.CommandFields.{pair_of, argument_of}
 
 abbrev pub is_equals : ℕ → Bool

@@ -1,33 +1,22 @@
 -- The errors of refusals, and what a verb answers that has no result of its own (CNI specification, section 5, "Error";
 -- codes from 100 on are this project's own).
-use Rattle.std.specs.Prelude.{ℕ, Bool, List, [], ◌∷◌, ◌++◌, map, codes, if◌then◌else◌}
-use Rattle.std.specs.Fmt.{decimal}
-use Rattle.std.specs.List.{join_by}
-use Rattle.serde_json.specs.Data.{string}
-use Rattle.serde_json.specs.Written.{compact_text}
-use Rattle.cni_addr.specs.AddrText.{addr_text}
-use Rattle.cni_addr.specs.CidrText.{cidr_text}
-use Rattle.cni_addr.specs.declared.address.Cidr.{Cidr}
-use Rattle.cni_result.specs.declared.error.CniError.{CniError}
-use Rattle.cni_result.specs.Versions.{version_text}
-use Rattle.cni_result.specs.declared.version.Version.{Version}
-use Rattle.pod_file.specs.declared.command.Command.{Command}
-use Rattle.pod_file.specs.Commands.{verb_text}
+use Rattle.std.specs.{Fmt.decimal, List.join_by, Prelude.{ℕ, Bool, List, [], ◌∷◌, ◌++◌, map, codes, if◌then◌else◌}}
+use Rattle.serde_json.specs.{Data.string, Written.compact_text}
+use Rattle.cni_addr.specs.{AddrText.addr_text, CidrText.cidr_text, declared.address.Cidr.Cidr}
+use Rattle.cni_result.specs.{Versions.version_text, declared.{error.CniError.CniError, version.Version.Version}}
+use Rattle.pod_file.specs.{Commands.verb_text, declared.command.Command.Command}
 use Rattle.kernel_text.specs.Texts.{attachment_text, tag_text, chain_text}
-use Rattle.kernel_types.specs.Texts.{table_text}
-use Rattle.kernel_types.specs.Terms.{is_host_ns}
-use Rattle.cni_errors.specs.CommandFields.{att_of}
-use Rattle.cni_errors.specs.ErrorKinds.{error_kind_code, error_kind_title, message_about, message_of_field}
-use Rattle.cni_errors.specs.declared.answer.Answer.{Answer}
+use Rattle.kernel_types.specs.{Terms.is_host_ns, Texts.table_text}
+use Rattle.cni_errors.specs.{CommandFields.att_of, ErrorKinds.{error_kind_code, error_kind_title, message_about}}
+use Rattle.cni_errors.specs.{ErrorKinds.message_of_field, declared.answer.{Answer.Answer, Cause.Cause}}
+use Rattle.cni_errors.specs.declared.answer.Cause.TheVariants.{BadFields, IpArgument, BadMapping, NoNamespace}
+use Rattle.cni_errors.specs.declared.answer.Cause.TheVariants.{NameTaken, PoolEmpty, NoMaster, Fault, Faults, TooOld}
+use Rattle.cni_errors.specs.declared.answer.Cause.TheVariants.{Unknown, NoFreeAddress, MasterAbsent, NothingThere}
+use Rattle.cni_errors.specs.declared.answer.{Cause.TheVariants.Missing, Ending.{Ending, TheVariants.{Added, Yes}}}
+use Rattle.cni_errors.specs.declared.answer.{Ending.TheVariants.{Skipped, Versions, Refused}, Missed.Missed}
+use Rattle.cni_errors.specs.declared.{answer.WrongFields.WrongFields, error_kind.ErrorKind.ErrorKind}
 use Rattle.cni_errors.specs.declared.answer.Answer.TheVariants as answers
-use Rattle.cni_errors.specs.declared.answer.Cause.{Cause}
-use Rattle.cni_errors.specs.declared.answer.Cause.TheVariants.{BadFields, IpArgument, BadMapping, NoNamespace, NameTaken, PoolEmpty, NoMaster, Fault, Faults, TooOld, Unknown, NoFreeAddress, MasterAbsent, NothingThere, Missing}
-use Rattle.cni_errors.specs.declared.answer.Ending.{Ending}
-use Rattle.cni_errors.specs.declared.answer.Ending.TheVariants.{Added, Yes, Skipped, Versions, Refused}
-use Rattle.cni_errors.specs.declared.answer.Missed.{Missed}
 use Rattle.cni_errors.specs.declared.answer.Missed.TheVariants as missed
-use Rattle.cni_errors.specs.declared.answer.WrongFields.{WrongFields}
-use Rattle.cni_errors.specs.declared.error_kind.ErrorKind.{ErrorKind}
 use Rattle.cni_errors.specs.declared.error_kind.ErrorKind.TheVariants as kinds
 
 abbrev pub kind_of : Cause → ErrorKind

@@ -1,22 +1,15 @@
 -- What a verb asks of its command's fields, before its first call (CNI specification, section 2, "Parameters"; error
 -- codes of section 5).
-use Rattle.std.specs.Prelude.{ℕ, Bool, true, false, not, ◌&&◌, ◌||◌, ◌==◌, nat_lt, List, [], ◌∷◌, length, find, filter_map, codes, Option, Some, None, option_map, is_some, if◌then◌else◌}
-use Rattle.std.specs.List.{list_all, slice_split}
-use Rattle.std.specs.Option.{option_or}
-use Rattle.std.specs.Str.{byte, bytes_eq}
-use Rattle.cni_addr.specs.AddrText.{addr_of_text}
-use Rattle.cni_addr.specs.declared.address.Addr.{Addr}
-use Rattle.cni_result.specs.Mappings.{proto_named}
-use Rattle.cni_result.specs.declared.cached.PortMapping.{PortMapping}
-use Rattle.cni_result.specs.declared.cached.Proto.{Proto}
+use Rattle.std.specs.{List.{list_all, slice_split}, Option.option_or, Prelude.{ℕ, Bool, true, false, not, ◌&&◌, ◌||◌}}
+use Rattle.std.specs.Prelude.{◌==◌, nat_lt, List, [], ◌∷◌, length, find, filter_map, codes, Option, Some, None}
+use Rattle.std.specs.{Prelude.{option_map, is_some, if◌then◌else◌}, Str.{byte, bytes_eq}}
+use Rattle.cni_addr.specs.{AddrText.addr_of_text, declared.address.Addr.Addr}
+use Rattle.cni_result.specs.{Mappings.proto_named, declared.cached.{PortMapping.PortMapping, Proto.Proto}}
 use Rattle.cni_result.specs.declared.cached.Proto.TheVariants.{Tcp}
 use Rattle.net_conf.specs.Names.{is_container_id, is_interface_name}
-use Rattle.pod_file.specs.declared.command.Command.{Command}
-use Rattle.pod_file.specs.declared.command.RawMapping.{RawMapping}
-use Rattle.kernel_types.specs.Terms.{is_host_ns}
-use Rattle.kernel_types.specs.declared.object.Att.{Att}
-use Rattle.cni_errors.specs.declared.answer.Cause.{Cause}
-use Rattle.cni_errors.specs.declared.answer.Cause.TheVariants.{BadFields, IpArgument, BadMapping}
+use Rattle.pod_file.specs.declared.command.{Command.Command, RawMapping.RawMapping}
+use Rattle.kernel_types.specs.{Terms.is_host_ns, declared.object.Att.Att}
+use Rattle.cni_errors.specs.declared.answer.Cause.{Cause, TheVariants.{BadFields, IpArgument, BadMapping}}
 use Rattle.cni_errors.specs.declared.answer.WrongFields.{WrongFields}
 
 -- the attachment that a command speaks of

@@ -1,10 +1,14 @@
 -- What an error says by its kind (CNI specification, section 5, "Error"): its code, and the title that its message
 -- begins with. The titles are this project's own, and so are the codes from 100 on.
 use Rattle.std.specs.Prelude.{ℕ, List, [], ◌++◌, codes}
-use Rattle.cni_result.specs.declared.error.CniError.{CniError}
-use Rattle.cni_result.specs.declared.version.Version.TheVariants.{V1_1}
-use Rattle.cni_errors.specs.declared.error_kind.ErrorKind.{ErrorKind}
-use Rattle.cni_errors.specs.declared.error_kind.ErrorKind.TheVariants.{IncompatibleVersion, UnsupportedField, ContainerUnknown, InvalidVariables, DecodingFailed, InvalidList, InvalidPodFile, InvalidPacketFile, NotAvailable, NamespaceMissing, NameTaken, PoolEmpty, KernelFault, OutOfMemory, NothingThere, CheckFailed}
+use Rattle.cni_result.specs.declared.{error.CniError.CniError, version.Version.TheVariants.V1_1}
+use Rattle.cni_errors.specs.declared.error_kind.ErrorKind.{ErrorKind, TheVariants.IncompatibleVersion}
+use Rattle.cni_errors.specs.declared.error_kind.ErrorKind.TheVariants.{UnsupportedField, ContainerUnknown}
+use Rattle.cni_errors.specs.declared.error_kind.ErrorKind.TheVariants.{InvalidVariables, DecodingFailed, InvalidList}
+use Rattle.cni_errors.specs.declared.error_kind.ErrorKind.TheVariants.{InvalidPodFile, InvalidPacketFile, NotAvailable}
+use Rattle.cni_errors.specs.declared.error_kind.ErrorKind.TheVariants.{NamespaceMissing, NameTaken, PoolEmpty}
+use Rattle.cni_errors.specs.declared.error_kind.ErrorKind.TheVariants.{KernelFault, OutOfMemory, NothingThere}
+use Rattle.cni_errors.specs.declared.error_kind.ErrorKind.TheVariants.{CheckFailed}
 
 abbrev pub error_kind_code : ErrorKind → ℕ
 error_kind_code IncompatibleVersion = 1

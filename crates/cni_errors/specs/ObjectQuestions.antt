@@ -1,19 +1,11 @@
 -- What a check asks of one object, and what a denial means (CNI specification, section 3, "Checking attachment").
 use Rattle.std.specs.Prelude.{ℕ, ◌+◌, List, scan}
-use Rattle.kernel_types.specs.declared.object.AddrObj.{AddrObj}
-use Rattle.kernel_types.specs.declared.object.Lease.{Lease}
-use Rattle.kernel_types.specs.declared.object.Link.{Link}
-use Rattle.kernel_types.specs.declared.object.RouteObj.{RouteObj}
-use Rattle.kernel_types.specs.declared.rule.Rule.{Rule}
-use Rattle.kernel_types.specs.declared.object.Setting.{Setting}
-use Rattle.kernel_types.specs.declared.call.Call.TheVariants.{HasObj}
-use Rattle.kernel_types.specs.declared.call.Object.{Object}
+use Rattle.kernel_types.specs.declared.call.{Call.TheVariants.HasObj, Object.Object, Probe.TheVariants.Whole}
+use Rattle.kernel_types.specs.declared.object.{AddrObj.AddrObj, Lease.Lease, Link.Link, RouteObj.RouteObj}
+use Rattle.kernel_types.specs.declared.{object.Setting.Setting, rule.Rule.Rule}
 use Rattle.kernel_types.specs.declared.call.Object.TheVariants as objects
-use Rattle.kernel_types.specs.declared.call.Probe.TheVariants.{Whole}
-use Rattle.cni_errors.specs.declared.answer.Cause.TheVariants.{Missing}
-use Rattle.cni_errors.specs.declared.answer.Missed.{Missed}
+use Rattle.cni_errors.specs.declared.answer.{Cause.TheVariants.Missing, Missed.Missed, Question.Question}
 use Rattle.cni_errors.specs.declared.answer.Missed.TheVariants as missed
-use Rattle.cni_errors.specs.declared.answer.Question.{Question}
 
 abbrev pub asks_for : Object → Missed → Question
 asks_for object what = record { call = HasObj (Whole object); lack = Missing what }

@@ -1,14 +1,10 @@
 -- Counts of failures and of failing calls.
 use Rattle.std.proofs.Common.{◌≡◌, ℕ, ◌+◌, ◌^◌, ◌<◌, ◌≤◌, inl, inr, List, true, false, if◌then◌else◌, arith, refl, ◌∙◌}
-use Rattle.std.specs.Prelude.{⊤}
-use Rattle.std.specs.List.{count_by, range_with_len}
-use Rattle.std.proofs.lemmas.List.{map-id}
-use Rattle.std.proofs.lemmas.List.FromFn.{length-range_with_len, sum_by-map-range_with_len_more}
-use Rattle.std.proofs.lemmas.List.Sums.{count_by-le-length}
-use Rattle.std.proofs.lemmas.Bool.Decides.{nat_tests}
-use Rattle.std.proofs.lemmas.Bool.{cases_Bool}
-use Rattle.cni_io.specs.Failures.{Rose, CountsFailure}
+use Rattle.std.proofs.lemmas.{Bool.{cases_Bool, Decides.nat_tests}, List.{map-id, FromFn.length-range_with_len}}
+use Rattle.std.proofs.lemmas.List.{FromFn.sum_by-map-range_with_len_more, Sums.count_by-le-length}
+use Rattle.std.specs.{List.{count_by, range_with_len}, Prelude.⊤}
 use Rattle.cni_io.specs.FailingCalls.{CallsState, failures, is_failing, is_numbered, fails_next, with_next_call}
+use Rattle.cni_io.specs.Failures.{Rose, CountsFailure}
 
 -- what rose later rose from the start on
 pub Rose-from_start : (start before now : ℕ) → start ≤ before → Rose before now → Rose start now

@@ -1,16 +1,9 @@
 -- Stored files after one was added.
-use Rattle.std.proofs.Common.{◌≡◌, ◌≢◌, ℕ, List, [], ◌∷◌, true, false, not, filter, Some, refl, sym, ◌∙◌, subst, inl, inr}
-use Rattle.std.specs.Cmp.Lexicographic.{nat_list_eq_equiv}
-use Rattle.std.specs.List.{IsDistinct, list_any}
-use Rattle.std.specs.Map.{keys_of}
-use Rattle.std.specs.Str.{bytes_eq}
-use Rattle.std.proofs.lemmas.Bool.{cases_Bool}
-use Rattle.std.proofs.lemmas.List.{map-append}
-use Rattle.std.proofs.lemmas.Map.Keys.{IsDistinct-push}
-use Rattle.std.proofs.lemmas.Map.Made.{IsDistinct-keys_filter}
-use Rattle.std.proofs.lemmas.Slice.Eq.{bytes_eq-Decides}
-use Rattle.cni_io.specs.Files.{StoredFiles, bytes_of}
-use Rattle.cni_io.specs.Memory.{HasEachNameOnce, stored_with}
+use Rattle.std.proofs.Common.{◌≡◌, ◌≢◌, ℕ, List, [], ◌∷◌, true, false, not, filter, Some, refl, sym, ◌∙◌, subst, inl}
+use Rattle.std.proofs.{Common.inr, lemmas.{Bool.cases_Bool, List.map-append, Map.Keys.IsDistinct-push}}
+use Rattle.std.proofs.lemmas.{Map.Made.IsDistinct-keys_filter, Slice.Eq.bytes_eq-Decides}
+use Rattle.std.specs.{Cmp.Lexicographic.nat_list_eq_equiv, List.{IsDistinct, list_any}, Map.keys_of, Str.bytes_eq}
+use Rattle.cni_io.specs.{Files.{StoredFiles, bytes_of}, Memory.{HasEachNameOnce, stored_with}}
 
 -- the added file is found
 pub bytes_of-stored_with : (stored : StoredFiles) (name bytes : List ℕ) → bytes_of (stored_with stored name bytes) name ≡ Some bytes

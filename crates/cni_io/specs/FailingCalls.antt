@@ -1,6 +1,6 @@
 -- Calls that are numbered from 1, some of which fail.
-use Rattle.std.specs.Prelude.{ℕ, ◌+◌, ◌-◌, ◌^◌, ◌==◌, ◌&&◌, List, nat_lt, Bool, if◌then◌else◌}
-use Rattle.std.specs.List.{count_by, list_any, range_with_len}
+use Rattle.std.specs.{List.{count_by, list_any, range_with_len}, Prelude.{ℕ, ◌+◌, ◌-◌, ◌^◌, ◌==◌, ◌&&◌, List, nat_lt}}
+use Rattle.std.specs.Prelude.{Bool, if◌then◌else◌}
 
 -- the numbers of the calls that fail, and how many calls were numbered
 pub record CallsState : Type 0 where

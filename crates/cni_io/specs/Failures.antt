@@ -1,6 +1,5 @@
 -- Counts of failures, kept in a u64.
-use Rattle.std.specs.Prelude.{◌≡◌, ℕ, ◌+◌, ◌-◌, ◌^◌, ◌<◌, ◌≤◌, ◌⊎◌}
-use Rattle.std.specs.Io.Iter.{u64_saturate}
+use Rattle.std.specs.{Io.Iter.u64_saturate, Prelude.{◌≡◌, ℕ, ◌+◌, ◌-◌, ◌^◌, ◌<◌, ◌≤◌, ◌⊎◌}}
 
 -- a count of one more, which stays at the greatest u64
 abbrev pub counted : ℕ → ℕ

@@ -1,9 +1,7 @@
 -- What a read gives, of files that are told.
-use Rattle.std.specs.Prelude.{◌≡◌, ℕ, ◌≤◌, List, length, nat_le, if◌then◌else◌, Option, Some, None, option_map, Result, Ok, Err, IsOk, Vec, vec_len, ⊤, find}
-use Rattle.std.specs.Str.{bytes_eq}
-use Rattle.std.specs.declared.alloc.Global.{Global}
-use Rattle.cni_io.specs.declared.files.FileFault.{FileFault}
-use Rattle.cni_io.specs.declared.files.FileFault.TheVariants.{Missing, TooLarge, Failed, NoMemory}
+use Rattle.std.specs.Prelude.{◌≡◌, ℕ, ◌≤◌, List, length, nat_le, if◌then◌else◌, Option, Some, None, option_map, Result}
+use Rattle.std.specs.{Prelude.{Ok, Err, IsOk, Vec, vec_len, ⊤, find}, Str.bytes_eq, declared.alloc.Global.Global}
+use Rattle.cni_io.specs.declared.files.FileFault.{FileFault, TheVariants.{Missing, TooLarge, Failed, NoMemory}}
 
 -- files, each with its name and its bytes
 abbrev pub StoredFiles : Type 0

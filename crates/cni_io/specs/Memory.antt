@@ -1,15 +1,10 @@
 -- The files and the sink in memory, a call at a time.
-use Rattle.std.specs.Prelude.{ℕ, ◌-◌, List, [], ◌∷◌, ◌++◌, length, take, filter, min, not, if◌then◌else◌, Result, Ok, Err}
-use Rattle.std.specs.List.{IsDistinct}
-use Rattle.std.specs.Map.{keys_of}
-use Rattle.std.specs.Str.{bytes_eq}
-use Rattle.cni_io.specs.declared.files.FileFault.{FileFault}
+use Rattle.std.specs.{List.IsDistinct, Map.keys_of, Prelude.{ℕ, ◌-◌, List, [], ◌∷◌, ◌++◌, length, take, filter, min}}
+use Rattle.std.specs.{Prelude.{not, if◌then◌else◌, Result, Ok, Err}, Str.bytes_eq}
+use Rattle.cni_io.specs.{FailingCalls.{CallsState, fails_next, with_next_call}, Files.{StoredFiles, file_of}}
+use Rattle.cni_io.specs.{Sink.{taken_of, failures_counted}, declared.files.FileFault.FileFault}
+use Rattle.cni_io.specs.declared.sink.SinkFault.{SinkFault, TheVariants.Failed}
 use Rattle.cni_io.specs.declared.files.FileFault.TheVariants as file_fault
-use Rattle.cni_io.specs.declared.sink.SinkFault.{SinkFault}
-use Rattle.cni_io.specs.declared.sink.SinkFault.TheVariants.{Failed}
-use Rattle.cni_io.specs.FailingCalls.{CallsState, fails_next, with_next_call}
-use Rattle.cni_io.specs.Files.{StoredFiles, file_of}
-use Rattle.cni_io.specs.Sink.{taken_of, failures_counted}
 
 -- what `MemFiles` holds
 pub record FilesState : Type 0 where

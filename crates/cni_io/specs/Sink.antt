@@ -1,8 +1,6 @@
 -- What a write says.
 use Rattle.std.specs.Prelude.{◌≡◌, ◌==◌, ◌&&◌, ℕ, ◌<◌, nat_lt, if◌then◌else◌, Result, Ok, Err, ⊤}
-use Rattle.cni_io.specs.declared.sink.SinkFault.{SinkFault}
-use Rattle.cni_io.specs.declared.sink.SinkFault.TheVariants.{Failed}
-use Rattle.cni_io.specs.Failures.{counted}
+use Rattle.cni_io.specs.{Failures.counted, declared.sink.SinkFault.{SinkFault, TheVariants.Failed}}
 
 -- how many bytes were taken
 abbrev pub taken_of : Result ℕ SinkFault → ℕ

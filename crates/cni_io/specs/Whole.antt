@@ -1,9 +1,8 @@
 -- A write of the whole, as the writes that it is made of.
 use Rattle.std.specs.Prelude.{ℕ, ◌+◌, ◌<◌, List, length, drop, Result, Ok, Err, ⊤}
-use Rattle.cni_io.specs.declared.sink.SinkFault.{SinkFault}
+use Rattle.cni_io.specs.declared.{sink.SinkFault.SinkFault, whole.WriteEnd.{WriteEnd, TheVariants.Failed}}
+use Rattle.cni_io.specs.declared.whole.WriteEnd.TheVariants.{TookNothing}
 use Rattle.cni_io.specs.declared.sink.SinkFault.TheVariants as fault
-use Rattle.cni_io.specs.declared.whole.WriteEnd.{WriteEnd}
-use Rattle.cni_io.specs.declared.whole.WriteEnd.TheVariants.{Failed, TookNothing}
 
 -- how many bytes of the whole were written
 abbrev pub written_of : ℕ → Result ⊤ WriteEnd → ℕ

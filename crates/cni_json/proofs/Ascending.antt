@@ -1,22 +1,18 @@
 -- The keys of the members that a reading collects ascend.
-use Rattle.std.proofs.Common.{◌≡◌, ℕ, List, [], ◌∷◌, Option, Some, None, option_map, option_and_then, Ok, Ordering, Less, Equal, Greater, nat_cmp, refl, ap, ◌∙◌, subst, cond, Bool, true, false, Err}
+use Rattle.std.proofs.Common.{◌≡◌, ℕ, List, [], ◌∷◌, Option, Some, None, option_map, option_and_then, Ok, Ordering}
+use Rattle.std.proofs.Common.{Less, Equal, Greater, nat_cmp, refl, ap, ◌∙◌, subst, cond, Bool, true, false, Err}
 use Rattle.std.proofs.lemmas.Cmp.{nat_list_cmp_total}
-use Rattle.std.specs.Cmp.Lexicographic.{slice_cmp}
-use Rattle.std.specs.List.{AllByRecursion}
-use Rattle.std.specs.List.Sorted.{IsStrictlySortedBy}
-use Rattle.std.specs.Ordering.{match_ordering, ordering_reverse}
-use Rattle.std.specs.Prelude.{IfSome, ⊤}
+use Rattle.std.specs.{Cmp.Lexicographic.slice_cmp, List.{AllByRecursion, Sorted.IsStrictlySortedBy}}
+use Rattle.std.specs.{Ordering.{match_ordering, ordering_reverse}, Prelude.{IfSome, ⊤}, Str.is_utf8}
 use Rattle.json.specs.Json as json
 use Rattle.json.specs.Lex.{tokens}
-use Rattle.serde_json.specs.Data.{Data, null, boolean, number, string, array, object, item, Members, no_members, member, put}
-use Rattle.serde_json.specs.Find.{get, get_member}
-use Rattle.serde_json.specs.Read.{read, of_json, of_items, of_members, number_of, max_depth}
-use Rattle.serde_json.specs.Written.{has_float}
-use Rattle.std.specs.Str.{is_utf8}
-use Rattle.cni_json.specs.Json.{reading, whole_numbers, json_of}
+use Rattle.serde_json.specs.Data.{Data, null, boolean, number, string, array, object, item, Members, no_members, member}
+use Rattle.serde_json.specs.{Data.put, Find.{get, get_member}, Read.{read, of_json, of_items, of_members, number_of}}
+use Rattle.serde_json.specs.{Read.max_depth, Written.has_float}
+use Rattle.cni_json.specs.{Json.{reading, whole_numbers, json_of}, WellFormed.{Everywhere, EverywhereInItems}}
+use Rattle.cni_json.specs.WellFormed.{EverywhereInMembers, keys, AreAscending, HasAscendingKeys, KeysAscend}
 use Rattle.cni_json.specs.declared.reading.ReadEnd.TheVariants.{Number}
 use Rattle.cni_json.proofs.WholeNumbers.{found_member}
-use Rattle.cni_json.specs.WellFormed.{Everywhere, EverywhereInItems, EverywhereInMembers, keys, AreAscending, HasAscendingKeys, KeysAscend}
 
 abbrev compare : List ℕ → List ℕ → Ordering
 compare = slice_cmp nat_cmp

@@ -1,10 +1,8 @@
 -- Objects that are built member by member from whole numbers have whole numbers alone.
-use Rattle.std.proofs.Common.{◌≡◌, ℕ, List, false, Ordering, Less, Equal, Greater, nat_cmp}
-use Rattle.std.proofs.lemmas.Bool.{or_parts, or_from}
-use Rattle.std.specs.Cmp.Lexicographic.{slice_cmp}
-use Rattle.std.specs.Ordering.{match_ordering}
-use Rattle.serde_json.specs.Data.{Data, Members, no_members, member, put}
-use Rattle.serde_json.specs.Written.{has_float, members_have_float}
+use Rattle.std.proofs.{Common.{◌≡◌, ℕ, List, false, Ordering, Less, Equal, Greater, nat_cmp}, lemmas.Bool.or_parts}
+use Rattle.std.proofs.lemmas.Bool.{or_from}
+use Rattle.std.specs.{Cmp.Lexicographic.slice_cmp, Ordering.match_ordering}
+use Rattle.serde_json.specs.{Data.{Data, Members, no_members, member, put}, Written.{has_float, members_have_float}}
 
 no_float-put_at : (o : Ordering) (k l : List ℕ) (d e : Data) (ms : Members) → has_float d ≡ false → has_float e ≡ false → members_have_float ms ≡ false → members_have_float (put k d ms) ≡ false
     → members_have_float (match_ordering o (member k d (member l e ms)) (member l d ms) (member l e (put k d ms))) ≡ false

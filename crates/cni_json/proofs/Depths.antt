@@ -1,12 +1,12 @@
 -- How deep lists and objects nest: of what is built, and of a part.
-use Rattle.std.proofs.Common.{◌≡◌, ℕ, ◌+◌, ◌≤◌, ◌<◌, List, [], ◌∷◌, map, Option, Some, None, Ordering, Less, Equal, Greater, nat_cmp, arith}
-use Rattle.std.specs.Cmp.Lexicographic.{slice_cmp}
-use Rattle.std.specs.Ordering.{match_ordering}
-use Rattle.serde_json.specs.Data.{Data, null, boolean, number, string, array, object, Members, no_members, member, put, depth, items_depth, members_depth}
-use Rattle.serde_json.specs.Find.{get, get_member}
-use Rattle.serde_json.specs.View.{items_of}
+use Rattle.std.proofs.Common.{◌≡◌, ℕ, ◌+◌, ◌≤◌, ◌<◌, List, [], ◌∷◌, map, Option, Some, None, Ordering, Less, Equal}
+use Rattle.std.proofs.Common.{Greater, nat_cmp, arith}
+use Rattle.std.specs.{Cmp.Lexicographic.slice_cmp, Ordering.match_ordering}
+use Rattle.serde_json.specs.Data.{Data, null, boolean, number, string, array, object, Members, no_members, member, put}
+use Rattle.serde_json.specs.{Data.{depth, items_depth, members_depth}, Find.{get, get_member}, View.items_of}
 use Rattle.cni_json.proofs.WholeNumbers.{found_member}
-use Rattle.cni_json.specs.Members.{list_data, put_if, put_text_unless_empty, put_list_unless_empty, put_object_unless_empty}
+use Rattle.cni_json.specs.Members.{list_data, put_if, put_text_unless_empty, put_list_unless_empty}
+use Rattle.cni_json.specs.Members.{put_object_unless_empty}
 
 -- ---- what is built
 

@@ -1,9 +1,8 @@
 -- Lists that are read by functions that are given a member's place alone, or nothing before it.
-use Rattle.std.proofs.Common.{◌≡◌, ℕ, ◌+◌, List, [], ◌∷◌, ◌++◌, length, Result, Ok, Err, refl, sym, ap, ◌∙◌, append_assoc, append-nil}
-use Rattle.std.proofs.lemmas.List.{length-append}
+use Rattle.std.proofs.Common.{◌≡◌, ℕ, ◌+◌, List, [], ◌∷◌, ◌++◌, length, Result, Ok, Err, refl, sym, ap, ◌∙◌}
+use Rattle.std.proofs.{Common.{append_assoc, append-nil}, lemmas.List.length-append}
 use Rattle.serde_json.specs.Data.{Data, Items, no_items, item}
-use Rattle.cni_json.specs.Each.{each, each_after, each_from, with_prefix}
-use Rattle.cni_json.specs.Outcome.{◌>>=◌}
+use Rattle.cni_json.specs.{Each.{each, each_after, each_from, with_prefix}, Outcome.◌>>=◌}
 
 -- one more in front
 pub with_prefix-more : {A E : Type 0} (front : List A) (x : A) (r : Result (List A) E) → with_prefix (front ++ x ∷ []) r ≡ with_prefix front (r >>= λ rest. Ok (x ∷ rest))

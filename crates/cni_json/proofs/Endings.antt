@@ -1,10 +1,9 @@
 -- What steps say of the value that they end with.
 use Rattle.std.proofs.Common.{◌≡◌, ℕ, ◌+◌, List, [], ◌∷◌, ◌++◌, Bool, true, false, Result, Ok, Err, refl, subst}
-use Rattle.std.specs.Prelude.{if◌then◌else◌, All}
 use Rattle.std.proofs.lemmas.List.Elements.{All-nil, All-cons}
+use Rattle.std.specs.Prelude.{if◌then◌else◌, All}
 use Rattle.serde_json.specs.Data.{Data, Items, no_items, item}
-use Rattle.cni_json.specs.Each.{each, each_after, each_from}
-use Rattle.cni_json.specs.Outcome.{◌>>=◌}
+use Rattle.cni_json.specs.{Each.{each, each_after, each_from}, Outcome.◌>>=◌}
 
 -- the first step ends with this value, and the next step goes on from it
 pub record Goes {A B E : Type 0} (r : Result A E) (next : A → Result B E) (b : B) : Type 0 where

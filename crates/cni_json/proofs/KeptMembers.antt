@@ -1,23 +1,17 @@
 -- The members whose keys pass a test: what is found among them, and what they keep of all.
-use Rattle.std.proofs.Common.{◌≡◌, ℕ, ◌≤◌, List, [], ◌∷◌, ◌++◌, Bool, true, false, Option, Some, None, Ordering, Less, Equal, Greater, string_bytes, string_cmp, nat_cmp, is_eq, refl, sym, ap, ◌∙◌, arith}
-use Rattle.std.specs.Prelude.{if◌then◌else◌}
-use Rattle.std.proofs.lemmas.Bool.{or_parts, or_from}
-use Rattle.std.proofs.lemmas.Cmp.{nat_list_cmp_total}
-use Rattle.std.proofs.lemmas.Map.Text.{is_eq-slice_cmp}
+use Rattle.std.proofs.Common.{◌≡◌, ℕ, ◌≤◌, List, [], ◌∷◌, ◌++◌, Bool, true, false, Option, Some, None, Ordering, Less}
+use Rattle.std.proofs.Common.{Equal, Greater, string_bytes, string_cmp, nat_cmp, is_eq, refl, sym, ap, ◌∙◌, arith}
+use Rattle.std.proofs.lemmas.{Bool.{or_parts, or_from}, Cmp.nat_list_cmp_total, Map.Text.is_eq-slice_cmp}
 use Rattle.std.proofs.lemmas.Slice.Eq.{bytes_eq-Decides}
-use Rattle.std.specs.Cmp.Lexicographic.{slice_cmp}
-use Rattle.std.specs.List.{AllByRecursion}
-use Rattle.std.specs.List.Sorted.{IsStrictlySortedBy}
-use Rattle.std.specs.Map.{keys_of}
-use Rattle.std.specs.Ordering.{match_ordering, ordering_reverse}
+use Rattle.std.specs.{Cmp.Lexicographic.slice_cmp, List.{AllByRecursion, Sorted.IsStrictlySortedBy}, Map.keys_of}
+use Rattle.std.specs.{Ordering.{match_ordering, ordering_reverse}, Prelude.if◌then◌else◌}
 use Rattle.serde_json.proofs.Views.{Entry}
-use Rattle.serde_json.specs.Data.{Data, null, boolean, number, string, array, object, Members, no_members, member, put, depth, members_depth}
-use Rattle.serde_json.specs.Find.{get, get_member}
-use Rattle.serde_json.specs.View.{view, members_view}
+use Rattle.serde_json.specs.Data.{Data, null, boolean, number, string, array, object, Members, no_members, member, put}
+use Rattle.serde_json.specs.{Data.{depth, members_depth}, Find.{get, get_member}, View.{view, members_view}}
 use Rattle.serde_json.specs.Written.{has_float, members_have_float}
 use Rattle.cni_json.proofs.Ascending.{IsBelow}
-use Rattle.cni_json.specs.Members.{members_in, members_where}
-use Rattle.cni_json.specs.WellFormed.{Everywhere, EverywhereInMembers, keys, AreAscending}
+use Rattle.cni_json.specs.{Members.{members_in, members_where}, WellFormed.{Everywhere, EverywhereInMembers, keys}}
+use Rattle.cni_json.specs.WellFormed.{AreAscending}
 
 -- ---- a look-up
 

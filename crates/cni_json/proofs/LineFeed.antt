@@ -1,17 +1,18 @@
 -- A line feed behind a text changes no reading. Each part of the grammar gives the same for both, or leaves the line
 -- feed behind what it leaves.
-use Rattle.std.proofs.Common.{◌≡◌, ℕ, suc, ◌+◌, ◌-◌, ◌≤◌, Bool, true, false, cond, ◌&&◌, ◌||◌, ◌==◌, List, [], ◌∷◌, ◌++◌, length, take, drop, Option, Some, None, option_map, option_and_then, nat_eq, nat_lt, IsUtf8, refl, sym, ap, ap₂, ◌∙◌, subst, arith, length-append}
-use Rattle.std.proofs.Math.Bool.{and-false}
-use Rattle.std.proofs.Math.Seq.{take-append_seam}
-use Rattle.std.proofs.lemmas.List.{take-append-le}
-use Rattle.std.proofs.lemmas.Str.{IsUtf8-from_is_utf8, is_utf8-from_IsUtf8, IsUtf8-append, IsUtf8-take, IsCharBoundary-at_seam}
-use Rattle.std.specs.List.{prefix_len, starts_with}
-use Rattle.std.specs.Char.{is_ascii_digit, encode_utf8}
-use Rattle.std.specs.Str.{is_utf8, chars}
-use Rattle.json.specs.Token.{Token, number, boolean, null, bad}
-use Rattle.json.specs.Word.{head, ends_word, after_digits, after_minus, after_sign, after_whole, after_fraction, after_exponent, after_number, number_before, literal, word}
-use Rattle.json.specs.Text.{Within, plain, after_backslash, after_u, after_high, code_unit, short_escape, content, prepend, is_high_surrogate, is_low_surrogate, surrogate_pair}
-use Rattle.json.specs.Lex.{Lexeme, Class, Mode, token, string_token, operator_lexeme, quote, backslash, operator, space, other, class, lex, lex_byte, between, in_word, in_string, in_escape, tokens, punctuate, fresh}
+use Rattle.std.proofs.Common.{◌≡◌, ℕ, suc, ◌+◌, ◌-◌, ◌≤◌, Bool, true, false, cond, ◌&&◌, ◌||◌, ◌==◌, List, [], ◌∷◌}
+use Rattle.std.proofs.Common.{◌++◌, length, take, drop, Option, Some, None, option_map, option_and_then, nat_eq, nat_lt}
+use Rattle.std.proofs.{Common.{IsUtf8, refl, sym, ap, ap₂, ◌∙◌, subst, arith, length-append}, Math.Bool.and-false}
+use Rattle.std.proofs.{Math.Seq.take-append_seam, lemmas.{List.take-append-le, Str.IsUtf8-from_is_utf8}}
+use Rattle.std.proofs.lemmas.Str.{is_utf8-from_IsUtf8, IsUtf8-append, IsUtf8-take, IsCharBoundary-at_seam}
+use Rattle.std.specs.{Char.{is_ascii_digit, encode_utf8}, List.{prefix_len, starts_with}, Str.{is_utf8, chars}}
+use Rattle.json.specs.Lex.{Lexeme, Class, Mode, token, string_token, operator_lexeme, quote, backslash, operator, space}
+use Rattle.json.specs.Lex.{other, class, lex, lex_byte, between, in_word, in_string, in_escape, tokens, punctuate}
+use Rattle.json.specs.{Lex.fresh, Text.{Within, plain, after_backslash, after_u, after_high, code_unit, short_escape}}
+use Rattle.json.specs.{Text.{content, prepend, is_high_surrogate, is_low_surrogate, surrogate_pair}, Token.Token}
+use Rattle.json.specs.{Token.{number, boolean, null, bad}, Word.{head, ends_word, after_digits, after_minus}}
+use Rattle.json.specs.Word.{after_sign, after_whole, after_fraction, after_exponent, after_number, number_before}
+use Rattle.json.specs.Word.{literal, word}
 use Rattle.json.specs.Json as json
 use Rattle.json.specs.Ascii as ascii
 use Rattle.serde_json.specs.Read.{read, of_json, max_depth}

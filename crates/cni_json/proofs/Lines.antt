@@ -1,33 +1,26 @@
 -- A line of well-formed data is read again as the data. The tokens of the line are those of the data's outline, and the
 -- outline converts back.
-use Rattle.std.proofs.Common.{◌≡◌, ℕ, suc, ◌≤◌, max, pos, negsuc, List, [], ◌∷◌, ◌++◌, Bool, true, false, Option, Some, option_map, option_and_then, Ok, Greater, nat_cmp, IsUtf8, refl, sym, ap, ap₂, ◌∙◌, subst, arith, append-nil, decimal}
-use Rattle.std.proofs.lemmas.Bool.{or_from}
-use Rattle.std.proofs.lemmas.Cmp.{nat_list_cmp_total}
-use Rattle.std.proofs.lemmas.Fmt.{IsAscii-decimal}
-use Rattle.std.proofs.lemmas.Str.{IsUtf8-append, IsUtf8-from_ascii}
-use Rattle.std.specs.Cmp.Lexicographic.{slice_cmp}
-use Rattle.std.specs.List.{AllByRecursion}
-use Rattle.std.specs.List.Sorted.{IsStrictlySortedBy}
+use Rattle.std.proofs.Common.{◌≡◌, ℕ, suc, ◌≤◌, max, pos, negsuc, List, [], ◌∷◌, ◌++◌, Bool, true, false, Option, Some}
+use Rattle.std.proofs.Common.{option_map, option_and_then, Ok, Greater, nat_cmp, IsUtf8, refl, sym, ap, ap₂, ◌∙◌, subst}
+use Rattle.std.proofs.{Common.{arith, append-nil, decimal}, lemmas.{Bool.or_from, Cmp.nat_list_cmp_total}}
+use Rattle.std.proofs.lemmas.{Fmt.IsAscii-decimal, Str.{IsUtf8-append, IsUtf8-from_ascii}}
+use Rattle.std.specs.{Cmp.Lexicographic.slice_cmp, List.{AllByRecursion, Sorted.IsStrictlySortedBy}}
 use Rattle.std.specs.Ordering.{ordering_reverse}
 use Rattle.json.specs.Json as json
-use Rattle.json.specs.Lex.{tokens}
-use Rattle.json.specs.Print.{quoted}
-use Rattle.json.specs.Token.{Token}
+use Rattle.json.specs.{Lex.tokens, Print.quoted, Token.Token}
 use Rattle.json.specs.Tree as tree
-use Rattle.json.proofs.Printed.Decimals.{IsNumber-decimal, IsNumber-signed_decimal}
-use Rattle.json.proofs.Printed.Tokens.{tokens-print}
-use Rattle.json.proofs.Printed.Trees.{ArePrintable-json_tokens, value-json_tokens}
-use Rattle.json.proofs.Printed.Utf8.{IsUtf8-are_ascii, IsUtf8-quoted, IsUtf8-boolean}
-use Rattle.serde_json.specs.Data.{Num, unsigned, negative, float, Data, null, boolean, number, string, array, object, Items, no_items, item, Members, no_members, member, put, depth, items_depth, members_depth}
-use Rattle.serde_json.specs.Read.{read, of_json, of_items, of_members, number_of, max_depth}
-use Rattle.serde_json.specs.Written.{number_text, outline, items_outline, members_outline, has_float, items_have_float, members_have_float, comma_if, compact_text, items_text, members_text}
-use Rattle.serde_json.proofs.Numbers.{number_of-decimal, number_of-negative}
-use Rattle.serde_json.proofs.Texts.{print-outline}
-use Rattle.cni_json.specs.Json.{json_of, line_of}
-use Rattle.cni_json.specs.WellFormed.{EverywhereInItems, EverywhereInMembers, keys, AreAscending, Has64Bits, IsProper, IsWellFormed}
-use Rattle.cni_json.proofs.Ascending.{IsBelow}
-use Rattle.cni_json.proofs.LineFeed.{json_of-line_feed}
-use Rattle.cni_json.proofs.ReadingLemmas.{json_of-whole}
+use Rattle.json.proofs.Printed.{Decimals.{IsNumber-decimal, IsNumber-signed_decimal}, Tokens.tokens-print}
+use Rattle.json.proofs.Printed.{Trees.{ArePrintable-json_tokens, value-json_tokens}, Utf8.IsUtf8-are_ascii}
+use Rattle.json.proofs.Printed.Utf8.{IsUtf8-quoted, IsUtf8-boolean}
+use Rattle.serde_json.specs.Data.{Num, unsigned, negative, float, Data, null, boolean, number, string, array, object}
+use Rattle.serde_json.specs.Data.{Items, no_items, item, Members, no_members, member, put, depth, items_depth}
+use Rattle.serde_json.specs.{Data.members_depth, Read.{read, of_json, of_items, of_members, number_of, max_depth}}
+use Rattle.serde_json.specs.Written.{number_text, outline, items_outline, members_outline, has_float, items_have_float}
+use Rattle.serde_json.specs.Written.{members_have_float, comma_if, compact_text, items_text, members_text}
+use Rattle.serde_json.proofs.{Numbers.{number_of-decimal, number_of-negative}, Texts.print-outline}
+use Rattle.cni_json.specs.{Json.{json_of, line_of}, WellFormed.{EverywhereInItems, EverywhereInMembers, keys}}
+use Rattle.cni_json.specs.WellFormed.{AreAscending, Has64Bits, IsProper, IsWellFormed}
+use Rattle.cni_json.proofs.{Ascending.IsBelow, LineFeed.json_of-line_feed, ReadingLemmas.json_of-whole}
 
 -- ---- numbers
 

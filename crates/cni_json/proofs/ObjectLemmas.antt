@@ -1,8 +1,7 @@
 -- Objects that are being built.
 use Rattle.std.proofs.Common.{◌≡◌, ℕ, List, [], ◌∷◌, length, refl}
 use Rattle.serde_json.proofs.Views.{Entry}
-use Rattle.serde_json.specs.Data.{object, Members, put}
-use Rattle.serde_json.specs.View.{members_view}
+use Rattle.serde_json.specs.{Data.{object, Members, put}, View.members_view}
 use Rattle.cni_json.specs.Members.{put_object_unless_empty}
 
 -- an object that has an entry isn't left out

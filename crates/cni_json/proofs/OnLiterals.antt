@@ -1,13 +1,9 @@
 -- Readings, fields and lines of literals compute under `unfolding cni_json_on_literals`.
 use Rattle.std.proofs.Common.{◌≡◌, codes, Ok, Err, refl}
-use Rattle.std.specs.Char.{encode_utf8}
-use Rattle.std.specs.Fmt.{digits}
-use Rattle.std.specs.Prelude.{⊤}
-use Rattle.std.specs.Str.{is_utf8, chars}
+use Rattle.std.specs.{Char.encode_utf8, Fmt.digits, Prelude.⊤, Str.{is_utf8, chars}}
 use Rattle.serde_json.specs.Data.{Data, object, array, number, unsigned, member, no_members, no_items}
 use Rattle.serde_json.proofs.OnLiterals.{serde_json_on_literals}
-use Rattle.cni_json.specs.Fields.{u64_field, text_field, list_field}
-use Rattle.cni_json.specs.Json.{reading, json_of, line_of}
+use Rattle.cni_json.specs.{Fields.{u64_field, text_field, list_field}, Json.{reading, json_of, line_of}}
 use Rattle.cni_json.specs.declared.fields.Field.TheVariants.{Absent, WrongKind, Here}
 use Rattle.cni_json.specs.declared.reading.ReadEnd.TheVariants.{Decode, Number}
 

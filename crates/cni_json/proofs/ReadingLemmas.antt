@@ -1,13 +1,10 @@
 -- What a read of bytes says of `json_of`.
 use Rattle.std.proofs.Common.{◌≡◌, ℕ, List, Bool, true, false, Some, None, Ok, Err, cond, refl, ap, ◌∙◌}
-use Rattle.std.specs.Prelude.{IsUtf8}
-use Rattle.std.specs.Str.{is_utf8}
 use Rattle.std.proofs.lemmas.Str.{IsUtf8-from_is_utf8, is_utf8-from_IsUtf8}
-use Rattle.serde_json.specs.Data.{Data}
-use Rattle.serde_json.specs.Read.{read}
-use Rattle.serde_json.specs.Written.{has_float}
-use Rattle.cni_json.specs.Json.{reading, whole_numbers, json_of}
-use Rattle.cni_json.specs.declared.reading.ReadEnd.TheVariants.{Decode, Number}
+use Rattle.std.specs.{Prelude.IsUtf8, Str.is_utf8}
+use Rattle.serde_json.specs.{Data.Data, Read.read, Written.has_float}
+use Rattle.cni_json.specs.{Json.{reading, whole_numbers, json_of}, declared.reading.ReadEnd.TheVariants.Decode}
+use Rattle.cni_json.specs.declared.reading.ReadEnd.TheVariants.{Number}
 
 -- a text is read as serde_json reads it
 pub reading-text : (bytes : List ℕ) → IsUtf8 bytes → reading bytes ≡ read bytes

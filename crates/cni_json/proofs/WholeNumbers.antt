@@ -1,16 +1,13 @@
 -- The parts of a value in which each number is a u64 or an i64: what `line` requires of a part.
-use Rattle.std.proofs.Common.{◌≡◌, ℕ, zero, suc, ◌<◌, List, [], ◌∷◌, length, get_or, Bool, true, false, Option, Some, None, Ordering, Less, Equal, Greater, nat_cmp, refl, subst, arith}
-use Rattle.std.specs.Prelude.{if◌then◌else◌}
-use Rattle.std.proofs.lemmas.Bool.{or_parts}
-use Rattle.std.specs.Cmp.Lexicographic.{slice_cmp}
-use Rattle.std.specs.Ordering.{match_ordering}
-use Rattle.serde_json.specs.Data.{Data, null, boolean, number, string, array, object, Items, Members, no_members, member, unsigned, negative, float}
-use Rattle.serde_json.specs.Find.{get, get_member, as_array}
-use Rattle.serde_json.specs.View.{view, items_view}
-use Rattle.serde_json.specs.Written.{has_float, items_have_float, members_have_float}
+use Rattle.std.proofs.Common.{◌≡◌, ℕ, zero, suc, ◌<◌, List, [], ◌∷◌, length, get_or, Bool, true, false, Option, Some}
+use Rattle.std.proofs.{Common.{None, Ordering, Less, Equal, Greater, nat_cmp, refl, subst, arith}, lemmas.Bool.or_parts}
+use Rattle.std.specs.{Cmp.Lexicographic.slice_cmp, Ordering.match_ordering, Prelude.if◌then◌else◌}
+use Rattle.serde_json.specs.Data.{Data, null, boolean, number, string, array, object, Items, Members, no_members}
+use Rattle.serde_json.specs.{Data.{member, unsigned, negative, float}, Find.{get, get_member, as_array}, View.view}
+use Rattle.serde_json.specs.{View.items_view, Written.{has_float, items_have_float, members_have_float}}
 use Rattle.serde_json.specs.declared.value.Value.{Value}
-use Rattle.cni_json.specs.Fields.{unless_null, member_at, list_field, object_field, object_of, field_of, of_kind, has_32_bits, in_32_bits, u32_of}
-use Rattle.cni_json.specs.declared.fields.Field.TheVariants.{Here}
+use Rattle.cni_json.specs.Fields.{unless_null, member_at, list_field, object_field, object_of, field_of, of_kind}
+use Rattle.cni_json.specs.{Fields.{has_32_bits, in_32_bits, u32_of}, declared.fields.Field.TheVariants.Here}
 
 -- what holds of each value that is looked among holds of the one that is found
 pub found_member : (P : Data → Type 0) (o : Ordering) (x y : Option Data) (e v : Data) → match_ordering o x (Some e) y ≡ Some v → (x ≡ Some v → P v) → (y ≡ Some v → P v) → P e → P v

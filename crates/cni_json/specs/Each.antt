@@ -1,9 +1,7 @@
 -- Lists of members, each read up to the first error.
 use Rattle.std.specs.Prelude.{ℕ, ◌+◌, List, [], ◌∷◌, ◌++◌, Result, Ok}
 use Rattle.serde_json.specs.Data.{Data, Items, no_items, item}
-use Rattle.cni_json.specs.Fields.{member_or}
-use Rattle.cni_json.specs.Outcome.{◌>>=◌}
-use Rattle.cni_json.specs.declared.fields.Field.{Field}
+use Rattle.cni_json.specs.{Fields.member_or, Outcome.◌>>=◌, declared.fields.Field.Field}
 
 -- each member is read
 abbrev pub each : {A E : Type 0} → (Data → Result A E) → Items → Result (List A) E

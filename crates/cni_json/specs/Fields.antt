@@ -1,9 +1,9 @@
 -- A member of an object, by the kind that is wanted.
-use Rattle.std.specs.Prelude.{ℕ, ◌^◌, List, Bool, nat_lt, if◌then◌else◌, Result, Ok, Option, Some, None, option_and_then, ⊤}
-use Rattle.serde_json.specs.Data.{Data, null, object, Items}
-use Rattle.serde_json.specs.Find.{get, as_str, as_bool, as_number, as_u64, as_array, as_object}
-use Rattle.cni_json.specs.declared.fields.Field.{Field}
-use Rattle.cni_json.specs.declared.fields.Field.TheVariants.{Absent, WrongKind, Here}
+use Rattle.std.specs.Prelude.{ℕ, ◌^◌, List, Bool, nat_lt, if◌then◌else◌, Result, Ok, Option, Some, None}
+use Rattle.std.specs.Prelude.{option_and_then, ⊤}
+use Rattle.serde_json.specs.{Data.{Data, null, object, Items}, Find.{get, as_str, as_bool, as_number, as_u64, as_array}}
+use Rattle.serde_json.specs.Find.{as_object}
+use Rattle.cni_json.specs.declared.fields.Field.{Field, TheVariants.{Absent, WrongKind, Here}}
 
 -- the field with its value under f
 abbrev pub field_map : {A B : Type 0} → (A → B) → Field A → Field B

@@ -1,11 +1,7 @@
 -- Which value the bytes of a JSON text are, and the line that a value is written as.
-use Rattle.std.specs.Prelude.{ℕ, List, [], ◌∷◌, ◌++◌, if◌then◌else◌, Option, Some, None, Result, Ok, Err}
-use Rattle.std.specs.Str.{is_utf8}
-use Rattle.serde_json.specs.Data.{Data}
-use Rattle.serde_json.specs.Read.{read}
-use Rattle.serde_json.specs.Written.{has_float, compact_text}
-use Rattle.cni_json.specs.declared.reading.ReadEnd.{ReadEnd}
-use Rattle.cni_json.specs.declared.reading.ReadEnd.TheVariants.{Decode, Number}
+use Rattle.std.specs.{Prelude.{ℕ, List, [], ◌∷◌, ◌++◌, if◌then◌else◌, Option, Some, None, Result, Ok, Err}, Str.is_utf8}
+use Rattle.serde_json.specs.{Data.Data, Read.read, Written.{has_float, compact_text}}
+use Rattle.cni_json.specs.declared.reading.ReadEnd.{ReadEnd, TheVariants.{Decode, Number}}
 
 -- the reading by serde_json, where the bytes are UTF-8 (RFC 8259, section 8.1)
 unfoldable pub reading : List ℕ → Option Data

@@ -1,9 +1,7 @@
 -- Laws over the definitions of reading and writing.
 use Rattle.std.specs.Prelude.{◌≡◌, ℕ, ◌≤◌, List, [], ◌∷◌, ◌++◌, Ok}
-use Rattle.serde_json.specs.Data.{Data, depth}
-use Rattle.serde_json.specs.Read.{max_depth}
-use Rattle.cni_json.specs.Json.{json_of, line_of}
-use Rattle.cni_json.specs.WellFormed.{IsWellFormed, KeysAscend}
+use Rattle.serde_json.specs.{Data.{Data, depth}, Read.max_depth}
+use Rattle.cni_json.specs.{Json.{json_of, line_of}, WellFormed.{IsWellFormed, KeysAscend}}
 
 -- what a line was written for is what it is read as
 abbrev pub LinesAreReadAgain : Type 0

@@ -1,11 +1,8 @@
 -- JSON objects as they are printed: a member that is absent is left out, and keys stand in byte order.
 use Rattle.std.specs.Prelude.{ℕ, List, [], ◌∷◌, Bool, true, if◌then◌else◌, Option, Some, None, map}
-use Rattle.serde_json.specs.Data.{Data, boolean, number, string, array, object, unsigned, Members, no_members, member, put}
-use Rattle.serde_json.specs.View.{items_of, members_view}
-use Rattle.cni_addr.specs.AddrText.{addr_text}
-use Rattle.cni_addr.specs.CidrText.{cidr_text}
-use Rattle.cni_addr.specs.MacText.{mac_text}
-use Rattle.cni_addr.specs.Value.{AddrValue, CidrValue}
+use Rattle.serde_json.specs.Data.{Data, boolean, number, string, array, object, unsigned, Members, no_members, member}
+use Rattle.serde_json.specs.{Data.put, View.{items_of, members_view}}
+use Rattle.cni_addr.specs.{AddrText.addr_text, CidrText.cidr_text, MacText.mac_text, Value.{AddrValue, CidrValue}}
 use Rattle.cni_addr.specs.declared.mac.Mac.{Mac}
 use Rattle.cni_json.specs.declared.members.JsonObject.{JsonObject}
 

@@ -1,7 +1,6 @@
 -- The refusals of a read.
 use Rattle.std.specs.Prelude.{Bool, true, false}
-use Rattle.cni_json.specs.declared.reading.ReadEnd.{ReadEnd}
-use Rattle.cni_json.specs.declared.reading.ReadEnd.TheVariants.{Decode, Number, NoMemory}
+use Rattle.cni_json.specs.declared.reading.ReadEnd.{ReadEnd, TheVariants.{Decode, Number, NoMemory}}
 
 -- the refusal says that memory ran out
 abbrev pub is_out_of_memory : ReadEnd → Bool

@@ -1,9 +1,6 @@
 -- Functions that read one member, test a key or make a refusal, as what their calls give.
-use Rattle.std.specs.Prelude.{◌≡◌, ℕ, List, Bool, Result, All}
-use Rattle.std.specs.Fn.{Once, Shared}
-use Rattle.serde_json.specs.Data.{Data}
-use Rattle.serde_json.specs.View.{view}
-use Rattle.serde_json.specs.declared.value.Value.{Value}
+use Rattle.std.specs.{Fn.{Once, Shared}, Prelude.{◌≡◌, ℕ, List, Bool, Result, All}}
+use Rattle.serde_json.specs.{Data.Data, View.view, declared.value.Value.Value}
 use Rattle.cni_json.specs.Outcome.{Gives, TellsAs}
 use denote.Ref.{Bor}
 

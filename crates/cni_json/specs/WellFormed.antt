@@ -1,10 +1,8 @@
 -- Which data a value can be: what a line of it needs to be read again.
+use Rattle.std.specs.{Cmp.Lexicographic.slice_cmp, List.{AllByRecursion, Sorted.IsStrictlySortedBy}, Ordering.nat_cmp}
 use Rattle.std.specs.Prelude.{ℕ, ◌^◌, ◌<◌, pos, negsuc, List, [], ◌∷◌, IsUtf8, ⊤}
-use Rattle.std.specs.List.{AllByRecursion}
-use Rattle.std.specs.Ordering.{nat_cmp}
-use Rattle.std.specs.Cmp.Lexicographic.{slice_cmp}
-use Rattle.std.specs.List.Sorted.{IsStrictlySortedBy}
-use Rattle.serde_json.specs.Data.{Num, unsigned, negative, float, Data, null, boolean, number, string, array, object, Items, no_items, item, Members, no_members, member}
+use Rattle.serde_json.specs.Data.{Num, unsigned, negative, float, Data, null, boolean, number, string, array, object}
+use Rattle.serde_json.specs.Data.{Items, no_items, item, Members, no_members, member}
 
 -- P holds of the value, and of each value in it, in its items and in its members
 abbrev mutual

@@ -2,15 +2,12 @@
 use Rattle.std.proofs.Common.{ℕ, ◌≤◌, List, arith, rules}
 use Rattle.std.specs.Prelude.{codes}
 use Rattle.serde_json.specs.Data.{no_members, depth, members_depth}
-use Rattle.cni_json.proofs.Depths.{members_depth-put, members_depth-put_if, members_depth-put_text, depth-list, members_depth-put_list, members_depth-put_object, depth-object}
+use Rattle.cni_json.proofs.Depths.{members_depth-put, members_depth-put_if, members_depth-put_text, depth-list}
+use Rattle.cni_json.proofs.Depths.{members_depth-put_list, members_depth-put_object, depth-object}
 use Rattle.cni_json.specs.Members.{text_data, list_data}
-use Rattle.cni_result.specs.Results.{version_data, interface_data, ip_data, route_data, dns_members, result_members, result_data}
-use Rattle.cni_result.specs.declared.result.AddResult.{AddResult}
-use Rattle.cni_result.specs.declared.result.Dns.{Dns}
-use Rattle.cni_result.specs.declared.result.Interface.{Interface}
-use Rattle.cni_result.specs.declared.result.IpEntry.{IpEntry}
-use Rattle.cni_result.specs.declared.result.RouteEntry.{RouteEntry}
-use Rattle.cni_result.specs.declared.version.Version.{Version}
+use Rattle.cni_result.specs.Results.{version_data, interface_data, ip_data, route_data, dns_members, result_members}
+use Rattle.cni_result.specs.{Results.result_data, declared.result.{AddResult.AddResult, Dns.Dns, Interface.Interface}}
+use Rattle.cni_result.specs.declared.{result.{IpEntry.IpEntry, RouteEntry.RouteEntry}, version.Version.Version}
 
 interface_depth : (version : Version) (i : Interface) → depth (interface_data version i) ≤ 1
 unfolding interface_data

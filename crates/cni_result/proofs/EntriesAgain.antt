@@ -1,34 +1,26 @@
 -- The entries of a result that were printed are read again.
 use Rattle.std.proofs.Common.{◌≡◌, ℕ, ◌^◌, ◌<◌, List, Option, Some, None, Ok, refl, ap, ◌∙◌}
-use Rattle.std.specs.Prelude.{codes, IfSome}
 use Rattle.std.proofs.lemmas.Slice.Eq.{bytes_eq-Decides}
+use Rattle.std.specs.Prelude.{codes, IfSome}
 use Rattle.serde_json.proofs.Views.{get_member-put}
-use Rattle.serde_json.specs.Data.{object, Members, no_members, put}
-use Rattle.serde_json.specs.Find.{as_str}
-use Rattle.cni_addr.proofs.AddrTexts.{spelled_is_read, written_is_spelled}
-use Rattle.cni_addr.proofs.CidrTexts.{network_spelled_is_read, network_written_is_spelled}
-use Rattle.cni_addr.proofs.MacTexts.{mac_spelled_is_read, mac_written_is_spelled}
-use Rattle.cni_addr.specs.AddrText.{addr_text, addr_of_text}
-use Rattle.cni_addr.specs.CidrText.{cidr_text, cidr_of_text}
-use Rattle.cni_addr.specs.MacText.{mac_text, mac_of_text, IsMac}
-use Rattle.cni_addr.specs.Network.{IsCidr}
-use Rattle.cni_addr.specs.Value.{AddrValue, CidrValue, IsAddr}
+use Rattle.serde_json.specs.{Data.{object, Members, no_members, put}, Find.as_str}
+use Rattle.cni_addr.proofs.{AddrTexts.{spelled_is_read, written_is_spelled}, CidrTexts.network_spelled_is_read}
+use Rattle.cni_addr.proofs.{CidrTexts.network_written_is_spelled, MacTexts.mac_spelled_is_read}
+use Rattle.cni_addr.proofs.MacTexts.{mac_written_is_spelled}
+use Rattle.cni_addr.specs.{AddrText.{addr_text, addr_of_text}, CidrText.{cidr_text, cidr_of_text}, MacText.mac_text}
+use Rattle.cni_addr.specs.{MacText.{mac_of_text, IsMac}, Network.IsCidr, Value.{AddrValue, CidrValue, IsAddr}}
 use Rattle.cni_addr.specs.declared.mac.Mac.{Mac}
-use Rattle.cni_json.specs.Fields.{field_of, u32_of, needed}
-use Rattle.cni_result.proofs.Lookups.{at_other, at_other_if, at_key_if}
-use Rattle.cni_result.proofs.ReadAgain.{cidr_again, optional_again, number_again}
-use Rattle.cni_result.specs.Fields.{optional}
-use Rattle.cni_result.specs.Laws.{IsInterfaceOf, IsIpEntry, IsRouteEntry}
-use Rattle.cni_json.specs.Members.{text_data, number_data, addr_data, cidr_data, mac_data, ◌▷◌, put_if}
-use Rattle.cni_result.specs.Reading.{text_at, text_if_at, cidr_of, cidr_at, addr_if_at, mac_if_at, number_if_at, mtu_if_at, interface_at, ip_version_of, ip_version_at, ip_at, route_at}
-use Rattle.cni_result.specs.Refusals.{invalid}
-use Rattle.cni_result.specs.Results.{interface_data, ip_data, route_data}
-use Rattle.cni_result.specs.Versions.{ip_version_before_1_0, mtu_since_1_1}
-use Rattle.cni_result.specs.declared.result.Interface.{Interface}
-use Rattle.cni_result.specs.declared.result.IpEntry.{IpEntry}
-use Rattle.cni_result.specs.declared.result.RouteEntry.{RouteEntry}
-use Rattle.cni_result.specs.declared.version.Version.{Version}
-use Rattle.cni_result.specs.declared.version.Version.TheVariants.{V0_4, V1_0, V1_1}
+use Rattle.cni_json.specs.{Fields.{field_of, u32_of, needed}, Members.{text_data, number_data, addr_data, cidr_data}}
+use Rattle.cni_json.specs.Members.{mac_data, ◌▷◌, put_if}
+use Rattle.cni_result.proofs.{Lookups.{at_other, at_other_if, at_key_if}, ReadAgain.{cidr_again, optional_again}}
+use Rattle.cni_result.proofs.ReadAgain.{number_again}
+use Rattle.cni_result.specs.{Fields.optional, Laws.{IsInterfaceOf, IsIpEntry, IsRouteEntry}, Reading.text_at}
+use Rattle.cni_result.specs.Reading.{text_if_at, cidr_of, cidr_at, addr_if_at, mac_if_at, number_if_at, mtu_if_at}
+use Rattle.cni_result.specs.{Reading.{interface_at, ip_version_of, ip_version_at, ip_at, route_at}, Refusals.invalid}
+use Rattle.cni_result.specs.{Results.{interface_data, ip_data, route_data}, Versions.ip_version_before_1_0}
+use Rattle.cni_result.specs.{Versions.mtu_since_1_1, declared.result.{Interface.Interface, IpEntry.IpEntry}}
+use Rattle.cni_result.specs.declared.{result.RouteEntry.RouteEntry, version.Version.{Version, TheVariants.{V0_4, V1_0}}}
+use Rattle.cni_result.specs.declared.version.Version.TheVariants.{V1_1}
 
 -- ---- addresses
 

@@ -1,11 +1,10 @@
 -- What is found in an object at a key, by how the object was built.
 use Rattle.std.proofs.Common.{◌≡◌, ℕ, List, [], ◌∷◌, false, Option, Some, None, option_map, bytes_eq, refl, sym, ◌∙◌}
-use Rattle.std.proofs.lemmas.Bool.{true≢false}
-use Rattle.std.proofs.lemmas.Slice.Eq.{bytes_eq-Decides}
+use Rattle.std.proofs.lemmas.{Bool.true≢false, Slice.Eq.bytes_eq-Decides}
 use Rattle.serde_json.proofs.Views.{get_member-put, get_member-put_other}
-use Rattle.serde_json.specs.Data.{Data, string, object, Members, no_members, member, put}
-use Rattle.serde_json.specs.Find.{get_member}
-use Rattle.cni_json.specs.Members.{list_data, put_if, put_text_unless_empty, put_list_unless_empty, put_object_unless_empty}
+use Rattle.serde_json.specs.{Data.{Data, string, object, Members, no_members, member, put}, Find.get_member}
+use Rattle.cni_json.specs.Members.{list_data, put_if, put_text_unless_empty, put_list_unless_empty}
+use Rattle.cni_json.specs.Members.{put_object_unless_empty}
 
 -- ---- at another key
 

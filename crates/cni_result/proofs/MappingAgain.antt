@@ -2,19 +2,13 @@
 use Rattle.std.proofs.Common.{◌≡◌, ℕ, ◌^◌, ◌<◌, Option, Some, None, option_map, refl, ap, ◌∙◌, rules}
 use Rattle.std.specs.Prelude.{codes, IfSome}
 use Rattle.serde_json.proofs.Views.{get_member-put}
-use Rattle.serde_json.specs.Data.{Members, no_members, put}
-use Rattle.serde_json.specs.Find.{as_str}
-use Rattle.cni_addr.specs.AddrText.{addr_text, addr_of_text}
-use Rattle.cni_addr.specs.Value.{AddrValue, IsAddr}
-use Rattle.cni_json.specs.Fields.{field_of, u64_of}
-use Rattle.cni_json.specs.Members.{number_data, addr_data, ◌▷◌, put_if}
-use Rattle.cni_result.proofs.EntriesAgain.{addr_if_read}
-use Rattle.cni_result.proofs.Lookups.{at_other, at_other_if, at_key_if}
-use Rattle.cni_result.specs.Laws.{IsMapping}
-use Rattle.cni_result.specs.Mappings.{proto_data, mapping_data, port_of, port_at, host_ip_of, host_ip_at, protocol_of, protocol_at, mapping_at}
-use Rattle.cni_result.specs.declared.cached.PortMapping.{PortMapping}
-use Rattle.cni_result.specs.declared.cached.Proto.{Proto}
-use Rattle.cni_result.specs.declared.cached.Proto.TheVariants.{Tcp, Udp, Sctp}
+use Rattle.serde_json.specs.{Data.{Members, no_members, put}, Find.as_str}
+use Rattle.cni_addr.specs.{AddrText.{addr_text, addr_of_text}, Value.{AddrValue, IsAddr}}
+use Rattle.cni_json.specs.{Fields.{field_of, u64_of}, Members.{number_data, addr_data, ◌▷◌, put_if}}
+use Rattle.cni_result.proofs.{EntriesAgain.addr_if_read, Lookups.{at_other, at_other_if, at_key_if}}
+use Rattle.cni_result.specs.{Laws.IsMapping, Mappings.{proto_data, mapping_data, port_of, port_at, host_ip_of}}
+use Rattle.cni_result.specs.Mappings.{host_ip_at, protocol_of, protocol_at, mapping_at}
+use Rattle.cni_result.specs.declared.cached.{PortMapping.PortMapping, Proto.{Proto, TheVariants.{Tcp, Udp, Sctp}}}
 
 -- its members up to one
 abbrev up_to_container_port : PortMapping → Members

@@ -1,23 +1,13 @@
 -- What was printed of a member is read again.
 use Rattle.std.proofs.Common.{◌≡◌, ℕ, ◌^◌, ◌<◌, List, [], ◌∷◌, Option, Some, None, option_map, Ok, refl, rules}
-use Rattle.std.specs.Prelude.{IfSome}
-use Rattle.std.specs.List.{AllByRecursion}
-use Rattle.serde_json.specs.Data.{Data, array, Members, no_members, member}
-use Rattle.serde_json.specs.Data.{object}
-use Rattle.serde_json.specs.Find.{as_str, as_array}
+use Rattle.std.specs.{List.AllByRecursion, Prelude.{IfSome, map, Result}}
+use Rattle.serde_json.specs.{Data.{Data, array, Members, no_members, member, object}, Find.{as_str, as_array}}
 use Rattle.serde_json.specs.View.{items_of}
-use Rattle.std.specs.Prelude.{map, Result}
-use Rattle.cni_json.specs.Fields.{field_of, u32_of, object_of}
+use Rattle.cni_json.specs.{Each.each, Fields.{field_of, u32_of, object_of}, Members.{text_data, number_data}}
 use Rattle.cni_result.proofs.Lookups.{text_member, list_member, object_member}
-use Rattle.cni_result.specs.Fields.{optional, list_of}
-use Rattle.cni_json.specs.Each.{each}
-use Rattle.cni_addr.specs.CidrText.{cidr_of_text}
-use Rattle.cni_addr.specs.Value.{CidrValue}
-use Rattle.cni_result.specs.Reading.{cidr_of}
-use Rattle.cni_json.specs.Members.{text_data, number_data}
-use Rattle.cni_result.specs.Dns.{domain_of, dns_of, texts_at, domain_at, dns_members_at}
-use Rattle.cni_result.specs.declared.refusal.ResultError.{ResultError}
-use Rattle.cni_result.specs.declared.result.Dns.{Dns}
+use Rattle.cni_result.specs.{Dns.{domain_of, dns_of, texts_at, domain_at, dns_members_at}, Fields.{optional, list_of}}
+use Rattle.cni_result.specs.{Reading.cidr_of, declared.{refusal.ResultError.ResultError, result.Dns.Dns}}
+use Rattle.cni_addr.specs.{CidrText.cidr_of_text, Value.CidrValue}
 
 -- a network that must be there
 pub cidr_again : (blamed : List ℕ) (text : List ℕ) (c : CidrValue) → cidr_of_text text ≡ Some c → cidr_of blamed (field_of as_str (Some (text_data text))) ≡ Ok c

@@ -1,29 +1,24 @@
 -- A result that was printed is read again.
 use Rattle.std.proofs.Common.{◌≡◌, ℕ, ◌≤◌, List, [], ◌∷◌, Some, Ok, length, refl, ap, ◌∙◌, arith}
-use Rattle.std.specs.Prelude.{codes}
-use Rattle.std.specs.List.{AllByRecursion}
+use Rattle.std.specs.{List.AllByRecursion, Prelude.codes}
 use Rattle.serde_json.proofs.Views.{get_member-put}
-use Rattle.serde_json.specs.Data.{Data, object, Members, no_members, put, depth}
-use Rattle.serde_json.specs.Find.{as_str, as_array}
+use Rattle.serde_json.specs.{Data.{Data, object, Members, no_members, put, depth}, Find.{as_str, as_array}}
 use Rattle.serde_json.specs.Read.{max_depth}
-use Rattle.cni_json.specs.Json.{json_of}
-use Rattle.cni_json.specs.Fields.{field_of, object_of}
-use Rattle.cni_result.proofs.Depths.{result_depth}
-use Rattle.cni_result.proofs.EntriesAgain.{interface_again, ip_again, route_again}
-use Rattle.cni_result.proofs.Lookups.{at_other, at_other_text, at_other_list, at_other_object, at_key_text, at_key_list, at_key_object, list_member}
-use Rattle.cni_result.proofs.ReadAgain.{each_again, list_again, list_if_again, domain_again, dns_again, everywhere, each_of}
-use Rattle.cni_result.specs.Dns.{text_of, texts_of, texts_at, domain_of, domain_at, dns_members_at, dns_of, dns_of_object}
-use Rattle.cni_result.specs.Fields.{list_of, list_at}
-use Rattle.cni_result.specs.Laws.{IsInterfaceOf, IsIpEntry, IsRouteEntry, IsReadable}
-use Rattle.cni_json.specs.Members.{text_data, list_data, ◌▷◌, put_text_unless_empty, put_list_unless_empty, put_object_unless_empty}
-use Rattle.cni_result.specs.Reading.{version_of, version_at, interface_at, interfaces_at, ip_at, ips_at, route_at, routes_at, indexes_at, result_at, result_of_bytes}
-use Rattle.cni_result.specs.Results.{version_data, interface_data, ip_data, route_data, dns_members, result_members, result_data}
-use Rattle.cni_result.specs.declared.refusal.ResultError.{ResultError}
+use Rattle.cni_json.specs.{Fields.{field_of, object_of}, Json.json_of, Members.{text_data, list_data, ◌▷◌}}
+use Rattle.cni_json.specs.Members.{put_text_unless_empty, put_list_unless_empty, put_object_unless_empty}
+use Rattle.cni_result.proofs.{Depths.result_depth, EntriesAgain.{interface_again, ip_again, route_again}}
+use Rattle.cni_result.proofs.Lookups.{at_other, at_other_text, at_other_list, at_other_object, at_key_text, at_key_list}
+use Rattle.cni_result.proofs.{Lookups.{at_key_object, list_member}, ReadAgain.{each_again, list_again, list_if_again}}
+use Rattle.cni_result.proofs.ReadAgain.{domain_again, dns_again, everywhere, each_of}
+use Rattle.cni_result.specs.Dns.{text_of, texts_of, texts_at, domain_of, domain_at, dns_members_at, dns_of}
+use Rattle.cni_result.specs.{Dns.dns_of_object, Fields.{list_of, list_at}, Laws.{IsInterfaceOf, IsIpEntry}}
+use Rattle.cni_result.specs.{Laws.{IsRouteEntry, IsReadable}, Reading.{version_of, version_at, interface_at}}
+use Rattle.cni_result.specs.Reading.{interfaces_at, ip_at, ips_at, route_at, routes_at, indexes_at, result_at}
+use Rattle.cni_result.specs.{Reading.result_of_bytes, Results.{version_data, interface_data, ip_data, route_data}}
+use Rattle.cni_result.specs.Results.{dns_members, result_members, result_data}
+use Rattle.cni_result.specs.declared.{refusal.ResultError.ResultError, result.{AddResult.AddResult, Dns.Dns}}
+use Rattle.cni_result.specs.declared.version.Version.{Version, TheVariants.{V0_4, V1_0, V1_1}}
 use Rattle.cni_result.specs.declared.refusal.ResultError.TheVariants as refusal
-use Rattle.cni_result.specs.declared.result.AddResult.{AddResult}
-use Rattle.cni_result.specs.declared.result.Dns.{Dns}
-use Rattle.cni_result.specs.declared.version.Version.{Version}
-use Rattle.cni_result.specs.declared.version.Version.TheVariants.{V0_4, V1_0, V1_1}
 
 -- ---- name resolution
 

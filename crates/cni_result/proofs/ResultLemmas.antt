@@ -2,15 +2,10 @@
 use Rattle.std.proofs.Common.{◌≡◌, false}
 use Rattle.serde_json.specs.Written.{has_float, members_have_float}
 use Rattle.cni_result.proofs.WholeNumbers.{puts_are_whole}
-use Rattle.cni_result.specs.Mappings.{mapping_data}
-use Rattle.cni_result.specs.Results.{interface_data, ip_data, route_data, dns_members, result_members, error_data}
-use Rattle.cni_result.specs.declared.cached.PortMapping.{PortMapping}
-use Rattle.cni_result.specs.declared.error.CniError.{CniError}
-use Rattle.cni_result.specs.declared.result.AddResult.{AddResult}
-use Rattle.cni_result.specs.declared.result.Dns.{Dns}
-use Rattle.cni_result.specs.declared.result.Interface.{Interface}
-use Rattle.cni_result.specs.declared.result.IpEntry.{IpEntry}
-use Rattle.cni_result.specs.declared.result.RouteEntry.{RouteEntry}
+use Rattle.cni_result.specs.{Mappings.mapping_data, Results.{interface_data, ip_data, route_data, dns_members}}
+use Rattle.cni_result.specs.{Results.{result_members, error_data}, declared.cached.PortMapping.PortMapping}
+use Rattle.cni_result.specs.declared.{error.CniError.CniError, result.{AddResult.AddResult, Dns.Dns}}
+use Rattle.cni_result.specs.declared.result.{Interface.Interface, IpEntry.IpEntry, RouteEntry.RouteEntry}
 use Rattle.cni_result.specs.declared.version.Version.{Version}
 
 pub interface_is_whole : (version : Version) (i : Interface) → has_float (interface_data version i) ≡ false

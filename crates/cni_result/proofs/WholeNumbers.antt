@@ -1,10 +1,10 @@
 -- What is printed has no number outside u64 and i64: what `line` of `cni_json` asks for.
 use Rattle.std.proofs.Common.{◌≡◌, ℕ, List, [], ◌∷◌, map, Bool, true, false, Option, Some, None, refl}
-use Rattle.serde_json.specs.Data.{Data, object, Members, no_members, member}
-use Rattle.serde_json.specs.View.{items_of}
-use Rattle.serde_json.specs.Written.{has_float, items_have_float, members_have_float}
+use Rattle.serde_json.specs.{Data.{Data, object, Members, no_members, member}, View.items_of, Written.has_float}
+use Rattle.serde_json.specs.Written.{items_have_float, members_have_float}
 use Rattle.cni_json.proofs.Building.{members_have_float-put}
-use Rattle.cni_json.specs.Members.{put_if, put_if_true, put_text_unless_empty, put_list_unless_empty, put_object_unless_empty}
+use Rattle.cni_json.specs.Members.{put_if, put_if_true, put_text_unless_empty, put_list_unless_empty}
+use Rattle.cni_json.specs.Members.{put_object_unless_empty}
 
 pub items_are_whole : {A : Type 0} (f : A → Data) (xs : List A) → ((x : A) → has_float (f x) ≡ false) → items_have_float (items_of (map f xs)) ≡ false
 items_are_whole f [] each = refl

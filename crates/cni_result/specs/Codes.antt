@@ -1,7 +1,6 @@
 -- Protocols by number, and when two are the same.
 use Rattle.std.specs.Prelude.{ℕ, Bool, ◌==◌}
-use Rattle.cni_result.specs.declared.cached.Proto.{Proto}
-use Rattle.cni_result.specs.declared.cached.Proto.TheVariants.{Tcp, Udp, Sctp}
+use Rattle.cni_result.specs.declared.cached.Proto.{Proto, TheVariants.{Tcp, Udp, Sctp}}
 
 abbrev pub proto_code : Proto → ℕ
 proto_code Tcp = 0

@@ -2,9 +2,7 @@
 -- sections 1 and 5). A member that is null is as an absent one, and unnamed members are ignored.
 use Rattle.std.specs.Prelude.{ℕ, List, [], codes, Result, Ok, Err}
 use Rattle.serde_json.specs.Data.{Data, string, Items}
-use Rattle.cni_json.specs.Each.{list_or}
-use Rattle.cni_json.specs.Fields.{text_field, list_field, object_field, member_or}
-use Rattle.cni_json.specs.Outcome.{◌>>=◌}
+use Rattle.cni_json.specs.{Each.list_or, Fields.{text_field, list_field, object_field, member_or}, Outcome.◌>>=◌}
 use Rattle.cni_json.specs.declared.fields.Field.{Field}
 use Rattle.cni_result.specs.declared.result.Dns.{Dns}
 

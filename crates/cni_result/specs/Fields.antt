@@ -1,12 +1,8 @@
 -- Members of an object that is read, each with the key that is to blame where it is wrong.
 use Rattle.std.specs.Prelude.{ℕ, List, Option, Some, None, Result, Ok, ok_or}
 use Rattle.serde_json.specs.Data.{Data, Items}
-use Rattle.cni_json.specs.Each.{list_or}
-use Rattle.cni_json.specs.Fields.{list_field, member_or}
-use Rattle.cni_json.specs.Outcome.{◌>>=◌}
-use Rattle.cni_json.specs.declared.fields.Field.{Field}
-use Rattle.cni_result.specs.Refusals.{invalid}
-use Rattle.cni_result.specs.declared.refusal.ResultError.{ResultError}
+use Rattle.cni_json.specs.{Each.list_or, Fields.{list_field, member_or}, Outcome.◌>>=◌, declared.fields.Field.Field}
+use Rattle.cni_result.specs.{Refusals.invalid, declared.refusal.ResultError.ResultError}
 use Rattle.cni_result.specs.declared.refusal.ResultError.TheVariants as refusal
 
 -- the value that was read of a member that is there

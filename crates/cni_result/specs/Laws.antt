@@ -1,19 +1,10 @@
 -- When a result or a port mapping that was printed is read again as the same.
-use Rattle.std.specs.Prelude.{◌≡◌, ◌^◌, ◌<◌, length, true, IfSome, Some, Ok}
-use Rattle.std.specs.List.{AllByRecursion}
-use Rattle.cni_addr.specs.MacText.{IsMac}
-use Rattle.cni_addr.specs.Network.{IsCidr}
-use Rattle.cni_addr.specs.Value.{IsAddr}
-use Rattle.cni_result.specs.Mappings.{mapping_data, mapping_at}
-use Rattle.cni_result.specs.Reading.{are_on, result_at}
-use Rattle.cni_result.specs.Results.{result_data}
-use Rattle.cni_result.specs.Versions.{mtu_since_1_1}
-use Rattle.cni_result.specs.declared.cached.PortMapping.{PortMapping}
-use Rattle.cni_result.specs.declared.result.AddResult.{AddResult}
-use Rattle.cni_result.specs.declared.result.Interface.{Interface}
-use Rattle.cni_result.specs.declared.result.IpEntry.{IpEntry}
-use Rattle.cni_result.specs.declared.result.RouteEntry.{RouteEntry}
-use Rattle.cni_result.specs.declared.version.Version.{Version}
+use Rattle.std.specs.{List.AllByRecursion, Prelude.{◌≡◌, ◌^◌, ◌<◌, length, true, IfSome, Some, Ok}}
+use Rattle.cni_addr.specs.{MacText.IsMac, Network.IsCidr, Value.IsAddr}
+use Rattle.cni_result.specs.{Mappings.{mapping_data, mapping_at}, Reading.{are_on, result_at}, Results.result_data}
+use Rattle.cni_result.specs.{Versions.mtu_since_1_1, declared.cached.PortMapping.PortMapping}
+use Rattle.cni_result.specs.declared.result.{AddResult.AddResult, Interface.Interface, IpEntry.IpEntry}
+use Rattle.cni_result.specs.declared.{result.RouteEntry.RouteEntry, version.Version.Version}
 
 -- an interface as its type keeps it, with no `mtu` that its version doesn't tell
 pub record IsInterfaceOf (version : Version) (i : Interface) : Type 0 where

@@ -2,16 +2,11 @@
 use Rattle.std.specs.Prelude.{ℕ, ◌^◌, List, codes, Option, Some, None, option_map, nat_lt, if◌then◌else◌, find}
 use Rattle.std.specs.Str.{bytes_eq}
 use Rattle.serde_json.specs.Data.{Data, object, no_members, put}
-use Rattle.cni_addr.specs.AddrText.{addr_of_text}
-use Rattle.cni_addr.specs.Value.{AddrValue}
-use Rattle.cni_json.specs.Fields.{text_field, u64_field}
-use Rattle.cni_json.specs.Members.{text_data, number_data, addr_data, ◌▷◌, put_if}
-use Rattle.cni_json.specs.declared.fields.Field.{Field}
-use Rattle.cni_json.specs.declared.fields.Field.TheVariants.{Absent, WrongKind, Here}
-use Rattle.cni_result.specs.declared.cached.PortMapping.{PortMapping}
+use Rattle.cni_addr.specs.{AddrText.addr_of_text, Value.AddrValue}
+use Rattle.cni_json.specs.{Fields.{text_field, u64_field}, Members.{text_data, number_data, addr_data, ◌▷◌, put_if}}
+use Rattle.cni_json.specs.declared.fields.Field.{Field, TheVariants.{Absent, WrongKind, Here}}
+use Rattle.cni_result.specs.declared.cached.{PortMapping.PortMapping, Proto.{Proto, TheVariants.{Tcp, Udp, Sctp}}}
 use Rattle.cni_result.specs.declared.cached.TheConstants.Proto.{ALL}
-use Rattle.cni_result.specs.declared.cached.Proto.{Proto}
-use Rattle.cni_result.specs.declared.cached.Proto.TheVariants.{Tcp, Udp, Sctp}
 
 -- a protocol as the `portmap` plugin is configured with it
 abbrev pub proto_text : Proto → List ℕ

@@ -1,31 +1,18 @@
 -- Results as they are read (CNI specification 1.1.0, section 5). A member that is null is as an absent one, and unnamed
 -- members are ignored.
-use Rattle.std.specs.Prelude.{ℕ, List, [], codes, length, Bool, true, nat_lt, if◌then◌else◌, Option, Some, None, Result, Ok, Err, ok_or, ⊤}
-use Rattle.std.specs.List.{list_all}
-use Rattle.std.specs.Str.{bytes_eq}
+use Rattle.std.specs.{List.list_all, Prelude.{ℕ, List, [], codes, length, Bool, true, nat_lt, if◌then◌else◌, Option}}
+use Rattle.std.specs.{Prelude.{Some, None, Result, Ok, Err, ok_or, ⊤}, Str.bytes_eq}
 use Rattle.serde_json.specs.Data.{Data}
-use Rattle.cni_addr.specs.AddrText.{addr_of_text}
-use Rattle.cni_addr.specs.CidrText.{cidr_of_text}
-use Rattle.cni_addr.specs.MacText.{mac_of_text}
-use Rattle.cni_addr.specs.Value.{AddrValue, CidrValue}
-use Rattle.cni_addr.specs.declared.mac.Mac.{Mac}
-use Rattle.cni_json.specs.Fields.{text_field, u32_field, member_or, needed, object_or}
-use Rattle.cni_json.specs.Json.{json_of}
-use Rattle.cni_json.specs.Outcome.{◌>>=◌}
-use Rattle.cni_json.specs.declared.fields.Field.{Field}
-use Rattle.cni_json.specs.declared.reading.ReadEnd.{ReadEnd}
+use Rattle.cni_addr.specs.{AddrText.addr_of_text, CidrText.cidr_of_text, MacText.mac_of_text, Value.AddrValue}
+use Rattle.cni_addr.specs.{Value.CidrValue, declared.mac.Mac.Mac}
+use Rattle.cni_json.specs.{Fields.{text_field, u32_field, member_or, needed, object_or}, Json.json_of, Outcome.◌>>=◌}
+use Rattle.cni_json.specs.declared.{fields.Field.Field, reading.ReadEnd.ReadEnd}
 use Rattle.cni_json.specs.declared.reading.ReadEnd.TheVariants as reading
-use Rattle.cni_result.specs.Dns.{dns_of_object}
-use Rattle.cni_result.specs.Fields.{optional, list_at}
-use Rattle.cni_result.specs.Refusals.{invalid}
-use Rattle.cni_result.specs.Versions.{version_named, is_before_1_1, ip_version_before_1_0}
-use Rattle.cni_result.specs.declared.refusal.ResultError.{ResultError}
+use Rattle.cni_result.specs.{Dns.dns_of_object, Fields.{optional, list_at}, Refusals.invalid, Versions.version_named}
+use Rattle.cni_result.specs.{Versions.{is_before_1_1, ip_version_before_1_0}, declared.refusal.ResultError.ResultError}
+use Rattle.cni_result.specs.declared.result.{AddResult.AddResult, Interface.Interface, IpEntry.IpEntry}
+use Rattle.cni_result.specs.declared.{result.RouteEntry.RouteEntry, version.Version.Version}
 use Rattle.cni_result.specs.declared.refusal.ResultError.TheVariants as refusal
-use Rattle.cni_result.specs.declared.result.AddResult.{AddResult}
-use Rattle.cni_result.specs.declared.result.Interface.{Interface}
-use Rattle.cni_result.specs.declared.result.IpEntry.{IpEntry}
-use Rattle.cni_result.specs.declared.result.RouteEntry.{RouteEntry}
-use Rattle.cni_result.specs.declared.version.Version.{Version}
 
 -- ---- the version
 

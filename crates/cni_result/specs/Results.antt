@@ -1,14 +1,11 @@
 -- Results and errors as JSON (CNI specification 1.1.0, section 5).
 use Rattle.std.specs.Prelude.{codes}
 use Rattle.serde_json.specs.Data.{Data, object, Members, no_members, put}
-use Rattle.cni_json.specs.Members.{addr_data, cidr_data, mac_data, text_data, number_data, list_data, ◌▷◌, put_if, put_text_unless_empty, put_list_unless_empty, put_object_unless_empty}
+use Rattle.cni_json.specs.Members.{addr_data, cidr_data, mac_data, text_data, number_data, list_data, ◌▷◌, put_if}
+use Rattle.cni_json.specs.Members.{put_text_unless_empty, put_list_unless_empty, put_object_unless_empty}
 use Rattle.cni_result.specs.Versions.{version_text, ip_version_before_1_0, mtu_since_1_1}
-use Rattle.cni_result.specs.declared.error.CniError.{CniError}
-use Rattle.cni_result.specs.declared.result.AddResult.{AddResult}
-use Rattle.cni_result.specs.declared.result.Dns.{Dns}
-use Rattle.cni_result.specs.declared.result.Interface.{Interface}
-use Rattle.cni_result.specs.declared.result.IpEntry.{IpEntry}
-use Rattle.cni_result.specs.declared.result.RouteEntry.{RouteEntry}
+use Rattle.cni_result.specs.declared.{error.CniError.CniError, result.{AddResult.AddResult, Dns.Dns}}
+use Rattle.cni_result.specs.declared.result.{Interface.Interface, IpEntry.IpEntry, RouteEntry.RouteEntry}
 use Rattle.cni_result.specs.declared.version.Version.{Version}
 
 abbrev pub version_data : Version → Data

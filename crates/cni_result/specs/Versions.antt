@@ -2,10 +2,8 @@
 -- "Result").
 use Rattle.std.specs.Prelude.{ℕ, List, [], ◌∷◌, codes, Bool, true, false, if◌then◌else◌, Option, Some, None, find}
 use Rattle.std.specs.Str.{bytes_eq}
-use Rattle.cni_addr.specs.declared.address.Family.{Family}
-use Rattle.cni_addr.specs.declared.address.Family.TheVariants.{V4, V6}
-use Rattle.cni_result.specs.declared.version.Version.{Version}
-use Rattle.cni_result.specs.declared.version.Version.TheVariants.{V0_4, V1_0, V1_1}
+use Rattle.cni_addr.specs.declared.address.Family.{Family, TheVariants.{V4, V6}}
+use Rattle.cni_result.specs.declared.version.Version.{Version, TheVariants.{V0_4, V1_0, V1_1}}
 
 -- a version as `cniVersion` names it
 abbrev pub version_text : Version → List ℕ

@@ -1,26 +1,22 @@
 -- A run of an ADD that is granted all its calls makes just these, in their order.
-use Rattle.std.proofs.Common.{◌≡◌, ℕ, zero, suc, ◌+◌, Bool, true, false, List, [], ◌∷◌, ◌++◌, map, length, take, slice_get, Some, None, refl, sym, ◌∙◌, ap, subst, append_assoc, arith}
-use Rattle.std.specs.List.{list_all}
-use Rattle.std.specs.Prelude.{is_some}
-use Rattle.std.proofs.lemmas.Bool.{and_parts}
-use Rattle.std.proofs.lemmas.List.{append-nil, length_push}
-use Rattle.std.proofs.lemmas.List.Elements.{filter_map-append}
-use Rattle.cni_addr.specs.declared.address.Addr.{Addr}
-use Rattle.cni_addr.specs.declared.range.RangeSet.{RangeSet}
+use Rattle.std.proofs.Common.{◌≡◌, ℕ, zero, suc, ◌+◌, Bool, true, false, List, [], ◌∷◌, ◌++◌, map, length, take}
+use Rattle.std.proofs.Common.{slice_get, Some, None, refl, sym, ◌∙◌, ap, subst, append_assoc, arith}
+use Rattle.std.proofs.lemmas.{Bool.and_parts, List.{append-nil, length_push, Elements.filter_map-append}}
+use Rattle.std.specs.{List.list_all, Prelude.is_some}
+use Rattle.cni_addr.specs.declared.{address.Addr.Addr, range.RangeSet.RangeSet}
 use Rattle.host_local.specs.Leases.{lease_calls_from, lease_calls_of}
-use Rattle.kernel_types.specs.declared.object.Att.{Att}
-use Rattle.kernel_types.specs.declared.call.Call.{Call}
-use Rattle.kernel_types.specs.declared.call.Call.TheVariants.{LeaseNext}
-use Rattle.kernel_types.specs.declared.call.Reply.{Reply}
-use Rattle.kernel_types.specs.declared.call.Reply.TheVariants.{Done, Leased}
+use Rattle.kernel_types.specs.declared.call.{Call.{Call, TheVariants.LeaseNext}, Reply.{Reply, TheVariants.Done}}
+use Rattle.kernel_types.specs.declared.{call.Reply.TheVariants.Leased, object.Att.Att}
 use Rattle.net_conf.specs.declared.list.NetList.{NetList}
 use Rattle.pod_file.specs.declared.command.Command.{Command}
 use Rattle.pod_file.specs.declared.command.Verb.TheVariants as verbs
 use Rattle.plugin_base.specs.Calls.{is_plugin_call_of}
-use Rattle.cni_verbs.specs.AddCalls.{AddMakesItsCalls, AddMayBeGranted, AreGranted, added, calls_of_add, is_done, is_granted_by}
+use Rattle.cni_verbs.specs.AddCalls.{AddMakesItsCalls, AddMayBeGranted, AreGranted, added, calls_of_add, is_done}
+use Rattle.cni_verbs.specs.{AddCalls.is_granted_by, Mappings.mappings_of, Script.{State, AtBegin, BeforeLeases}}
+use Rattle.cni_verbs.specs.Script.{Leasing, AfterLeases, Finish, Calls, Finishes, before_of, back_of, after_leases}
+use Rattle.cni_verbs.specs.Script.{leasing, before_leases, advance, start_of, start_state, state_from, turn}
+use Rattle.cni_verbs.specs.Script.{unless_refused, leased_by, leases_in}
 use Rattle.cni_errors.specs.CommandFields.{att_of, add_refusal}
-use Rattle.cni_verbs.specs.Mappings.{mappings_of}
-use Rattle.cni_verbs.specs.Script.{State, AtBegin, BeforeLeases, Leasing, AfterLeases, Finish, Calls, Finishes, before_of, back_of, after_leases, leasing, before_leases, advance, start_of, start_state, state_from, turn, unless_refused, leased_by, leases_in}
 use Rattle.plugin_chain.specs.Wanted.{sets_of}
 use Rattle.plugin_chain.proofs.OwnCalls.{own-before, own-back}
 

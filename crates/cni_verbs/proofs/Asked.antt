@@ -1,6 +1,6 @@
 -- Lists of questions that grow by one.
-use Rattle.std.proofs.Common.{◌≡◌, ℕ, ◌+◌, ◌<◌, List, [], ◌∷◌, ◌++◌, length, get_or, drop, scan, ap, sym, ◌∙◌, append_assoc}
-use Rattle.std.proofs.lemmas.List.{drop_more}
+use Rattle.std.proofs.Common.{◌≡◌, ℕ, ◌+◌, ◌<◌, List, [], ◌∷◌, ◌++◌, length, get_or, drop, scan, ap, sym, ◌∙◌}
+use Rattle.std.proofs.{Common.append_assoc, lemmas.List.drop_more}
 use Rattle.cni_errors.specs.declared.answer.Question.{Question}
 
 -- one more of what is meant is at the end

@@ -2,9 +2,9 @@
 use Rattle.std.proofs.Common.{◌≡◌, ℕ, List, [], ◌∷◌, Some, None, refl, sym, ap, ◌∙◌, subst, inl, inr, ◌⊎◌}
 use Rattle.kernel_types.specs.declared.call.Call.{Call}
 use Rattle.pod_file.specs.declared.command.Command.{Command}
-use Rattle.cni_verbs.specs.Laws.{IsCalling, IsFinished, EachStateCallsOrIsOver}
-use Rattle.cni_verbs.specs.Script.{State, Act, Makes, Collects, Ends, IsUnended, Calls, Finishes, Finish, act_of, turn, turn_by_act, next_call, call_by, finish_of, finish_by}
-use Rattle.cni_verbs.specs.Sweep.{Job, Sweep}
+use Rattle.cni_verbs.specs.{Laws.{IsCalling, IsFinished, EachStateCallsOrIsOver}, Script.{State, Act, Makes, Collects}}
+use Rattle.cni_verbs.specs.Script.{Ends, IsUnended, Calls, Finishes, Finish, act_of, turn, turn_by_act, next_call}
+use Rattle.cni_verbs.specs.{Script.{call_by, finish_of, finish_by}, Sweep.{Job, Sweep}}
 
 -- ---- a state, by what it does
 

@@ -1,13 +1,10 @@
 -- How a list ends a verb before its first call, by cases: it is older than the verb, it disables it, or neither.
 use Rattle.std.proofs.Common.{◌≡◌, Bool, true, false, Option, Some, None, refl}
-use Rattle.std.specs.Option.{option_or}
-use Rattle.std.specs.Bool.{then_some}
-use Rattle.cni_result.specs.Versions.{is_before_1_1}
-use Rattle.cni_result.specs.declared.version.Version.{Version}
+use Rattle.std.specs.{Bool.then_some, Option.option_or}
+use Rattle.cni_result.specs.{Versions.is_before_1_1, declared.version.Version.Version}
 use Rattle.cni_verbs.specs.Script.{old_ending, early_ending}
 use Rattle.cni_errors.specs.declared.answer.Cause.TheVariants as causes
-use Rattle.cni_errors.specs.declared.answer.Ending.{Ending}
-use Rattle.cni_errors.specs.declared.answer.Ending.TheVariants.{Skipped, Refused}
+use Rattle.cni_errors.specs.declared.answer.Ending.{Ending, TheVariants.{Skipped, Refused}}
 use Rattle.cni_errors.specs.declared.answer.Skip.TheVariants as skips
 
 -- the list is older than the verb

@@ -1,38 +1,25 @@
 -- Which phases are over, and how they end.
-use Rattle.std.proofs.Common.{◌≡◌, ℕ, ◌<◌, ◌≤◌, List, [], ◌∷◌, ◌++◌, length, drop, refl, sym, ap, ◌∙◌, subst, arith, not, Option, Some, None, inl, inr}
-use Rattle.std.proofs.lemmas.List.{length-append}
-use Rattle.std.specs.Prelude.{◌⊎◌, Bool, true, false, option_map, MatchBool}
-use Rattle.std.specs.Bool.{FalseIff}
+use Rattle.std.proofs.Common.{◌≡◌, ℕ, ◌<◌, ◌≤◌, List, [], ◌∷◌, ◌++◌, length, drop, refl, sym, ap, ◌∙◌, subst, arith}
+use Rattle.std.proofs.{Common.{not, Option, Some, None, inl, inr}, lemmas.List.length-append}
+use Rattle.std.specs.{Bool.FalseIff, Prelude.{◌⊎◌, Bool, true, false, option_map, MatchBool}}
 use Rattle.cni_addr.specs.declared.address.Addr.{Addr}
 use Rattle.cni_result.specs.declared.cached.Cached.{Cached}
-use Rattle.net_conf.specs.declared.first.First.{First}
-use Rattle.net_conf.specs.declared.list.NetList.{NetList}
+use Rattle.net_conf.specs.declared.{first.First.First, list.NetList.NetList}
 use Rattle.pod_file.specs.declared.command.Command.{Command}
+use Rattle.kernel_types.specs.declared.call.{Call.{Call, TheVariants.CachePut}, Kind.Kind, Reply.Reply}
 use Rattle.kernel_types.specs.declared.object.Att.{Att}
-use Rattle.kernel_types.specs.declared.call.Kind.{Kind}
-use Rattle.kernel_types.specs.declared.call.Call.{Call}
-use Rattle.kernel_types.specs.declared.call.Call.TheVariants.{CachePut}
-use Rattle.kernel_types.specs.declared.call.Reply.{Reply}
-use Rattle.plugin_base.specs.PluginCalls.{has_inner}
-use Rattle.plugin_base.specs.Plugins.{added_before}
-use Rattle.plugin_base.specs.Share.{Share, no_objects, share_after_calls}
-use Rattle.plugin_chain.specs.Plugins.{plugin_of}
-use Rattle.cni_verbs.specs.Questions.{check_questions}
-use Rattle.cni_errors.specs.CommandFields.{att_of}
-use Rattle.cni_verbs.specs.Mappings.{mappings_of}
-use Rattle.plugin_chain.specs.Wanted.{sets_of, kinds_of, calls_after, calls_before, result_of_add, all_chained_calls, first_plugin_result, given_by_list, cached_of}
-use Rattle.cni_verbs.specs.Script.{State, Finish, IsOpen, before_of, back_of, finish_of}
-use Rattle.cni_verbs.specs.Script as script
-use Rattle.cni_verbs.specs.Phases.{KeepsOfList, KeepsResult, state_in, state_outside, state_by_phase}
-use Rattle.cni_errors.specs.declared.answer.Ending.{Ending}
-use Rattle.cni_errors.specs.declared.answer.Ending.TheVariants.{Added, Yes}
+use Rattle.plugin_base.specs.{PluginCalls.has_inner, Plugins.added_before, Share.{Share, no_objects, share_after_calls}}
+use Rattle.plugin_chain.specs.{Plugins.plugin_of, Wanted.{sets_of, kinds_of, calls_after, calls_before, result_of_add}}
+use Rattle.plugin_chain.specs.Wanted.{all_chained_calls, first_plugin_result, given_by_list, cached_of}
+use Rattle.cni_verbs.specs.{Mappings.mappings_of, Phases.{KeepsOfList, KeepsResult, state_in, state_outside}}
+use Rattle.cni_verbs.specs.{Phases.state_by_phase, Questions.check_questions, Script.{State, Finish, IsOpen, before_of}}
+use Rattle.cni_verbs.specs.{Script.{back_of, finish_of}, declared.phase.Phase.Phase}
+use Rattle.cni_errors.specs.{CommandFields.att_of, declared.answer.Ending.{Ending, TheVariants.{Added, Yes}}}
 use Rattle.cni_errors.specs.declared.answer.Question.{Question}
-use Rattle.cni_verbs.specs.declared.phase.Phase.{Phase}
+use Rattle.cni_verbs.specs.Script as script
 use Rattle.cni_verbs.specs.declared.phase.Phase.TheVariants as phases
-use Rattle.cni_verbs.proofs.CallsOrOver.{calls_or_over}
-use Rattle.cni_verbs.proofs.PhaseSteps.{left_of, opens}
+use Rattle.cni_verbs.proofs.{CallsOrOver.calls_or_over, PhaseSteps.{left_of, opens}, QuestionCounts.questions-left}
 use Rattle.plugin_chain.proofs.PluginLaws.{first_laws}
-use Rattle.cni_verbs.proofs.QuestionCounts.{questions-left}
 
 -- what a phase's state is, where it is open or over
 abbrev pub IsOverIf : Bool → State → Type 0

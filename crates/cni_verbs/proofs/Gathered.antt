@@ -1,21 +1,15 @@
 -- The calls of the plugins with the addresses of a cached result make what a check asks of what it says that there is.
 use Rattle.std.proofs.Common.{◌≡◌, ℕ, List, [], ◌∷◌, ◌++◌, ◌∙◌, ap, sym, map, Option, refl}
 use Rattle.cni_addr.specs.declared.address.Addr.{Addr}
-use Rattle.cni_result.specs.declared.cached.Cached.{Cached}
-use Rattle.cni_result.specs.declared.cached.PortMapping.{PortMapping}
-use Rattle.cni_result.specs.declared.result.Interface.{Interface}
+use Rattle.cni_result.specs.declared.{cached.{Cached.Cached, PortMapping.PortMapping}, result.Interface.Interface}
 use Rattle.net_conf.specs.declared.list.NetList.{NetList}
 use Rattle.pod_file.specs.declared.command.Command.{Command}
-use Rattle.kernel_types.specs.declared.object.Att.{Att}
-use Rattle.kernel_types.specs.declared.call.Call.{Call}
-use Rattle.kernel_types.specs.declared.call.Call.TheVariants.{CachePut}
-use Rattle.kernel_types.specs.Terms.{lease_of}
+use Rattle.kernel_types.specs.{Terms.lease_of, declared.{call.Call.{Call, TheVariants.CachePut}, object.Att.Att}}
 use Rattle.plugin_base.specs.Share.{Share, no_objects, share_after_calls}
 use Rattle.plugin_base.proofs.CallLists.{share_after_calls-append}
-use Rattle.cni_errors.specs.CommandFields.{att_of}
+use Rattle.cni_errors.specs.{CommandFields.att_of, declared.answer.Question.Question}
 use Rattle.cni_verbs.specs.Questions.{bridge_questions, share_questions, addresses_of_result, cached_share}
 use Rattle.plugin_chain.specs.Wanted.{calls_before, back_calls, cached_of}
-use Rattle.cni_errors.specs.declared.answer.Question.{Question}
 use Rattle.plugin_chain.proofs.WantedShare.{makes-wanted}
 
 -- a cached result is none of the objects that a check asks for

@@ -1,22 +1,18 @@
 -- What a phase calls next, and how it ends.
-use Rattle.std.proofs.Common.{◌≡◌, ℕ, ◌+◌, ◌<◌, ◌≤◌, List, [], ◌∷◌, length, drop, refl, sym, ap, ◌∙◌, subst, true, Option, Some, None, Result, inl, inr}
+use Rattle.std.proofs.Common.{◌≡◌, ℕ, ◌+◌, ◌<◌, ◌≤◌, List, [], ◌∷◌, length, drop, refl, sym, ap, ◌∙◌, subst, true}
+use Rattle.std.proofs.Common.{Option, Some, None, Result, inl, inr}
 use Rattle.std.specs.Prelude.{◌⊎◌, slice_get, option_map, IfOk, Ok, Err}
 use Rattle.cni_addr.specs.declared.address.Addr.{Addr}
 use Rattle.cni_result.specs.declared.cached.Cached.{Cached}
 use Rattle.net_conf.specs.declared.list.NetList.{NetList}
 use Rattle.pod_file.specs.declared.command.Command.{Command}
-use Rattle.kernel_types.specs.declared.call.Kind.{Kind}
-use Rattle.kernel_types.specs.declared.call.Call.{Call}
-use Rattle.kernel_types.specs.declared.call.Call.TheVariants.{Begin, LeaseNext, CacheGet}
-use Rattle.cni_errors.specs.CommandFields.{att_of}
+use Rattle.kernel_types.specs.declared.call.{Call.{Call, TheVariants.{Begin, LeaseNext, CacheGet}}, Kind.Kind}
+use Rattle.cni_errors.specs.{CommandFields.att_of, declared.answer.{Ending.Ending, Question.Question}}
 use Rattle.plugin_chain.specs.Wanted.{sets_of, kinds_of, deletion}
 use Rattle.cni_verbs.specs.Script as script
-use Rattle.cni_verbs.specs.Script.{State, next_call}
-use Rattle.cni_verbs.specs.Phases.{Stands, KeepsOfList, KeepsOfListBy, KeepsResult, IsPhaseOf, IsSameButPrepared, is_prepared, state_in, state_outside, state_by_phase}
-use Rattle.cni_verbs.specs.Progress.{answer_in}
-use Rattle.cni_errors.specs.declared.answer.Ending.{Ending}
-use Rattle.cni_errors.specs.declared.answer.Question.{Question}
-use Rattle.cni_verbs.specs.declared.phase.Phase.{Phase}
+use Rattle.cni_verbs.specs.Phases.{Stands, KeepsOfList, KeepsOfListBy, KeepsResult, IsPhaseOf, IsSameButPrepared}
+use Rattle.cni_verbs.specs.{Phases.{is_prepared, state_in, state_outside, state_by_phase}, Progress.answer_in}
+use Rattle.cni_verbs.specs.{Script.{State, next_call}, declared.phase.Phase.Phase}
 use Rattle.cni_verbs.specs.declared.phase.Phase.TheVariants as phases
 use Rattle.cni_verbs.proofs.PhaseSteps.{left_of, left_or_none}
 

@@ -1,27 +1,19 @@
 -- Each phase after a reply stands for the script's state after it.
-use Rattle.std.proofs.Common.{◌≡◌, ℕ, ◌+◌, ◌<◌, ◌≤◌, List, [], ◌∷◌, ◌++◌, length, drop, refl, sym, ap, ◌∙◌, subst, arith, true, Some, None}
+use Rattle.std.proofs.Common.{◌≡◌, ℕ, ◌+◌, ◌<◌, ◌≤◌, List, [], ◌∷◌, ◌++◌, length, drop, refl, sym, ap, ◌∙◌, subst}
+use Rattle.std.proofs.Common.{arith, true, Some, None, inl, inr, suc, add-one, drop-cons, get_or}
+use Rattle.std.proofs.lemmas.{Bool.cases_lt, List.drop_all, Option.slice_get_cases}
 use Rattle.std.specs.Prelude.{◌⊎◌, slice_get}
-use Rattle.std.proofs.Common.{inl, inr, suc, add-one, drop-cons, get_or}
-use Rattle.std.proofs.lemmas.List.{drop_all}
-use Rattle.std.proofs.lemmas.Option.{slice_get_cases}
-use Rattle.std.proofs.lemmas.Bool.{cases_lt}
 use Rattle.cni_addr.specs.declared.address.Addr.{Addr}
 use Rattle.cni_result.specs.declared.cached.Cached.{Cached}
 use Rattle.net_conf.specs.declared.list.NetList.{NetList}
 use Rattle.pod_file.specs.declared.command.Command.{Command}
-use Rattle.kernel_types.specs.declared.call.Kind.{Kind}
-use Rattle.kernel_types.specs.declared.call.Call.{Call}
-use Rattle.kernel_types.specs.declared.call.Reply.{Reply}
-use Rattle.kernel_types.specs.declared.call.Reply.TheVariants.{Leased}
-use Rattle.cni_errors.specs.CommandFields.{att_of}
+use Rattle.kernel_types.specs.declared.call.{Call.Call, Kind.Kind, Reply.{Reply, TheVariants.Leased}}
+use Rattle.cni_errors.specs.{CommandFields.att_of, declared.answer.Ending.{Ending, TheVariants.Refused}}
+use Rattle.cni_errors.specs.declared.answer.Question.{Question}
 use Rattle.plugin_chain.specs.Wanted.{sets_of, kinds_of, result_of_add}
 use Rattle.cni_verbs.specs.Script as script
-use Rattle.cni_verbs.specs.Script.{State, advance, IsOpen}
-use Rattle.cni_verbs.specs.Phases.{Awaits, KeepsResult, Stands, IsPhaseOf, is_prepared, state_in}
-use Rattle.cni_errors.specs.declared.answer.Ending.{Ending}
-use Rattle.cni_errors.specs.declared.answer.Ending.TheVariants.{Refused}
-use Rattle.cni_errors.specs.declared.answer.Question.{Question}
-use Rattle.cni_verbs.specs.declared.phase.Phase.{Phase}
+use Rattle.cni_verbs.specs.{Phases.{Awaits, KeepsResult, Stands, IsPhaseOf, is_prepared, state_in}, Script.State}
+use Rattle.cni_verbs.specs.{Script.{advance, IsOpen}, declared.phase.Phase.Phase}
 use Rattle.cni_verbs.specs.declared.phase.Phase.TheVariants as phases
 
 -- ---- what is left of a list

@@ -1,23 +1,20 @@
 -- How many questions there are.
 use Rattle.std.proofs.Common.{◌≡◌, ℕ, ◌+◌, ◌<◌, Bool, true, List, [], ◌∷◌, ◌++◌, map, length, refl, sym, ap, ◌∙◌, arith}
-use Rattle.std.specs.List.{list_any}
 use Rattle.std.proofs.lemmas.List.{length-append, length-map}
+use Rattle.std.specs.List.{list_any}
 use Rattle.cni_addr.specs.declared.range.RangeSet.{RangeSet}
 use Rattle.cni_result.specs.declared.cached.Cached.{Cached}
-use Rattle.net_conf.specs.declared.chained.Chained.{Chained}
-use Rattle.net_conf.specs.declared.list.NetList.{NetList}
+use Rattle.net_conf.specs.declared.{chained.Chained.Chained, list.NetList.NetList}
 use Rattle.pod_file.specs.declared.command.Command.{Command}
-use Rattle.kernel_types.specs.Terms.{is_link_of}
-use Rattle.kernel_types.specs.declared.object.Tag.TheVariants.{Own}
-use Rattle.kernel_types.specs.declared.object.Att.{Att}
-use Rattle.kernel_types.specs.declared.object.Link.{Link}
+use Rattle.kernel_types.specs.{Terms.is_link_of, declared.object.{Att.Att, Link.Link, Tag.TheVariants.Own}}
 use Rattle.kernel_types.specs.declared.rule.Rule.{Rule}
 use Rattle.pod_file.proofs.CommandFacts.{length-scan}
 use Rattle.plugin_base.specs.Share.{Share, no_objects}
 use Rattle.plugin_base.proofs.PluginCalls.{later-as_many}
-use Rattle.cni_errors.specs.CommandFields.{att_of}
-use Rattle.cni_errors.specs.ObjectQuestions.{link_question, address_question, route_question, rule_question, rule_questions, setting_question, lease_question}
-use Rattle.cni_verbs.specs.Questions.{share_questions, bridge_questions, cached_share, check_questions, pool_question, pool_questions}
+use Rattle.cni_errors.specs.{CommandFields.att_of, ObjectQuestions.{link_question, address_question, route_question}}
+use Rattle.cni_errors.specs.ObjectQuestions.{rule_question, rule_questions, setting_question, lease_question}
+use Rattle.cni_verbs.specs.Questions.{share_questions, bridge_questions, cached_share, check_questions, pool_question}
+use Rattle.cni_verbs.specs.Questions.{pool_questions}
 use Rattle.plugin_chain.specs.Wanted.{all_links_after, bridge_of, chained_calls, links_after, links_made}
 use Rattle.plugin_chain.proofs.PluginLaws.{chained_laws, first_laws}
 

@@ -2,19 +2,14 @@
 -- attachment").
 use Rattle.std.specs.Prelude.{◌≡◌, ℕ, Bool, true, false, List, [], ◌∷◌, length, take, slice_get, Some, None, is_some, ⊤}
 use Rattle.cni_addr.specs.declared.address.Addr.{Addr}
-use Rattle.kernel_types.specs.declared.call.Call.{Call}
-use Rattle.kernel_types.specs.declared.call.Call.TheVariants.{LeaseNext}
-use Rattle.kernel_types.specs.declared.call.Reply.{Reply}
-use Rattle.kernel_types.specs.declared.call.Reply.TheVariants.{Done}
+use Rattle.kernel_types.specs.declared.call.{Call.{Call, TheVariants.LeaseNext}, Reply.{Reply, TheVariants.Done}}
 use Rattle.net_conf.specs.declared.list.NetList.{NetList}
 use Rattle.pod_file.specs.declared.command.Command.{Command}
 use Rattle.pod_file.specs.declared.command.Verb.TheVariants as verbs
-use Rattle.cni_errors.specs.CommandFields.{att_of, add_refusal}
-use Rattle.cni_verbs.specs.Mappings.{mappings_of}
-use Rattle.cni_verbs.specs.Progress.{turn_by}
-use Rattle.cni_verbs.specs.Script.{Finish, Calls, Finishes, leased_by, leases_in}
+use Rattle.cni_errors.specs.{CommandFields.{att_of, add_refusal}, declared.answer.Ending.TheVariants.Added}
+use Rattle.cni_verbs.specs.{Mappings.mappings_of, Progress.turn_by, Script.{Finish, Calls, Finishes, leased_by}}
+use Rattle.cni_verbs.specs.Script.{leases_in}
 use Rattle.plugin_chain.specs.Wanted.{add_calls, sets_of}
-use Rattle.cni_errors.specs.declared.answer.Ending.TheVariants.{Added}
 
 -- ---- granted calls
 

@@ -4,12 +4,9 @@ use Rattle.cni_addr.specs.declared.address.Addr.{Addr}
 use Rattle.cni_result.specs.declared.version.Version.TheVariants.{V1_1}
 use Rattle.net_conf.specs.declared.list.NetList.{NetList}
 use Rattle.pod_file.specs.declared.command.Command.{Command}
-use Rattle.cni_errors.specs.Answers.{plain_answer}
-use Rattle.cni_errors.specs.CommandFields.{att_of}
-use Rattle.cni_errors.specs.declared.answer.Answer.{Answer}
-use Rattle.cni_errors.specs.declared.answer.Answer.TheVariants as answers
-use Rattle.cni_errors.specs.declared.answer.Ending.{Ending}
+use Rattle.cni_errors.specs.{Answers.plain_answer, CommandFields.att_of, declared.answer.{Answer.Answer, Ending.Ending}}
 use Rattle.cni_errors.specs.declared.answer.Ending.TheVariants.{Added}
+use Rattle.cni_errors.specs.declared.answer.Answer.TheVariants as answers
 use Rattle.cni_verbs.specs.Script.{Finish}
 use Rattle.plugin_chain.specs.Wanted.{result_of_add}
 

@@ -1,9 +1,7 @@
 -- Which port mappings of a command reach the plugins of its list (the `portMappings` capability).
-use Rattle.std.specs.Prelude.{Bool, List, [], filter_map, if◌then◌else◌}
-use Rattle.std.specs.List.{list_any}
+use Rattle.std.specs.{List.list_any, Prelude.{Bool, List, [], filter_map, if◌then◌else◌}}
 use Rattle.cni_result.specs.declared.cached.PortMapping.{PortMapping}
-use Rattle.net_conf.specs.declared.chained.Chained.{Chained}
-use Rattle.net_conf.specs.declared.list.NetList.{NetList}
+use Rattle.net_conf.specs.declared.{chained.Chained.Chained, list.NetList.NetList}
 use Rattle.pod_file.specs.declared.command.Command.{Command}
 use Rattle.cni_errors.specs.CommandFields.{mapping_of}
 use Rattle.plugin_chain.specs.Plugins.{chained_plugin_of}

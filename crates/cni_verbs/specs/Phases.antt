@@ -4,13 +4,11 @@ use Rattle.cni_addr.specs.declared.address.Addr.{Addr}
 use Rattle.net_conf.specs.declared.list.NetList.{NetList}
 use Rattle.pod_file.specs.declared.command.Command.{Command}
 use Rattle.kernel_types.specs.declared.call.Kind.{Kind}
-use Rattle.cni_errors.specs.CommandFields.{att_of}
+use Rattle.cni_errors.specs.{CommandFields.att_of, declared.answer.Ending.TheVariants.Yes}
 use Rattle.plugin_chain.specs.Wanted.{sets_of, kinds_of, result_of_add}
-use Rattle.cni_verbs.specs.Questions.{check_questions}
-use Rattle.cni_verbs.specs.Script.{State, Over, before_of, back_of, after_leases, leasing, before_leases, deleting, asking}
+use Rattle.cni_verbs.specs.{Questions.check_questions, Script.{State, Over, before_of, back_of, after_leases, leasing}}
+use Rattle.cni_verbs.specs.{Script.{before_leases, deleting, asking}, declared.phase.Phase.Phase}
 use Rattle.cni_verbs.specs.Script as states
-use Rattle.cni_errors.specs.declared.answer.Ending.TheVariants.{Yes}
-use Rattle.cni_verbs.specs.declared.phase.Phase.{Phase}
 use Rattle.cni_verbs.specs.declared.phase.Phase.TheVariants as phases
 
 -- ---- the state of a phase

@@ -1,12 +1,11 @@
 -- How far the run of a command has come.
 use Rattle.std.specs.Prelude.{ℕ, ◌+◌, Bool, true, false, List, length, Option, Some, None, option_map}
 use Rattle.net_conf.specs.declared.list.NetList.{NetList}
-use Rattle.pod_file.specs.declared.command.Command.{Command}
-use Rattle.pod_file.specs.declared.command.Verb.{Verb}
+use Rattle.pod_file.specs.declared.command.{Command.Command, Verb.Verb}
 use Rattle.pod_file.specs.declared.command.Verb.TheVariants as verbs
 use Rattle.kernel_types.specs.declared.call.Reply.{Reply}
-use Rattle.cni_verbs.specs.Endings.{answer_of, answer_outside}
-use Rattle.cni_verbs.specs.Script.{State, Turn, Finish, turn, finish_of, state_after, advance, outside_after, outside_advance}
+use Rattle.cni_verbs.specs.{Endings.{answer_of, answer_outside}, Script.{State, Turn, Finish, turn, finish_of}}
+use Rattle.cni_verbs.specs.Script.{state_after, advance, outside_after, outside_advance}
 use Rattle.cni_errors.specs.declared.answer.Answer.{Answer}
 
 -- a GC, whose run keeps more than a `Run` does

@@ -1,23 +1,18 @@
 -- What CHECK and STATUS ask of the kernel, and what a denial means (CNI specification, section 3, "Checking attachment"
 -- and "Status").
 use Rattle.std.specs.Prelude.{ℕ, ◌+◌, List, [], ◌∷◌, ◌++◌, map, scan, Option, Some, None}
-use Rattle.cni_addr.specs.declared.address.Addr.{Addr}
-use Rattle.cni_addr.specs.declared.mac.Mac.{Mac}
-use Rattle.cni_addr.specs.declared.range.RangeSet.{RangeSet}
-use Rattle.cni_result.specs.declared.cached.Cached.{Cached}
-use Rattle.cni_result.specs.declared.result.AddResult.{AddResult}
-use Rattle.cni_result.specs.declared.result.Interface.{Interface}
+use Rattle.cni_addr.specs.declared.{address.Addr.Addr, mac.Mac.Mac, range.RangeSet.RangeSet}
+use Rattle.cni_result.specs.declared.{cached.Cached.Cached, result.{AddResult.AddResult, Interface.Interface}}
 use Rattle.net_conf.specs.declared.list.NetList.{NetList}
 use Rattle.pod_file.specs.declared.command.Command.{Command}
-use Rattle.kernel_types.specs.declared.call.Call.TheVariants.{HasObj, PoolFree}
-use Rattle.kernel_types.specs.declared.call.Probe.TheVariants.{BridgeAt, Master}
+use Rattle.kernel_types.specs.declared.call.{Call.TheVariants.{HasObj, PoolFree}, Probe.TheVariants.{BridgeAt, Master}}
 use Rattle.plugin_base.specs.Share.{Share}
-use Rattle.cni_errors.specs.ObjectQuestions.{link_question, address_question, route_question, rule_questions, setting_question, lease_question}
-use Rattle.cni_errors.specs.CommandFields.{att_of}
-use Rattle.plugin_chain.specs.Wanted.{bridge_of, master_of, sets_of, wanted}
+use Rattle.cni_errors.specs.{CommandFields.att_of, ObjectQuestions.{link_question, address_question, route_question}}
+use Rattle.cni_errors.specs.ObjectQuestions.{rule_questions, setting_question, lease_question}
 use Rattle.cni_errors.specs.declared.answer.Cause.TheVariants.{NoFreeAddress, MasterAbsent, Missing}
-use Rattle.cni_errors.specs.declared.answer.Missed.TheVariants as missed
 use Rattle.cni_errors.specs.declared.answer.Question.{Question}
+use Rattle.plugin_chain.specs.Wanted.{bridge_of, master_of, sets_of, wanted}
+use Rattle.cni_errors.specs.declared.answer.Missed.TheVariants as missed
 
 -- ---- CHECK: each object that the cached result names
 

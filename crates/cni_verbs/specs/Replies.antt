@@ -1,11 +1,7 @@
 -- What a call is replied, by the kernel or as a fault, and the host after it.
 use Rattle.std.specs.Prelude.{Bool, true, false, if◌then◌else◌}
-use Rattle.kernel_types.specs.Apply.{apply}
-use Rattle.kernel_types.specs.Replies.{is_fault}
-use Rattle.kernel_types.specs.declared.object.Host.{Host}
-use Rattle.kernel_types.specs.declared.call.Call.{Call}
-use Rattle.kernel_types.specs.declared.call.Reply.{Reply}
-use Rattle.kernel_types.specs.declared.call.Reply.TheVariants.{Done, Leased, Fault}
+use Rattle.kernel_types.specs.{Apply.apply, Replies.is_fault, declared.call.{Call.Call, Reply.Reply}}
+use Rattle.kernel_types.specs.declared.{call.Reply.TheVariants.{Done, Leased, Fault}, object.Host.Host}
 
 -- the reply to a call: the kernel's, or `Fault`
 abbrev pub reply_to : Host → Call → Bool → Reply

@@ -1,34 +1,24 @@
 -- What a verb calls and what it answers, as a function of the list, the command and all replies so far.
-use Rattle.std.specs.Prelude.{ℕ, ◌+◌, Bool, true, false, List, [], ◌∷◌, ◌++◌, length, filter_map, Option, Some, None, option_map, is_none, MatchBool, ⊤, if◌then◌else◌}
-use Rattle.std.specs.Bool.{then_some}
-use Rattle.std.specs.Option.{option_map_or, option_or}
-use Rattle.cni_addr.specs.declared.address.Addr.{Addr}
-use Rattle.cni_addr.specs.declared.range.RangeSet.{RangeSet}
-use Rattle.cni_result.specs.declared.cached.Cached.{Cached}
-use Rattle.cni_result.specs.Versions.{is_before_1_1}
-use Rattle.cni_result.specs.declared.version.Version.{Version}
+use Rattle.std.specs.{Bool.then_some, Option.{option_map_or, option_or}, Prelude.{ℕ, ◌+◌, Bool, true, false, List, []}}
+use Rattle.std.specs.Prelude.{◌∷◌, ◌++◌, length, filter_map, Option, Some, None, option_map, is_none, MatchBool, ⊤}
+use Rattle.std.specs.Prelude.{if◌then◌else◌}
+use Rattle.cni_addr.specs.declared.{address.Addr.Addr, range.RangeSet.RangeSet}
+use Rattle.cni_result.specs.{Versions.is_before_1_1, declared.{cached.Cached.Cached, version.Version.Version}}
 use Rattle.net_conf.specs.declared.list.NetList.{NetList}
-use Rattle.pod_file.specs.declared.command.Command.{Command}
-use Rattle.pod_file.specs.declared.command.Verb.{Verb}
+use Rattle.pod_file.specs.declared.command.{Command.Command, Verb.Verb}
 use Rattle.pod_file.specs.declared.command.Verb.TheVariants as verbs
-use Rattle.kernel_types.specs.declared.call.Kind.{Kind}
-use Rattle.kernel_types.specs.declared.call.Call.{Call}
-use Rattle.kernel_types.specs.declared.call.Call.TheVariants.{Begin, LeaseNext, CacheGet, OwnersOf, NsChange, Outside}
-use Rattle.kernel_types.specs.declared.call.Change.TheVariants.{DropLink, Flush}
-use Rattle.kernel_types.specs.declared.rule.Table.{Table}
-use Rattle.kernel_types.specs.Replies.{is_fault}
-use Rattle.kernel_types.specs.declared.call.Reply.{Reply}
-use Rattle.kernel_types.specs.declared.call.Reply.TheVariants.{Done, NoNs, NoLink, Taken, Empty, Leased, Gone, Has, Entry, Fault}
+use Rattle.kernel_types.specs.{Replies.is_fault, declared.call.Call.{Call, TheVariants.{Begin, LeaseNext, CacheGet}}}
+use Rattle.kernel_types.specs.declared.call.Call.TheVariants.{OwnersOf, NsChange, Outside}
+use Rattle.kernel_types.specs.declared.call.{Change.TheVariants.{DropLink, Flush}, Kind.Kind, Reply.Reply}
+use Rattle.kernel_types.specs.declared.call.Reply.TheVariants.{Done, NoNs, NoLink, Taken, Empty, Leased, Gone, Has}
+use Rattle.kernel_types.specs.declared.{call.Reply.TheVariants.{Entry, Fault}, rule.Table.Table}
 use Rattle.cni_errors.specs.CommandFields.{att_of, add_refusal, del_refusal, netns_refusal, drop_refusal}
-use Rattle.cni_verbs.specs.Mappings.{mappings_of}
-use Rattle.cni_verbs.specs.Questions.{check_questions, status_questions}
-use Rattle.cni_verbs.specs.Sweep.{Gc, Job, Sweep, Work, start_work, step_call, work_after}
+use Rattle.cni_errors.specs.declared.answer.{Cause.Cause, Ending.{Ending, TheVariants.{Added, Yes, Skipped, Versions}}}
+use Rattle.cni_errors.specs.declared.answer.{Ending.TheVariants.Refused, Question.Question}
+use Rattle.cni_verbs.specs.{Mappings.mappings_of, Questions.{check_questions, status_questions}, Sweep.{Gc, Job, Sweep}}
+use Rattle.cni_verbs.specs.Sweep.{Work, start_work, step_call, work_after}
 use Rattle.plugin_chain.specs.Wanted.{sets_of, calls_before, back_calls, kinds_of, deletion}
-use Rattle.cni_errors.specs.declared.answer.Cause.{Cause}
 use Rattle.cni_errors.specs.declared.answer.Cause.TheVariants as causes
-use Rattle.cni_errors.specs.declared.answer.Ending.{Ending}
-use Rattle.cni_errors.specs.declared.answer.Ending.TheVariants.{Added, Yes, Skipped, Versions, Refused}
-use Rattle.cni_errors.specs.declared.answer.Question.{Question}
 use Rattle.cni_errors.specs.declared.answer.Skip.TheVariants as skips
 
 -- What is left to do: Begin and all after it; the calls before the leases; sets to lease from; the calls after the

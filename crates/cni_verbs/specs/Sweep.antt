@@ -1,16 +1,10 @@
 -- A GC as work that is left: sweeps over the owners of a kind, and jobs of single owners (CNI
 -- specification, section 3, "Garbage-collecting unused resources", and libcni, which deletes the cached attachments
 -- first).
-use Rattle.std.specs.Prelude.{ℕ, ◌&&◌, Bool, false, not, List, [], ◌∷◌, map, filter}
-use Rattle.std.specs.List.{list_any}
-use Rattle.std.specs.Str.{bytes_eq}
-use Rattle.kernel_types.specs.declared.object.Att.{Att}
-use Rattle.kernel_types.specs.declared.call.Call.{Call}
-use Rattle.kernel_types.specs.declared.call.Call.TheVariants.{CacheGet}
-use Rattle.kernel_types.specs.declared.call.Kind.{Kind}
+use Rattle.std.specs.{List.list_any, Prelude.{ℕ, ◌&&◌, Bool, false, not, List, [], ◌∷◌, map, filter}, Str.bytes_eq}
+use Rattle.kernel_types.specs.declared.call.{Call.{Call, TheVariants.CacheGet}, Kind.Kind, Reply.Reply}
+use Rattle.kernel_types.specs.declared.{call.Reply.TheVariants.{Gone, Owners, Entry, Fault}, object.Att.Att}
 use Rattle.kernel_types.specs.declared.call.Kind.TheVariants as kinds
-use Rattle.kernel_types.specs.declared.call.Reply.{Reply}
-use Rattle.kernel_types.specs.declared.call.Reply.TheVariants.{Gone, Owners, Entry, Fault}
 use Rattle.pod_file.specs.declared.command.ValidAtt.{ValidAtt}
 use Rattle.plugin_chain.specs.Wanted.{deletion}
 

@@ -1,19 +1,13 @@
 -- `firewall` keeps the laws of a chained plugin.
 use Rattle.std.proofs.Common.{◌≡◌, ◌*◌, ◌≤◌, true, List, ◌++◌, length, refl, sym, ap, ◌∙◌, arith}
 use Rattle.std.proofs.lemmas.List.{append-nil, length-map}
-use Rattle.std.specs.Prelude.{flat_map}
-use Rattle.std.specs.List.{list_all}
+use Rattle.std.specs.{List.list_all, Prelude.flat_map}
 use Rattle.cni_result.specs.declared.result.IpEntry.{IpEntry}
-use Rattle.kernel_types.specs.Equal.{rule_eq}
-use Rattle.kernel_types.specs.Terms.{is_own}
+use Rattle.kernel_types.specs.{Equal.rule_eq, Terms.is_own, declared.{call.Call.TheVariants.RuleAppend, object.Att.Att}}
 use Rattle.kernel_types.proofs.Cases.{att_eq-refl}
-use Rattle.kernel_types.specs.declared.object.Att.{Att}
-use Rattle.kernel_types.specs.declared.call.Call.TheVariants.{RuleAppend}
 use Rattle.plugin_base.specs.PluginLaws.{ChainedLaws}
-use Rattle.plugin_base.proofs.CallLists.{share_after_calls-rules}
-use Rattle.plugin_base.proofs.Counts.{length-each}
-use Rattle.plugin_base.proofs.KeyLists.{length-each_key_once, list_all-flat, list_all-each_key_once}
-use Rattle.plugin_base.proofs.PluginCalls.{rule-calls}
+use Rattle.plugin_base.proofs.{CallLists.share_after_calls-rules, Counts.length-each, KeyLists.length-each_key_once}
+use Rattle.plugin_base.proofs.{KeyLists.{list_all-flat, list_all-each_key_once}, PluginCalls.rule-calls}
 use Rattle.firewall_tuning.specs.Firewall.{firewall_calls_of, firewall_plugin, firewall_rules, forward_of}
 
 -- each rule is its attachment's

@@ -1,32 +1,23 @@
 -- `tuning` keeps the laws of a chained plugin.
-use Rattle.std.proofs.Common.{◌≡◌, ℕ, ◌+◌, ◌≤◌, Bool, true, false, not, ap, List, [], ◌∷◌, ◌++◌, map, length, None, refl, sym, ◌∙◌, arith}
-use Rattle.std.proofs.lemmas.List.{append-nil, length-append, length-map}
-use Rattle.std.specs.Prelude.{if◌then◌else◌, is_some}
-use Rattle.std.specs.List.{list_all, list_any}
-use Rattle.std.specs.Cmp.Lexicographic.{nat_list_eq_equiv}
+use Rattle.std.proofs.Common.{◌≡◌, ℕ, ◌+◌, ◌≤◌, Bool, true, false, not, ap, List, [], ◌∷◌, ◌++◌, map, length, None}
+use Rattle.std.proofs.{Common.{refl, sym, ◌∙◌, arith}, lemmas.List.{append-nil, length-append, length-map}}
+use Rattle.std.specs.{Cmp.Lexicographic.nat_list_eq_equiv, List.{list_all, list_any}, Prelude.{if◌then◌else◌, is_some}}
 use Rattle.cni_addr.proofs.Cases.{by_test}
-use Rattle.cni_result.specs.declared.cached.PortMapping.{PortMapping}
-use Rattle.cni_result.specs.declared.result.Interface.{Interface}
-use Rattle.cni_result.specs.declared.result.IpEntry.{IpEntry}
+use Rattle.cni_result.specs.declared.{cached.PortMapping.PortMapping, result.{Interface.Interface, IpEntry.IpEntry}}
 use Rattle.cni_result.specs.declared.version.Version.{Version}
 use Rattle.net_conf.specs.declared.chained.TuningConf.{TuningConf}
-use Rattle.kernel_types.specs.Apply.Calls.{is_same_setting, set_link}
+use Rattle.kernel_types.specs.{Apply.Calls.{is_same_setting, set_link}, declared.call.Call.{Call, TheVariants.LinkSet}}
+use Rattle.kernel_types.specs.declared.{call.Call.TheVariants.SettingSet, object.{Att.Att, Link.Link}}
 use Rattle.kernel_types.proofs.Cases.{att_eq-refl}
-use Rattle.kernel_types.specs.declared.object.Att.{Att}
-use Rattle.kernel_types.specs.declared.object.Link.{Link}
-use Rattle.kernel_types.specs.declared.call.Call.{Call}
-use Rattle.kernel_types.specs.declared.call.Call.TheVariants.{LinkSet, SettingSet}
-use Rattle.plugin_base.specs.Calls.{is_of_kinds, is_plugin_call_of}
-use Rattle.plugin_base.specs.PluginCalls.{at_most_one, changes_links, is_later_call, set_links_once, stands_on}
-use Rattle.plugin_base.specs.PluginLaws.{AreChainedCalls, ChainedLaws}
-use Rattle.plugin_base.specs.Plugins.{changed_by}
-use Rattle.plugin_base.specs.Shapes.{inner_key}
-use Rattle.plugin_base.specs.Share.{Share, share_after_call, share_after_calls}
-use Rattle.plugin_base.proofs.CallLists.{share_after_calls-settings, share_after_calls-then}
-use Rattle.plugin_base.proofs.Counts.{length-if}
-use Rattle.plugin_base.proofs.KeyLists.{length-each_key_once, list_all-append, list_all-if}
-use Rattle.plugin_base.proofs.PluginCalls.{none-every, own-at, passes-once}
-use Rattle.firewall_tuning.specs.Tuning.{link_set_calls, setting_of, sets_any, tuned, tuned_interface, tuning_calls_of, tuning_kinds, tuning_plugin, tuning_settings}
+use Rattle.plugin_base.specs.{Calls.{is_of_kinds, is_plugin_call_of}, PluginCalls.{at_most_one, changes_links}}
+use Rattle.plugin_base.specs.{PluginCalls.{is_later_call, set_links_once, stands_on}, PluginLaws.AreChainedCalls}
+use Rattle.plugin_base.specs.{PluginLaws.ChainedLaws, Plugins.changed_by, Shapes.inner_key, Share.Share}
+use Rattle.plugin_base.specs.Share.{share_after_call, share_after_calls}
+use Rattle.plugin_base.proofs.{CallLists.{share_after_calls-settings, share_after_calls-then}, Counts.length-if}
+use Rattle.plugin_base.proofs.{KeyLists.{length-each_key_once, list_all-append, list_all-if}, PluginCalls.none-every}
+use Rattle.plugin_base.proofs.PluginCalls.{own-at, passes-once}
+use Rattle.firewall_tuning.specs.Tuning.{link_set_calls, setting_of, sets_any, tuned, tuned_interface, tuning_calls_of}
+use Rattle.firewall_tuning.specs.Tuning.{tuning_kinds, tuning_plugin, tuning_settings}
 
 -- ---- the calls
 

@@ -1,23 +1,14 @@
 -- The `firewall` plugin: what is forwarded to and from the container. The rule set is this project's own, after
 -- iptables.
 use Rattle.std.specs.Prelude.{◌*◌, true, false, List, [], ◌∷◌, map, flat_map, Some}
-use Rattle.cni_addr.specs.Network.{whole}
-use Rattle.cni_addr.specs.declared.address.Addr.{Addr}
-use Rattle.cni_addr.specs.declared.address.Cidr.{Cidr}
+use Rattle.cni_addr.specs.{Lists.each_key_once, Network.whole, declared.address.{Addr.Addr, Cidr.Cidr}}
 use Rattle.cni_result.specs.declared.result.IpEntry.{IpEntry}
-use Rattle.kernel_types.specs.Equal.{rule_eq}
-use Rattle.kernel_types.specs.declared.object.Att.{Att}
-use Rattle.kernel_types.specs.declared.rule.Rule.{Rule}
+use Rattle.kernel_types.specs.{Equal.rule_eq, declared.call.{Call.{Call, TheVariants.RuleAppend}, Kind.Kind}}
+use Rattle.kernel_types.specs.declared.{call.Kind.TheVariants.Rules, object.Att.Att, rule.Rule.Rule}
 use Rattle.kernel_types.specs.declared.rule.Table.TheVariants.{Filter}
 use Rattle.kernel_types.specs.declared.rule.Chain.TheVariants as chains
 use Rattle.kernel_types.specs.declared.rule.Target.TheVariants as targets
-use Rattle.kernel_types.specs.declared.call.Call.{Call}
-use Rattle.kernel_types.specs.declared.call.Call.TheVariants.{RuleAppend}
-use Rattle.kernel_types.specs.declared.call.Kind.{Kind}
-use Rattle.kernel_types.specs.declared.call.Kind.TheVariants.{Rules}
-use Rattle.cni_addr.specs.Lists.{each_key_once}
-use Rattle.plugin_base.specs.Plugins.{ChainedPlugin}
-use Rattle.plugin_base.specs.Shapes.{rule_for_all}
+use Rattle.plugin_base.specs.{Plugins.ChainedPlugin, Shapes.rule_for_all}
 
 -- to the address: what answers it
 abbrev pub accept_replies_to : Att → Addr → Rule

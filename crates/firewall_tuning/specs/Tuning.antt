@@ -1,24 +1,14 @@
 -- The `tuning` plugin: kernel settings of the container's namespace, and values of its link.
-use Rattle.std.specs.Prelude.{ℕ, ◌+◌, Bool, false, ◌||◌, List, [], ◌∷◌, ◌++◌, length, map, is_some, if◌then◌else◌}
-use Rattle.std.specs.Option.{option_or}
-use Rattle.cni_result.specs.Versions.{mtu_since_1_1}
+use Rattle.std.specs.{Option.option_or, Prelude.{ℕ, ◌+◌, Bool, false, ◌||◌, List, [], ◌∷◌, ◌++◌, length, map, is_some}}
+use Rattle.std.specs.Prelude.{if◌then◌else◌}
+use Rattle.cni_result.specs.{Versions.mtu_since_1_1, declared.result.{AddResult.AddResult, Interface.Interface}}
 use Rattle.cni_result.specs.declared.version.Version.{Version}
-use Rattle.cni_result.specs.declared.result.Interface.{Interface}
-use Rattle.cni_result.specs.declared.result.AddResult.{AddResult}
-use Rattle.net_conf.specs.declared.chained.Sysctl.{Sysctl}
-use Rattle.net_conf.specs.declared.chained.TuningConf.{TuningConf}
-use Rattle.kernel_types.specs.Apply.Calls.{is_same_setting, set_link}
-use Rattle.kernel_types.specs.declared.object.Att.{Att}
-use Rattle.kernel_types.specs.declared.object.Link.{Link}
-use Rattle.kernel_types.specs.declared.object.Setting.{Setting}
-use Rattle.kernel_types.specs.declared.object.Tag.TheVariants.{Own}
-use Rattle.kernel_types.specs.declared.call.Call.{Call}
-use Rattle.kernel_types.specs.declared.call.Call.TheVariants.{LinkSet, SettingSet}
-use Rattle.kernel_types.specs.declared.call.Kind.{Kind}
-use Rattle.kernel_types.specs.declared.call.Kind.TheVariants.{Settings}
+use Rattle.net_conf.specs.declared.chained.{Sysctl.Sysctl, TuningConf.TuningConf}
+use Rattle.kernel_types.specs.{Apply.Calls.{is_same_setting, set_link}, declared.call.Call.{Call, TheVariants.LinkSet}}
+use Rattle.kernel_types.specs.declared.call.{Call.TheVariants.SettingSet, Kind.{Kind, TheVariants.Settings}}
+use Rattle.kernel_types.specs.declared.object.{Att.Att, Link.Link, Setting.Setting, Tag.TheVariants.Own}
 use Rattle.cni_addr.specs.Lists.{each_key_once}
-use Rattle.plugin_base.specs.Plugins.{ChainedPlugin}
-use Rattle.plugin_base.specs.Shapes.{inner_key}
+use Rattle.plugin_base.specs.{Plugins.ChainedPlugin, Shapes.inner_key}
 
 -- ---- settings
 

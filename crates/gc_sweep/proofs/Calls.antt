@@ -1,55 +1,31 @@
 -- Each call of a GC lowers a weight, so there are few.
-use Rattle.std.proofs.Common.{◌≡◌, ℕ, ◌+◌, ◌*◌, ◌<◌, ◌≤◌, Bool, true, false, not, cond, ap, List, [], ◌∷◌, ◌++◌, length, Some, None, refl, sym, ◌∙◌, subst, inl, inr, arith, suc-mul, mul-add, mul-le-mul_right, le_refl}
-use Rattle.std.proofs.lemmas.List.{length-map}
-use Rattle.std.specs.Prelude.{filter, map, ◌||◌}
-use Rattle.std.specs.List.{list_any, list_all, filter_map, cons_option}
-use Rattle.std.specs.Str.{bytes_eq}
-use Rattle.std.proofs.lemmas.Option.{same_Some, none-some}
-use Rattle.std.proofs.lemmas.List.Folds.{list_all-append}
+use Rattle.std.proofs.Common.{◌≡◌, ℕ, ◌+◌, ◌*◌, ◌<◌, ◌≤◌, Bool, true, false, not, cond, ap, List, [], ◌∷◌, ◌++◌, length}
+use Rattle.std.proofs.Common.{Some, None, refl, sym, ◌∙◌, subst, inl, inr, arith, suc-mul, mul-add, mul-le-mul_right}
+use Rattle.std.proofs.{Common.le_refl, lemmas.{List.{length-map, Folds.list_all-append}, Option.{same_Some, none-some}}}
+use Rattle.std.specs.{List.{list_any, list_all, filter_map, cons_option}, Prelude.{filter, map, ◌||◌}, Str.bytes_eq}
 use Rattle.cni_addr.specs.Lists.{distinct, each_key_once, without_first}
-use Rattle.kernel_types.specs.Equal.{att_eq}
-use Rattle.kernel_types.specs.Terms.{is_own}
-use Rattle.kernel_types.specs.Apply.Calls.{tags_of, owner_in}
-use Rattle.kernel_types.specs.Sound.{IsSound}
-use Rattle.kernel_types.specs.declared.object.Att.{Att}
-use Rattle.kernel_types.specs.declared.object.Tag.{Tag}
-use Rattle.kernel_types.specs.declared.object.Tag.TheVariants.{Outside, Base, Own}
-use Rattle.kernel_types.specs.declared.object.Host.{Host}
-use Rattle.kernel_types.specs.declared.object.Link.{Link}
-use Rattle.kernel_types.specs.declared.object.AddrObj.{AddrObj}
-use Rattle.kernel_types.specs.declared.object.RouteObj.{RouteObj}
-use Rattle.kernel_types.specs.declared.rule.Rule.{Rule}
-use Rattle.kernel_types.specs.declared.object.Setting.{Setting}
-use Rattle.kernel_types.specs.declared.object.Lease.{Lease}
-use Rattle.kernel_types.specs.declared.object.CachedObj.{CachedObj}
-use Rattle.kernel_types.specs.declared.call.Call.{Call}
-use Rattle.kernel_types.specs.declared.call.Call.TheVariants.{OwnersOf}
-use Rattle.kernel_types.specs.declared.call.Kind.{Kind}
-use Rattle.kernel_types.specs.declared.call.Kind.TheVariants.{Links, Rules, Settings, Leases, Cached}
-use Rattle.kernel_types.specs.declared.call.Reply.{Reply}
-use Rattle.kernel_types.specs.declared.call.Reply.TheVariants.{Gone}
-use Rattle.kernel_types.proofs.Cases.{att_eq-refl}
-use Rattle.kernel_types.proofs.Isolation.{att_eq-laws, att_eq-same}
-use Rattle.kernel_types.proofs.ListLemmas.{distinct-filter, list_all-filter}
-use Rattle.kernel_types.proofs.TouchRemoval.{by_bool, list_all-both}
+use Rattle.kernel_types.specs.{Apply.Calls.{tags_of, owner_in}, Equal.att_eq, Sound.IsSound, Terms.is_own}
+use Rattle.kernel_types.specs.declared.call.{Call.{Call, TheVariants.OwnersOf}, Kind.{Kind, TheVariants.{Links, Rules}}}
+use Rattle.kernel_types.specs.declared.call.{Kind.TheVariants.{Settings, Leases, Cached}, Reply.Reply}
+use Rattle.kernel_types.specs.declared.{call.Reply.TheVariants.Gone, object.{AddrObj.AddrObj, Att.Att}}
+use Rattle.kernel_types.specs.declared.object.{CachedObj.CachedObj, Host.Host, Lease.Lease, Link.Link}
+use Rattle.kernel_types.specs.declared.object.{RouteObj.RouteObj, Setting.Setting, Tag.{Tag, TheVariants.Outside}}
+use Rattle.kernel_types.specs.declared.{object.Tag.TheVariants.{Base, Own}, rule.Rule.Rule}
+use Rattle.kernel_types.proofs.{Cases.att_eq-refl, Isolation.{att_eq-laws, att_eq-same}, ListLemmas.distinct-filter}
+use Rattle.kernel_types.proofs.{ListLemmas.list_all-filter, TouchRemoval.{by_bool, list_all-both}}
 use Rattle.plugin_base.proofs.KeyLists.{distinct-each_key_once, list_all-each_key_once}
 use Rattle.pod_file.specs.declared.command.ValidAtt.{ValidAtt}
-use Rattle.cni_verbs.specs.Replies.{host_after, reply_to}
-use Rattle.cni_verbs.specs.Script.{call_of_work, gc_of}
-use Rattle.cni_verbs.specs.Sweep.{Gc, Step, AskCached, Delete, Sweep, Job, is_valid, step_call, job_of, after_step, work_after}
+use Rattle.cni_verbs.specs.{Replies.{host_after, reply_to}, Script.{call_of_work, gc_of}, Sweep.{Gc, Step, AskCached}}
+use Rattle.cni_verbs.specs.Sweep.{Delete, Sweep, Job, is_valid, step_call, job_of, after_step, work_after}
 use Rattle.plugin_chain.specs.Wanted.{deletion, kinds_of}
-use Rattle.gc_sweep.specs.Bound.{stale_owners, all_tags, objects_by, GcBound}
-use Rattle.gc_sweep.specs.Keep.{goes, IsWithin}
-use Rattle.gc_sweep.specs.Trace.{Made, host_on}
-use Rattle.gc_sweep.proofs.Covered.{WorkKept, Next, work_step, work_start}
-use Rattle.gc_sweep.proofs.Deletions.{deletes}
-use Rattle.gc_sweep.proofs.Kept.{tags_within}
-use Rattle.cni_addr.proofs.Lists.{list_all-none}
-use Rattle.gc_sweep.proofs.Lists.{count_append, length-without_first, list_all-drops}
-use Rattle.gc_sweep.proofs.Machine.{Point, start_point, point_after, IsTrail}
-use Rattle.gc_sweep.proofs.Owners.{is_stale, goes_own, own_goes, owners_cover, owners_stale, has_att}
-use Rattle.gc_sweep.proofs.Runs.{trail, early_or, early_makes_none}
+use Rattle.gc_sweep.specs.{Bound.{stale_owners, all_tags, objects_by, GcBound}, Keep.{goes, IsWithin}, Trace.Made}
+use Rattle.gc_sweep.specs.Trace.{host_on}
+use Rattle.gc_sweep.proofs.{Covered.{WorkKept, Next, work_step, work_start}, Deletions.deletes, Kept.tags_within}
+use Rattle.gc_sweep.proofs.{Lists.{count_append, length-without_first, list_all-drops}, Machine.{Point, start_point}}
+use Rattle.gc_sweep.proofs.{Machine.{point_after, IsTrail}, Owners.{is_stale, goes_own, own_goes, owners_cover}}
+use Rattle.gc_sweep.proofs.{Owners.{owners_stale, has_att}, Runs.{trail, early_or, early_makes_none}}
 use Rattle.gc_sweep.proofs.Weights.{jobs_weight, total, weight}
+use Rattle.cni_addr.proofs.Lists.{list_all-none}
 
 -- ---- no more distinct owners than there are
 

@@ -1,37 +1,24 @@
 -- Each call of a GC lowers the calls that are left to it.
-use Rattle.std.proofs.Common.{◌≡◌, ℕ, ◌+◌, ◌*◌, ◌<◌, ◌≤◌, Bool, true, false, List, [], ◌∷◌, map, length, Option, Some, None, refl, sym, subst, arith, mul-le-mul_right}
-use Rattle.std.specs.Prelude.{filter, find, not}
-use Rattle.std.specs.List.{cons_option, filter_map, list_any}
-use Rattle.std.proofs.lemmas.List.{length-map}
+use Rattle.std.proofs.Common.{◌≡◌, ℕ, ◌+◌, ◌*◌, ◌<◌, ◌≤◌, Bool, true, false, List, [], ◌∷◌, map, length, Option, Some}
+use Rattle.std.proofs.{Common.{None, refl, sym, subst, arith, mul-le-mul_right}, lemmas.List.length-map}
 use Rattle.std.proofs.lemmas.Option.{same_Some, none-some}
+use Rattle.std.specs.{List.{cons_option, filter_map, list_any}, Prelude.{filter, find, not}}
 use Rattle.net_conf.specs.Sets.{one_if}
-use Rattle.kernel_types.specs.Apply.{apply}
-use Rattle.kernel_types.specs.Apply.Calls.{goes_with, owner_in, tags_of, without_link}
-use Rattle.kernel_types.specs.Equal.{att_eq}
-use Rattle.cni_addr.specs.Lists.{each_key_once}
-use Rattle.kernel_types.specs.Terms.{is_own}
-use Rattle.kernel_types.proofs.Removal.{goes_with-itself}
-use Rattle.kernel_types.specs.declared.object.Att.{Att}
-use Rattle.kernel_types.specs.declared.object.CachedObj.{CachedObj}
-use Rattle.kernel_types.specs.declared.object.Host.{Host}
-use Rattle.kernel_types.specs.declared.object.Lease.{Lease}
-use Rattle.kernel_types.specs.declared.object.Link.{Link}
+use Rattle.kernel_types.specs.{Apply.{apply, Calls.{goes_with, owner_in, tags_of, without_link}}, Equal.att_eq}
+use Rattle.kernel_types.specs.{Terms.is_own, declared.call.{Call.{Call, TheVariants.OwnersOf}, Kind.Kind, Reply.Reply}}
+use Rattle.kernel_types.specs.declared.{call.Reply.TheVariants.{Fault, Gone}, object.{Att.Att, CachedObj.CachedObj}}
+use Rattle.kernel_types.specs.declared.object.{Host.Host, Lease.Lease, Link.Link, Setting.Setting, Tag.Tag}
 use Rattle.kernel_types.specs.declared.rule.Rule.{Rule}
-use Rattle.kernel_types.specs.declared.object.Setting.{Setting}
-use Rattle.kernel_types.specs.declared.object.Tag.{Tag}
-use Rattle.kernel_types.specs.declared.call.Call.{Call}
-use Rattle.kernel_types.specs.declared.call.Call.TheVariants.{OwnersOf}
-use Rattle.kernel_types.specs.declared.call.Kind.{Kind}
+use Rattle.cni_addr.specs.Lists.{each_key_once}
+use Rattle.kernel_types.proofs.Removal.{goes_with-itself}
 use Rattle.kernel_types.specs.declared.call.Kind.TheVariants as kinds
-use Rattle.kernel_types.specs.declared.call.Reply.{Reply}
-use Rattle.kernel_types.specs.declared.call.Reply.TheVariants.{Fault, Gone}
 use Rattle.plugin_base.proofs.KeyLists.{length-each_key_once}
-use Rattle.cni_verbs.specs.Script.{call_of_work}
-use Rattle.cni_verbs.specs.Sweep.{Gc, Job, AskCached, Delete, Step, Sweep, after_step, is_valid, job_of, step_call, work_after}
+use Rattle.cni_verbs.specs.{Script.call_of_work, Sweep.{Gc, Job, AskCached, Delete, Step, Sweep, after_step, is_valid}}
+use Rattle.cni_verbs.specs.Sweep.{job_of, step_call, work_after}
 use Rattle.plugin_chain.specs.Wanted.{deletion}
-use Rattle.gc_sweep.proofs.Calls.{jobs_weight-after, jobs_weight-map}
-use Rattle.gc_sweep.proofs.Lists.{fewer_filter, length-found, length-without_first}
-use Rattle.gc_sweep.proofs.Weights.{collection_left, jobs_weight, objects_in, sweeps_weight}
+use Rattle.gc_sweep.proofs.{Calls.{jobs_weight-after, jobs_weight-map}, Lists.{fewer_filter, length-found}}
+use Rattle.gc_sweep.proofs.{Lists.length-without_first, Weights.{collection_left, jobs_weight, objects_in}}
+use Rattle.gc_sweep.proofs.Weights.{sweeps_weight}
 
 -- ---- no more owners than objects
 

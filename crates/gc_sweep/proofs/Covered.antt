@@ -1,38 +1,23 @@
 -- What is left of a kind is still to be swept, or was blamed.
 use Rattle.std.proofs.Common.{◌≡◌, ℕ, Bool, true, false, not, List, [], ◌∷◌, ◌++◌, Some, refl, sym, ◌∙◌, subst, arith}
-use Rattle.std.specs.Prelude.{map, ◌&&◌, ◌||◌}
-use Rattle.std.specs.List.{list_any, list_all}
 use Rattle.std.proofs.lemmas.Option.{same_Some, none-some}
-use Rattle.kernel_types.specs.Terms.{is_own}
-use Rattle.kernel_types.specs.Apply.{apply}
-use Rattle.kernel_types.specs.Apply.Calls.{tags_of}
-use Rattle.kernel_types.specs.Sound.{IsSound}
-use Rattle.kernel_types.specs.declared.object.Att.{Att}
-use Rattle.kernel_types.specs.declared.object.Tag.{Tag}
-use Rattle.kernel_types.specs.declared.object.Host.{Host}
-use Rattle.kernel_types.specs.declared.call.Call.{Call}
-use Rattle.kernel_types.specs.declared.call.Call.TheVariants.{CacheGet, OwnersOf}
-use Rattle.kernel_types.specs.declared.call.Kind.{Kind}
-use Rattle.kernel_types.specs.declared.call.Kind.TheVariants.{Links, Rules, Settings, Leases, Cached}
-use Rattle.kernel_types.specs.declared.call.Reply.{Reply}
-use Rattle.kernel_types.specs.declared.call.Reply.TheVariants.{Gone, Fault}
-use Rattle.kernel_types.proofs.ListLemmas.{list_all-weaker, list_any-map, list_all-map}
-use Rattle.kernel_types.proofs.TouchRemoval.{by_bool, list_all-both}
+use Rattle.std.specs.{List.{list_any, list_all}, Prelude.{map, ◌&&◌, ◌||◌}}
+use Rattle.kernel_types.specs.{Apply.{apply, Calls.tags_of}, Codes.kind_eq, Sound.IsSound, Terms.is_own}
+use Rattle.kernel_types.specs.declared.call.{Call.{Call, TheVariants.{CacheGet, OwnersOf}}, Kind.Kind}
+use Rattle.kernel_types.specs.declared.call.{Kind.TheVariants.{Links, Rules, Settings, Leases, Cached}, Reply.Reply}
+use Rattle.kernel_types.specs.declared.{call.Reply.TheVariants.{Gone, Fault}, object.{Att.Att, Host.Host, Tag.Tag}}
+use Rattle.kernel_types.proofs.{ListLemmas.{list_all-weaker, list_any-map, list_all-map}, TouchRemoval.by_bool}
+use Rattle.kernel_types.proofs.TouchRemoval.{list_all-both}
 use Rattle.pod_file.specs.declared.command.ValidAtt.{ValidAtt}
-use Rattle.cni_verbs.specs.Replies.{host_after, reply_to}
-use Rattle.cni_verbs.specs.Script.{call_of_work}
-use Rattle.cni_verbs.specs.Sweep.{Gc, Step, AskCached, Delete, Sweep, Job, step_call, job_of, after_step, work_after, all_sweeps}
+use Rattle.cni_verbs.specs.{Replies.{host_after, reply_to}, Script.call_of_work, Sweep.{Gc, Step, AskCached, Delete}}
+use Rattle.cni_verbs.specs.Sweep.{Sweep, Job, step_call, job_of, after_step, work_after, all_sweeps}
 use Rattle.plugin_chain.specs.Wanted.{deletion}
-use Rattle.gc_sweep.specs.Keep.{stays, goes}
-use Rattle.gc_sweep.specs.Trace.{Made, is_about, blames, is_blamed}
-use Rattle.kernel_types.specs.Codes.{kind_eq}
-use Rattle.gc_sweep.specs.Sweep.{is_excused}
+use Rattle.gc_sweep.specs.{Bound.stale_owners, Keep.{stays, goes}, Sweep.is_excused, Trace.{Made, is_about, blames}}
+use Rattle.gc_sweep.specs.Trace.{is_blamed}
 use Rattle.cni_addr.proofs.Lists.{list_all-none}
-use Rattle.gc_sweep.proofs.Lists.{all_true, list_all-drops, list_any-snoc}
-use Rattle.gc_sweep.specs.Bound.{stale_owners}
-use Rattle.gc_sweep.proofs.Owners.{is_stale, owners_cover, owners_stale, has_att}
-use Rattle.gc_sweep.proofs.Deletions.{deletes}
-use Rattle.gc_sweep.proofs.Kept.{Stays, stays_start, stays_deleted, tags_within}
+use Rattle.gc_sweep.proofs.{Deletions.deletes, Kept.{Stays, stays_start, stays_deleted, tags_within}, Lists.all_true}
+use Rattle.gc_sweep.proofs.{Lists.{list_all-drops, list_any-snoc}, Owners.{is_stale, owners_cover, owners_stale}}
+use Rattle.gc_sweep.proofs.Owners.{has_att}
 
 -- ---- the sweeps and jobs that are still to come to a kind
 

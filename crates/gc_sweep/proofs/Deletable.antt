@@ -1,42 +1,27 @@
 -- How many deletions an attachment's objects take, before and after each call of a run.
-use Rattle.std.proofs.Common.{◌≡◌, ℕ, ◌+◌, ◌≤◌, Bool, true, false, List, [], ◌∷◌, ◌++◌, map, length, Option, Some, None, refl, sym, ◌∙◌, ap, subst, inl, inr, ◌⊎◌, arith}
-use Rattle.std.specs.Prelude.{filter, find, not, ◌&&◌}
-use Rattle.std.specs.List.{list_any}
-use Rattle.std.proofs.lemmas.Bool.{both_ways, cases_Bool, not_from_true, not-true}
-use Rattle.std.proofs.lemmas.List.{length-append, length-map}
+use Rattle.std.proofs.Common.{◌≡◌, ℕ, ◌+◌, ◌≤◌, Bool, true, false, List, [], ◌∷◌, ◌++◌, map, length, Option, Some, None}
+use Rattle.std.proofs.{Common.{refl, sym, ◌∙◌, ap, subst, inl, inr, ◌⊎◌, arith}, lemmas.Bool.{both_ways, cases_Bool}}
+use Rattle.std.proofs.lemmas.{Bool.{not_from_true, not-true}, List.{length-append, length-map}}
 use Rattle.std.proofs.lemmas.Slice.Eq.{bytes_eq-Decides}
+use Rattle.std.specs.{List.list_any, Prelude.{filter, find, not, ◌&&◌}}
 use Rattle.net_conf.specs.Sets.{one_if}
-use Rattle.cni_addr.specs.declared.address.Addr.{Addr}
-use Rattle.cni_addr.specs.declared.mac.Mac.{Mac}
-use Rattle.cni_addr.specs.declared.range.RangeSet.{RangeSet}
-use Rattle.kernel_types.specs.Allowed.{IsAllowed}
-use Rattle.kernel_types.specs.Apply.{apply}
-use Rattle.kernel_types.specs.Apply.Calls.{goes_with, is_own_at, set_link, with_values, without_link}
-use Rattle.cni_addr.specs.Lists.{without_first}
-use Rattle.kernel_types.specs.Sound.{IsSound, link_fits_tag, peer_fits, peers_back, is_owned_kind}
-use Rattle.kernel_types.specs.Terms.{is_own, is_host_ns, is_peer_at, is_veth, lease_of}
+use Rattle.cni_addr.specs.{Lists.without_first, declared.{address.Addr.Addr, mac.Mac.Mac, range.RangeSet.RangeSet}}
+use Rattle.kernel_types.specs.{Allowed.IsAllowed, Apply.{apply, Calls.{goes_with, is_own_at, set_link, with_values}}}
+use Rattle.kernel_types.specs.{Apply.Calls.without_link, Sound.{IsSound, link_fits_tag, peer_fits, peers_back}}
+use Rattle.kernel_types.specs.{Sound.is_owned_kind, Terms.{is_own, is_host_ns, is_peer_at, is_veth, lease_of}}
+use Rattle.kernel_types.specs.declared.call.Call.{Call, TheVariants.{Begin, BridgeEnsure, GatewayEnsure, ForwardEnsure}}
+use Rattle.kernel_types.specs.declared.call.Call.TheVariants.{VethAdd, MacvlanAdd, LinkSet, AddrAdd, RouteAdd}
+use Rattle.kernel_types.specs.declared.call.{Call.TheVariants.{RuleAppend, SettingSet, LeaseNext, CachePut}, Kind.Kind}
+use Rattle.kernel_types.specs.declared.{call.Reply.{Reply, TheVariants.{Done, Leased, Gone}}, object.Att.Att}
+use Rattle.kernel_types.specs.declared.object.{Host.Host, Link.Link, LinkKey.LinkKey, LinkKind.LinkKind}
 use Rattle.cni_addr.proofs.Cases.{by_test}
-use Rattle.kernel_types.proofs.ListLemmas.{list_any-weaker, passes-find, passes-list_all}
-use Rattle.kernel_types.proofs.Isolation.{is_own-one}
-use Rattle.kernel_types.proofs.Removal.{goes_with-itself}
-use Rattle.kernel_types.proofs.TouchRemoval.{is_own-tag_eq}
-use Rattle.kernel_types.specs.declared.object.Att.{Att}
+use Rattle.kernel_types.proofs.{Isolation.is_own-one, ListLemmas.{list_any-weaker, passes-find, passes-list_all}}
+use Rattle.kernel_types.proofs.{Removal.goes_with-itself, TouchRemoval.is_own-tag_eq}
 use Rattle.kernel_types.specs.declared.object.Tag.TheVariants as tags
-use Rattle.kernel_types.specs.declared.object.Link.{Link}
-use Rattle.kernel_types.specs.declared.object.LinkKey.{LinkKey}
-use Rattle.kernel_types.specs.declared.object.LinkKind.{LinkKind}
 use Rattle.kernel_types.specs.declared.object.LinkKind.TheVariants as link_kinds
-use Rattle.kernel_types.specs.declared.object.Host.{Host}
-use Rattle.kernel_types.specs.declared.call.Call.{Call}
-use Rattle.kernel_types.specs.declared.call.Call.TheVariants.{Begin, BridgeEnsure, GatewayEnsure, ForwardEnsure, VethAdd, MacvlanAdd, LinkSet, AddrAdd, RouteAdd, RuleAppend, SettingSet, LeaseNext, CachePut}
-use Rattle.kernel_types.specs.declared.call.Kind.{Kind}
 use Rattle.kernel_types.specs.declared.call.Kind.TheVariants as kinds
-use Rattle.kernel_types.specs.declared.call.Reply.{Reply}
-use Rattle.kernel_types.specs.declared.call.Reply.TheVariants.{Done, Leased, Gone}
-use Rattle.plugin_base.specs.Calls.{is_plugin_call_of}
-use Rattle.plugin_base.specs.Share.{Share, share_of, share_after_call}
-use Rattle.plugin_base.proofs.KeyLists.{filter-map_kept}
-use Rattle.plugin_base.proofs.OwnCalls.{share-own, share-lease, share-begin}
+use Rattle.plugin_base.specs.{Calls.is_plugin_call_of, Share.{Share, share_of, share_after_call}}
+use Rattle.plugin_base.proofs.{KeyLists.filter-map_kept, OwnCalls.{share-own, share-lease, share-begin}}
 use Rattle.plugin_base.proofs.Refusals.{refused-same, refused-lease}
 use Rattle.plugin_chain.specs.Wanted.{deletion}
 use Rattle.gc_sweep.specs.Deletions.{deletions_of}

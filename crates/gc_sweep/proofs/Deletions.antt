@@ -1,33 +1,22 @@
 -- What a deletion does to a sound host, for every kind.
-use Rattle.std.proofs.Common.{◌≡◌, ◌<◌, Bool, true, false, ap, List, Option, Some, None, length, map, refl, sym, ◌∙◌, arith}
-use Rattle.std.specs.Prelude.{filter, find}
-use Rattle.std.specs.List.{list_any}
+use Rattle.std.proofs.Common.{◌≡◌, ◌<◌, Bool, true, false, ap, List, Option, Some, None, length, map, refl, sym, ◌∙◌}
+use Rattle.std.proofs.Common.{arith}
+use Rattle.std.specs.{List.list_any, Prelude.{filter, find}}
 use Rattle.cni_addr.specs.Lists.{without_first}
-use Rattle.kernel_types.specs.Terms.{is_own}
-use Rattle.kernel_types.specs.Apply.{apply}
-use Rattle.kernel_types.specs.Apply.Calls.{tags_of, without_link, goes_with}
-use Rattle.kernel_types.specs.Sound.{IsSound}
-use Rattle.kernel_types.specs.Isolation.{RemovesOwn}
-use Rattle.kernel_types.specs.Touch.{TouchesOwn}
-use Rattle.kernel_types.specs.declared.object.Att.{Att}
-use Rattle.kernel_types.specs.declared.object.Tag.{Tag}
-use Rattle.kernel_types.specs.declared.object.Link.{Link}
-use Rattle.kernel_types.specs.declared.object.Host.{Host}
-use Rattle.kernel_types.specs.declared.call.Kind.{Kind}
-use Rattle.kernel_types.specs.declared.call.Kind.TheVariants.{Links, Rules, Settings, Leases, Cached}
-use Rattle.kernel_types.specs.declared.call.Reply.{Reply}
-use Rattle.kernel_types.specs.declared.call.Reply.TheVariants.{Gone}
+use Rattle.kernel_types.specs.{Apply.{apply, Calls.{tags_of, without_link, goes_with}}, Isolation.RemovesOwn}
+use Rattle.kernel_types.specs.{Sound.IsSound, Terms.is_own, Touch.TouchesOwn, declared.call.Kind.Kind}
+use Rattle.kernel_types.specs.declared.call.{Kind.TheVariants.{Links, Rules, Settings, Leases, Cached}, Reply.Reply}
+use Rattle.kernel_types.specs.declared.{call.Reply.TheVariants.Gone, object.{Att.Att, Host.Host, Link.Link, Tag.Tag}}
 use Rattle.kernel_types.proofs.Deletes.{IsSound-rule_del, IsSound-setting_del, IsSound-lease_del, IsSound-cache_del}
-use Rattle.kernel_types.proofs.DropsOwn.{TouchesOwn-RemovesOwn, RemovesOwn-rule_del, RemovesOwn-setting_del, RemovesOwn-lease_del, RemovesOwn-cache_del, RemovesOwn-link_del}
+use Rattle.kernel_types.proofs.DropsOwn.{TouchesOwn-RemovesOwn, RemovesOwn-rule_del, RemovesOwn-setting_del}
+use Rattle.kernel_types.proofs.DropsOwn.{RemovesOwn-lease_del, RemovesOwn-cache_del, RemovesOwn-link_del}
 use Rattle.kernel_types.proofs.ListLemmas.{without_first-none, list_any-find_none, list_any-map, passes-find}
 use Rattle.kernel_types.proofs.Removal.{IsSound-link_del, goes_with-itself}
 use Rattle.plugin_base.specs.Share.{Share, share_of, no_objects}
 use Rattle.plugin_base.proofs.Deletions.{empty_none}
 use Rattle.plugin_chain.specs.Wanted.{deletion}
 use Rattle.gc_sweep.specs.Keep.{IsWithin}
-use Rattle.gc_sweep.proofs.Lists.{any-found, count_found, count_without_first}
-use Rattle.gc_sweep.proofs.Removes.{within_own}
-use Rattle.gc_sweep.proofs.Weights.{total}
+use Rattle.gc_sweep.proofs.{Lists.{any-found, count_found, count_without_first}, Removes.within_own, Weights.total}
 
 -- all that the layer above uses of a deletion, as a host and a reply
 pub record Deletes (a : Att) (kind : Kind) (h : Host) (step : Host × Reply) : Type 0 where

@@ -1,32 +1,16 @@
 -- What a GC keeps true at each call.
 use Rattle.std.proofs.Common.{◌≡◌, true, false, ap, List, refl, ◌∙◌, arith}
-use Rattle.kernel_types.specs.Apply.{apply}
-use Rattle.kernel_types.specs.Apply.Calls.{tags_of}
-use Rattle.kernel_types.specs.Sound.{IsSound}
-use Rattle.kernel_types.specs.Terms.{is_own}
-use Rattle.kernel_types.specs.declared.object.Tag.{Tag}
-use Rattle.kernel_types.specs.Touch.{DropsOnly, TouchesOwn}
+use Rattle.kernel_types.specs.{Apply.{apply, Calls.tags_of}, Sound.IsSound, Terms.is_own, Touch.{DropsOnly, TouchesOwn}}
+use Rattle.kernel_types.specs.declared.call.Kind.{Kind, TheVariants.{Links, Rules, Settings, Leases, Cached}}
+use Rattle.kernel_types.specs.declared.object.{AddrObj.AddrObj, Att.Att, CachedObj.CachedObj, Host.Host, Last.Last}
+use Rattle.kernel_types.specs.declared.object.{Lease.Lease, Link.Link, NsObj.NsObj, RouteObj.RouteObj, Setting.Setting}
+use Rattle.kernel_types.specs.declared.{object.Tag.Tag, rule.Rule.Rule}
 use Rattle.kernel_types.proofs.Isolation.{KeepsWhere-TouchesOwn}
-use Rattle.kernel_types.specs.declared.object.Att.{Att}
-use Rattle.kernel_types.specs.declared.object.Host.{Host}
-use Rattle.kernel_types.specs.declared.object.Last.{Last}
-use Rattle.kernel_types.specs.declared.object.CachedObj.{CachedObj}
-use Rattle.kernel_types.specs.declared.object.Lease.{Lease}
-use Rattle.kernel_types.specs.declared.object.Setting.{Setting}
-use Rattle.kernel_types.specs.declared.rule.Rule.{Rule}
-use Rattle.kernel_types.specs.declared.object.RouteObj.{RouteObj}
-use Rattle.kernel_types.specs.declared.object.AddrObj.{AddrObj}
-use Rattle.kernel_types.specs.declared.object.Link.{Link}
-use Rattle.kernel_types.specs.declared.object.NsObj.{NsObj}
-use Rattle.kernel_types.specs.declared.call.Kind.{Kind}
-use Rattle.kernel_types.specs.declared.call.Kind.TheVariants.{Links, Rules, Settings, Leases, Cached}
 use Rattle.cni_verbs.specs.Sweep.{Gc}
 use Rattle.gc_sweep.specs.Keep.{stays, keep, IsWithin}
 use Rattle.plugin_chain.specs.Wanted.{deletion}
-use Rattle.gc_sweep.proofs.Lists.{drops-map}
-use Rattle.gc_sweep.proofs.Owners.{is_stale, own_goes}
-use Rattle.gc_sweep.proofs.Deletions.{deletes}
-use Rattle.gc_sweep.proofs.Removes.{within_same, within_trans}
+use Rattle.gc_sweep.proofs.{Deletions.deletes, Lists.drops-map, Owners.{is_stale, own_goes}, Removes.within_same}
+use Rattle.gc_sweep.proofs.Removes.{within_trans}
 
 -- ---- the hosts
 

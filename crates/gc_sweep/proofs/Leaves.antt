@@ -1,41 +1,25 @@
 -- What a GC leaves.
-use Rattle.std.proofs.Common.{◌≡◌, ℕ, ◌+◌, Bool, true, false, ap, List, [], ◌∷◌, ◌++◌, refl, sym, ◌∙◌, subst, inl, inr, arith}
-use Rattle.std.specs.Prelude.{filter, if◌then◌else◌}
-use Rattle.std.specs.List.{list_any, list_all}
-use Rattle.std.proofs.lemmas.Bool.{and_parts}
-use Rattle.std.proofs.lemmas.List.{append_assoc, append-nil}
-use Rattle.kernel_types.specs.Equal.{tag_eq}
-use Rattle.kernel_types.specs.Apply.Calls.{tags_of}
-use Rattle.kernel_types.specs.Replies.{is_fault}
-use Rattle.kernel_types.specs.Sound.{IsSound, address_fits_tag}
-use Rattle.kernel_types.specs.Terms.{is_own, is_at, is_link_of}
-use Rattle.kernel_types.specs.declared.object.Tag.{Tag}
+use Rattle.std.proofs.Common.{◌≡◌, ℕ, ◌+◌, Bool, true, false, ap, List, [], ◌∷◌, ◌++◌, refl, sym, ◌∙◌, subst, inl, inr}
+use Rattle.std.proofs.{Common.arith, lemmas.{Bool.and_parts, List.{append_assoc, append-nil}}}
+use Rattle.std.specs.{List.{list_any, list_all}, Prelude.{filter, if◌then◌else◌}}
+use Rattle.kernel_types.specs.{Apply.Calls.tags_of, Equal.tag_eq, Replies.is_fault, Sound.{IsSound, address_fits_tag}}
+use Rattle.kernel_types.specs.{Terms.{is_own, is_at, is_link_of}, declared.call.Kind.{Kind, TheVariants.{Links, Rules}}}
+use Rattle.kernel_types.specs.declared.call.{Kind.TheVariants.{Settings, Leases, Cached}, Reply.Reply}
+use Rattle.kernel_types.specs.declared.object.{AddrObj.AddrObj, Host.Host, Link.Link, NsObj.NsObj, Tag.Tag}
 use Rattle.kernel_types.specs.declared.object.Tag.TheVariants.{Outside, Base, Own}
-use Rattle.kernel_types.specs.declared.object.NsObj.{NsObj}
-use Rattle.kernel_types.specs.declared.object.Link.{Link}
-use Rattle.kernel_types.specs.declared.object.AddrObj.{AddrObj}
-use Rattle.kernel_types.specs.declared.object.Host.{Host}
-use Rattle.kernel_types.specs.declared.call.Kind.{Kind}
-use Rattle.kernel_types.specs.declared.call.Kind.TheVariants.{Links, Rules, Settings, Leases, Cached}
-use Rattle.kernel_types.specs.declared.call.Reply.{Reply}
-use Rattle.kernel_types.proofs.Cases.{att_eq-refl}
-use Rattle.kernel_types.proofs.Isolation.{is_own-one}
-use Rattle.kernel_types.proofs.ListLemmas.{list_all-weaker, list_all-map}
+use Rattle.kernel_types.proofs.{Cases.att_eq-refl, Isolation.is_own-one, ListLemmas.{list_all-weaker, list_all-map}}
 use Rattle.kernel_types.proofs.TouchRemoval.{from_one, is_own-tag_eq}
 use Rattle.net_conf.specs.declared.list.NetList.{NetList}
 use Rattle.pod_file.specs.declared.command.Command.{Command}
-use Rattle.cni_verbs.specs.Script.{gc_of, faults_after, swept}
-use Rattle.cni_verbs.specs.Sweep.{Gc, Job, Sweep}
+use Rattle.cni_verbs.specs.{Progress.is_gc, Script.{gc_of, faults_after, swept}, Sweep.{Gc, Job, Sweep}}
 use Rattle.cni_errors.specs.declared.answer.Ending.TheVariants.{Yes}
-use Rattle.gc_sweep.specs.Keep.{stays, keep, IsWithin}
-use Rattle.gc_sweep.specs.Sweep.{IsCollected, is_excused, AreExcused, Bounds, YesKeeps, AlwaysBounded, OverExcused, fault_numbers, FaultsNamed}
-use Rattle.gc_sweep.specs.Trace.{Made, host_on, host_from, is_blamed, Ends, IsRun}
-use Rattle.cni_verbs.specs.Progress.{is_gc}
-use Rattle.gc_sweep.proofs.Covered.{WorkKept, Next, is_covered, work_step, work_start}
-use Rattle.gc_sweep.proofs.Kept.{Stays, stays_start, host_of_parts}
-use Rattle.gc_sweep.proofs.Lists.{drops-filter, filter_all}
-use Rattle.gc_sweep.proofs.Machine.{Point, start_point, point_after, point_from, IsTrail}
-use Rattle.gc_sweep.proofs.Runs.{trail, done, early_or, early_makes_none, early_not_yes}
+use Rattle.gc_sweep.specs.{Keep.{stays, keep, IsWithin}, Sweep.{IsCollected, is_excused, AreExcused, Bounds, YesKeeps}}
+use Rattle.gc_sweep.specs.{Sweep.{AlwaysBounded, OverExcused, fault_numbers, FaultsNamed}, Trace.{Made, host_on}}
+use Rattle.gc_sweep.specs.Trace.{host_from, is_blamed, Ends, IsRun}
+use Rattle.gc_sweep.proofs.{Covered.{WorkKept, Next, is_covered, work_step, work_start}, Kept.{Stays, stays_start}}
+use Rattle.gc_sweep.proofs.{Kept.host_of_parts, Lists.{drops-filter, filter_all}, Machine.{Point, start_point}}
+use Rattle.gc_sweep.proofs.{Machine.{point_after, point_from, IsTrail}, Runs.{trail, done, early_or, early_makes_none}}
+use Rattle.gc_sweep.proofs.Runs.{early_not_yes}
 
 -- ---- a whole run
 

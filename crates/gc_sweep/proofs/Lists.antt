@@ -1,11 +1,8 @@
 -- Laws of lists that lost elements and of filters, for a list of any objects.
-use Rattle.std.proofs.Common.{◌≡◌, ◌+◌, ◌≤◌, Bool, true, false, not, cond, ap, List, [], ◌∷◌, ◌++◌, length, Some, refl, sym, ◌∙◌, subst, inl, inr, arith}
-use Rattle.std.specs.Prelude.{filter, find, map, ◌||◌}
-use Rattle.std.specs.List.{list_any, list_all}
-use Rattle.std.proofs.lemmas.List.{length-append}
-use Rattle.std.proofs.lemmas.List.Elements.{filter-append}
-use Rattle.std.proofs.lemmas.List.Folds.{list_any-append}
-use Rattle.std.proofs.lemmas.List.Sums.{count_by-le-length, length-filter}
+use Rattle.std.proofs.Common.{◌≡◌, ◌+◌, ◌≤◌, Bool, true, false, not, cond, ap, List, [], ◌∷◌, ◌++◌, length, Some, refl}
+use Rattle.std.proofs.{Common.{sym, ◌∙◌, subst, inl, inr, arith}, lemmas.List.{length-append, Elements.filter-append}}
+use Rattle.std.proofs.lemmas.List.{Folds.list_any-append, Sums.{count_by-le-length, length-filter}}
+use Rattle.std.specs.{List.{list_any, list_all}, Prelude.{filter, find, map, ◌||◌}}
 use Rattle.cni_addr.specs.Lists.{without_first}
 use Rattle.net_conf.specs.Sets.{one_if}
 use Rattle.kernel_types.specs.Touch.{DropsOnly}

@@ -1,20 +1,15 @@
 -- A share of a list's kinds alone stays so under calls of these kinds, and where objects are removed.
-use Rattle.std.proofs.Common.{◌≡◌, Bool, true, false, not, List, [], map, refl, ap}
+use Rattle.std.proofs.{Common.{◌≡◌, Bool, true, false, not, List, [], map, refl, ap}, lemmas.Bool.{both_ways, not-true}}
 use Rattle.std.specs.Prelude.{filter}
-use Rattle.std.proofs.lemmas.Bool.{both_ways, not-true}
 use Rattle.cni_addr.proofs.Lists.{list_all-none}
 use Rattle.kernel_types.proofs.ListLemmas.{filter_never}
-use Rattle.kernel_types.specs.Touch.{DropsOnly}
-use Rattle.kernel_types.specs.Terms.{is_own}
-use Rattle.kernel_types.specs.declared.object.Att.{Att}
+use Rattle.kernel_types.specs.{Terms.is_own, Touch.DropsOnly, declared.call.Call.{Call, TheVariants.VethAdd}}
+use Rattle.kernel_types.specs.declared.call.Call.TheVariants.{MacvlanAdd, LinkSet, AddrAdd, RouteAdd, RuleAppend}
+use Rattle.kernel_types.specs.declared.{call.{Call.TheVariants.{SettingSet, CachePut}, Kind.Kind}, object.Att.Att}
 use Rattle.kernel_types.specs.declared.object.Host.{Host}
-use Rattle.kernel_types.specs.declared.call.Kind.{Kind}
 use Rattle.kernel_types.specs.declared.call.Kind.TheVariants as kinds
-use Rattle.kernel_types.specs.declared.call.Call.{Call}
-use Rattle.kernel_types.specs.declared.call.Call.TheVariants.{VethAdd, MacvlanAdd, LinkSet, AddrAdd, RouteAdd, RuleAppend, SettingSet, CachePut}
-use Rattle.plugin_base.specs.Share.{Share, share_of, no_objects, share_after_call}
+use Rattle.plugin_base.specs.{Calls.{has_kind, is_of_kinds}, Share.{Share, share_of, no_objects, share_after_call}}
 use Rattle.plugin_base.proofs.Deletions.{empty_none}
-use Rattle.plugin_base.specs.Calls.{has_kind, is_of_kinds}
 use Rattle.gc_sweep.specs.Keep.{OnlyRemoves}
 use Rattle.gc_sweep.proofs.Lists.{list_all-drops}
 

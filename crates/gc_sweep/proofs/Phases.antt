@@ -1,33 +1,24 @@
 -- A run's state, by its list and its work.
-use Rattle.std.proofs.Common.{◌≡◌, ℕ, ◌+◌, Bool, true, false, List, [], ◌∷◌, length, Option, Some, None, refl, sym, ◌∙◌, ap, subst, arith}
-use Rattle.std.specs.Prelude.{◌==◌, is_some, option_map}
-use Rattle.std.specs.Bool.{then_some}
-use Rattle.std.proofs.lemmas.Bool.Decides.{nat_tests}
-use Rattle.std.proofs.lemmas.Option.{none-some}
+use Rattle.std.proofs.Common.{◌≡◌, ℕ, ◌+◌, Bool, true, false, List, [], ◌∷◌, length, Option, Some, None, refl, sym, ◌∙◌}
+use Rattle.std.proofs.{Common.{ap, subst, arith}, lemmas.{Bool.Decides.nat_tests, Option.none-some}}
+use Rattle.std.specs.{Bool.then_some, Prelude.{◌==◌, is_some, option_map}}
 use Rattle.cni_result.specs.declared.version.Version.{Version}
 use Rattle.net_conf.specs.declared.list.NetList.{NetList}
-use Rattle.pod_file.specs.declared.command.Command.{Command}
-use Rattle.pod_file.specs.declared.command.Verb.{Verb}
+use Rattle.pod_file.specs.declared.command.{Command.Command, Verb.Verb}
 use Rattle.pod_file.specs.declared.command.Verb.TheVariants as verbs
-use Rattle.kernel_types.specs.declared.call.Kind.{Kind}
-use Rattle.kernel_types.specs.declared.call.Reply.{Reply}
-use Rattle.kernel_types.specs.Replies.{is_fault}
-use Rattle.cni_verbs.specs.Endings.{answer_of}
-use Rattle.cni_errors.specs.Answers.{plain_answer}
-use Rattle.cni_verbs.specs.Progress.{Progress, is_gc, advanced, answer_in}
-use Rattle.cni_verbs.specs.Script.{State, Collecting, Over, IsOpen, collecting, early_ending, start_state, start_of, advance, next_call, call_of_work, finish_of, finish_of_work, gc_of, faults_after, has_no_work, swept, unless_ended}
-use Rattle.cni_verbs.specs.Sweep.{Job, Sweep, Work, start_work, work_after}
+use Rattle.kernel_types.specs.{Replies.is_fault, declared.call.{Kind.Kind, Reply.Reply}}
+use Rattle.cni_verbs.specs.{Endings.answer_of, Progress.{Progress, is_gc, advanced, answer_in}, Script.State}
+use Rattle.cni_verbs.specs.Script.{Collecting, Over, IsOpen, collecting, early_ending, start_state, start_of, advance}
+use Rattle.cni_verbs.specs.Script.{next_call, call_of_work, finish_of, finish_of_work, gc_of, faults_after, has_no_work}
+use Rattle.cni_verbs.specs.{Script.{swept, unless_ended}, Sweep.{Job, Sweep, Work, start_work, work_after}}
+use Rattle.cni_errors.specs.{Answers.plain_answer, declared.answer.{Cause.Cause, Ending.Ending, Skip.Skip}}
 use Rattle.plugin_chain.specs.Wanted.{kinds_of}
-use Rattle.cni_errors.specs.declared.answer.Cause.{Cause}
 use Rattle.cni_errors.specs.declared.answer.Cause.TheVariants as causes
-use Rattle.cni_errors.specs.declared.answer.Ending.{Ending}
 use Rattle.cni_errors.specs.declared.answer.Ending.TheVariants as endings
-use Rattle.cni_errors.specs.declared.answer.Skip.{Skip}
 use Rattle.cni_errors.specs.declared.answer.Skip.TheVariants as skips
 use Rattle.cni_verbs.proofs.EarlyEndings.{early_ending-cases}
-use Rattle.gc_sweep.specs.Sweep.{is_early}
-use Rattle.gc_sweep.specs.View.{HasTaken, IsInRange, IsPlace, ending_in, progress_of, work_of, jobs_left, sweeps_after}
-use Rattle.gc_sweep.specs.declared.place.SweepPlace.{SweepPlace}
+use Rattle.gc_sweep.specs.{Sweep.is_early, View.{HasTaken, IsInRange, IsPlace, ending_in, progress_of, work_of}}
+use Rattle.gc_sweep.specs.{View.{jobs_left, sweeps_after}, declared.place.SweepPlace.SweepPlace}
 
 -- ---- the start
 

@@ -1,19 +1,11 @@
 -- Hosts that only lost objects, and what makes them lose some: deletions, and changes from outside.
 use Rattle.std.proofs.Common.{◌≡◌, true, false, not, Some, refl, sym, ◌∙◌, subst, inl, inr}
-use Rattle.kernel_types.specs.Allowed.{IsAllowed}
-use Rattle.kernel_types.specs.Apply.{apply}
-use Rattle.kernel_types.specs.Isolation.{RemovesOwn, deletes_for, is_from_outside}
-use Rattle.kernel_types.specs.Sound.{IsSound}
-use Rattle.kernel_types.specs.Terms.{is_own}
-use Rattle.kernel_types.specs.Touch.{AddsNamespace, RemovesUnshared, is_base}
-use Rattle.kernel_types.specs.declared.object.Att.{Att}
+use Rattle.kernel_types.specs.{Allowed.IsAllowed, Apply.apply, Isolation.{RemovesOwn, deletes_for, is_from_outside}}
+use Rattle.kernel_types.specs.{Sound.IsSound, Terms.is_own, Touch.{AddsNamespace, RemovesUnshared, is_base}}
+use Rattle.kernel_types.specs.declared.{call.{Call.{Call, TheVariants.{NsChange, Outside}}, Kind.Kind}, object.Att.Att}
 use Rattle.kernel_types.specs.declared.object.Host.{Host}
-use Rattle.kernel_types.specs.declared.call.Kind.{Kind}
 use Rattle.kernel_types.specs.declared.call.Kind.TheVariants as kinds
-use Rattle.kernel_types.specs.declared.call.Call.{Call}
-use Rattle.kernel_types.specs.declared.call.Call.TheVariants.{NsChange, Outside}
-use Rattle.kernel_types.proofs.DropsOwn.{RemovesOwn-apply}
-use Rattle.kernel_types.proofs.EveryCall.{Touches-apply}
+use Rattle.kernel_types.proofs.{DropsOwn.RemovesOwn-apply, EveryCall.Touches-apply}
 use Rattle.plugin_chain.specs.Wanted.{deletion}
 use Rattle.gc_sweep.specs.Keep.{IsWithin, OnlyRemoves}
 use Rattle.gc_sweep.proofs.Lists.{drops, drops-same, drops-trans}

@@ -1,20 +1,18 @@
 -- The runs of a list and a command, as runs of their work.
 use Rattle.std.proofs.Common.{◌≡◌, ℕ, ◌+◌, List, [], ◌∷◌, Option, Some, inl, inr, ◌⊎◌, refl, sym, ◌∙◌, ap, subst, true}
-use Rattle.std.specs.Prelude.{is_some}
 use Rattle.std.proofs.lemmas.Option.{same_Some, none-some}
+use Rattle.std.specs.Prelude.{is_some}
 use Rattle.kernel_types.specs.declared.object.Host.{Host}
 use Rattle.net_conf.specs.declared.list.NetList.{NetList}
 use Rattle.pod_file.specs.declared.command.Command.{Command}
-use Rattle.cni_verbs.specs.Script.{State, Collecting, Over, Finish, start_state, state_from, advance, next_call, finish_of, finish_of_work, gc_of, swept, unless_ended}
-use Rattle.cni_verbs.specs.Sweep.{Gc, Job, Sweep, start_work}
-use Rattle.cni_errors.specs.declared.answer.Ending.{Ending}
-use Rattle.cni_errors.specs.declared.answer.Ending.TheVariants.{Yes}
+use Rattle.cni_verbs.specs.{Progress.is_gc, Script.{State, Collecting, Over, Finish, start_state, state_from, advance}}
+use Rattle.cni_verbs.specs.{Script.{next_call, finish_of, finish_of_work, gc_of, swept, unless_ended}, Sweep.{Gc, Job}}
+use Rattle.cni_verbs.specs.Sweep.{Sweep, start_work}
+use Rattle.cni_errors.specs.declared.answer.Ending.{Ending, TheVariants.Yes}
 use Rattle.cni_verbs.proofs.EarlyEndings.{early_ending-cases}
-use Rattle.gc_sweep.specs.Sweep.{IsCollected, is_early}
-use Rattle.gc_sweep.specs.Trace.{Made, host_on, IsRunFrom, IsRun, Ends, replies}
-use Rattle.cni_verbs.specs.Progress.{is_gc}
-use Rattle.gc_sweep.proofs.Machine.{Point, start_point, point_after, point_from, IsTrail}
-use Rattle.gc_sweep.proofs.Phases.{finish_working, late, starts}
+use Rattle.gc_sweep.specs.{Sweep.{IsCollected, is_early}, Trace.{Made, host_on, IsRunFrom, IsRun, Ends, replies}}
+use Rattle.gc_sweep.proofs.{Machine.{Point, start_point, point_after, point_from, IsTrail}, Phases.finish_working}
+use Rattle.gc_sweep.proofs.Phases.{late, starts}
 
 -- ---- the work of a run
 

@@ -1,7 +1,6 @@
 -- What every call of a GC lowers: m is the most owners that a sweep can name.
 use Rattle.std.specs.Prelude.{ℕ, ◌+◌, ◌*◌, Bool, List, [], ◌∷◌, length, filter}
-use Rattle.kernel_types.specs.declared.object.Tag.{Tag}
-use Rattle.kernel_types.specs.declared.object.Host.{Host}
+use Rattle.kernel_types.specs.declared.object.{Host.Host, Tag.Tag}
 use Rattle.cni_verbs.specs.Sweep.{Job, Sweep, Work}
 
 -- a sweep asks for the owners, and makes its steps for each

@@ -1,20 +1,13 @@
 -- How many calls a GC can make.
 use Rattle.std.specs.Prelude.{◌≡◌, ℕ, ◌+◌, ◌*◌, ◌≤◌, Bool, true, not, List, ◌++◌, map, filter, filter_map, length}
-use Rattle.kernel_types.specs.Equal.{att_eq}
-use Rattle.cni_addr.specs.Lists.{each_key_once}
-use Rattle.kernel_types.specs.Apply.Calls.{owner_in}
-use Rattle.kernel_types.specs.Sound.{IsSound}
-use Rattle.kernel_types.specs.declared.object.Att.{Att}
+use Rattle.kernel_types.specs.{Apply.Calls.owner_in, Equal.att_eq, Sound.IsSound, declared.object.{Att.Att, Host.Host}}
 use Rattle.kernel_types.specs.declared.object.Tag.{Tag}
-use Rattle.kernel_types.specs.declared.object.Host.{Host}
+use Rattle.cni_addr.specs.Lists.{each_key_once}
 use Rattle.net_conf.specs.declared.list.NetList.{NetList}
-use Rattle.pod_file.specs.declared.command.Command.{Command}
-use Rattle.pod_file.specs.declared.command.ValidAtt.{ValidAtt}
-use Rattle.cni_verbs.specs.Sweep.{is_valid}
+use Rattle.pod_file.specs.declared.command.{Command.Command, ValidAtt.ValidAtt}
+use Rattle.cni_verbs.specs.{Progress.is_gc, Sweep.is_valid}
 use Rattle.plugin_chain.specs.Wanted.{kinds_of}
-use Rattle.gc_sweep.specs.Keep.{goes}
-use Rattle.gc_sweep.specs.Trace.{Made, IsRun}
-use Rattle.cni_verbs.specs.Progress.{is_gc}
+use Rattle.gc_sweep.specs.{Keep.goes, Trace.{Made, IsRun}}
 
 -- the stale attachments that these tags name, each once
 abbrev pub stale_owners : List ℕ → List ValidAtt → List Tag → List Att

@@ -1,7 +1,6 @@
 -- How many deletions take away what an attachment has.
 use Rattle.std.specs.Prelude.{ℕ, ◌+◌, not, List, length, filter}
-use Rattle.kernel_types.specs.Terms.{is_host_ns}
-use Rattle.kernel_types.specs.declared.object.Link.{Link}
+use Rattle.kernel_types.specs.{Terms.is_host_ns, declared.object.Link.Link}
 use Rattle.plugin_base.specs.Share.{Share}
 
 -- Links that aren't in the host's own namespace. One that is there is one end of a veth pair, and goes with the other

@@ -1,12 +1,9 @@
 -- What a GC keeps (CNI specification, section 2, "GC", `cni.dev/valid-attachments`), and hosts that
 -- only lost objects.
-use Rattle.std.specs.Prelude.{◌≡◌, ℕ, Bool, true, not, ◌||◌, List, filter}
-use Rattle.std.specs.Str.{bytes_eq}
-use Rattle.kernel_types.specs.declared.object.Tag.{Tag}
-use Rattle.kernel_types.specs.declared.object.Tag.TheVariants.{Outside, Base, Own}
-use Rattle.kernel_types.specs.Touch.{DropsOnly}
+use Rattle.std.specs.{Prelude.{◌≡◌, ℕ, Bool, true, not, ◌||◌, List, filter}, Str.bytes_eq}
+use Rattle.kernel_types.specs.{Touch.DropsOnly, declared.object.{Host.Host, Tag.{Tag, TheVariants.{Outside, Base}}}}
+use Rattle.kernel_types.specs.declared.object.Tag.TheVariants.{Own}
 use Rattle.cni_verbs.specs.Sweep.{is_valid}
-use Rattle.kernel_types.specs.declared.object.Host.{Host}
 use Rattle.pod_file.specs.declared.command.ValidAtt.{ValidAtt}
 
 -- an object of this tag is kept: it is none of an attachment of this network that the valid list leaves out

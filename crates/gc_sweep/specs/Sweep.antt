@@ -1,23 +1,14 @@
 -- What a GC leaves, and what it answers.
-use Rattle.std.specs.Prelude.{◌≡◌, ℕ, ◌+◌, Bool, true, false, ◌||◌, List, [], ◌∷◌, is_some, if◌then◌else◌}
-use Rattle.std.specs.List.{list_all}
+use Rattle.std.specs.{List.list_all, Prelude.{◌≡◌, ℕ, ◌+◌, Bool, true, false, ◌||◌, List, [], ◌∷◌, is_some}}
+use Rattle.std.specs.Prelude.{if◌then◌else◌}
 use Rattle.cni_result.specs.declared.version.Version.{Version}
-use Rattle.kernel_types.specs.Apply.Calls.{tags_of}
-use Rattle.kernel_types.specs.Replies.{is_fault}
-use Rattle.kernel_types.specs.Sound.{IsSound}
-use Rattle.kernel_types.specs.declared.object.Tag.{Tag}
-use Rattle.kernel_types.specs.declared.object.Host.{Host}
-use Rattle.kernel_types.specs.declared.call.Kind.{Kind}
-use Rattle.kernel_types.specs.declared.call.Kind.TheVariants.{Links}
+use Rattle.kernel_types.specs.{Apply.Calls.tags_of, Replies.is_fault, Sound.IsSound, declared.call.Kind.Kind}
+use Rattle.kernel_types.specs.declared.{call.Kind.TheVariants.Links, object.{Host.Host, Tag.Tag}}
 use Rattle.net_conf.specs.declared.list.NetList.{NetList}
-use Rattle.pod_file.specs.declared.command.Command.{Command}
-use Rattle.pod_file.specs.declared.command.ValidAtt.{ValidAtt}
-use Rattle.cni_verbs.specs.Script.{early_ending, swept}
-use Rattle.cni_errors.specs.declared.answer.Ending.{Ending}
-use Rattle.cni_errors.specs.declared.answer.Ending.TheVariants.{Yes}
-use Rattle.gc_sweep.specs.Keep.{stays, keep, IsWithin}
-use Rattle.gc_sweep.specs.Trace.{Made, IsRun, Ends, host_from, is_blamed}
-use Rattle.cni_verbs.specs.Progress.{is_gc}
+use Rattle.pod_file.specs.declared.command.{Command.Command, ValidAtt.ValidAtt}
+use Rattle.cni_verbs.specs.{Progress.is_gc, Script.{early_ending, swept}}
+use Rattle.cni_errors.specs.declared.answer.Ending.{Ending, TheVariants.Yes}
+use Rattle.gc_sweep.specs.{Keep.{stays, keep, IsWithin}, Trace.{Made, IsRun, Ends, host_from, is_blamed}}
 
 -- the list ends a GC before its first call: it is older than the verb, or disables it
 abbrev pub is_early : Version → Bool → Bool

@@ -1,20 +1,14 @@
 -- What a GC that is alone with a host has done.
-use Rattle.std.specs.Prelude.{◌≡◌, ℕ, ◌+◌, Bool, false, ◌&&◌, List, [], ◌∷◌, map, Some}
-use Rattle.std.specs.List.{fold, list_any}
-use Rattle.kernel_types.specs.Codes.{kind_eq}
-use Rattle.kernel_types.specs.Replies.{is_fault}
-use Rattle.kernel_types.specs.Terms.{is_own}
-use Rattle.kernel_types.specs.declared.object.Tag.{Tag}
-use Rattle.kernel_types.specs.declared.object.Host.{Host}
-use Rattle.kernel_types.specs.declared.call.Call.{Call}
-use Rattle.kernel_types.specs.declared.call.Call.TheVariants.{LinkDel, RuleDel, SettingDel, LeaseDel, CacheDel, OwnersOf}
-use Rattle.kernel_types.specs.declared.call.Kind.{Kind}
-use Rattle.kernel_types.specs.declared.call.Kind.TheVariants.{Links, Rules, Settings, Leases, Cached}
-use Rattle.kernel_types.specs.declared.call.Reply.{Reply}
+use Rattle.std.specs.{List.{fold, list_any}, Prelude.{◌≡◌, ℕ, ◌+◌, Bool, false, ◌&&◌, List, [], ◌∷◌, map, Some}}
+use Rattle.kernel_types.specs.{Codes.kind_eq, Replies.is_fault, Terms.is_own, declared.call.Call.Call}
+use Rattle.kernel_types.specs.declared.call.Call.TheVariants.{LinkDel, RuleDel, SettingDel, LeaseDel, CacheDel}
+use Rattle.kernel_types.specs.declared.call.{Call.TheVariants.OwnersOf, Kind.{Kind, TheVariants.{Links, Rules}}}
+use Rattle.kernel_types.specs.declared.call.{Kind.TheVariants.{Settings, Leases, Cached}, Reply.Reply}
+use Rattle.kernel_types.specs.declared.object.{Host.Host, Tag.Tag}
 use Rattle.net_conf.specs.declared.list.NetList.{NetList}
 use Rattle.pod_file.specs.declared.command.Command.{Command}
-use Rattle.cni_verbs.specs.Replies.{host_after, reply_to}
-use Rattle.cni_verbs.specs.Script.{State, start_state, advance, next_call, state_after, finish_of}
+use Rattle.cni_verbs.specs.{Replies.{host_after, reply_to}, Script.{State, start_state, advance, next_call}}
+use Rattle.cni_verbs.specs.Script.{state_after, finish_of}
 use Rattle.cni_errors.specs.declared.answer.Ending.{Ending}
 
 -- a call that the GC made, and its reply

@@ -1,9 +1,6 @@
 -- What an index of a valid list finds.
-use Rattle.std.specs.Prelude.{◌≡◌, ℕ, List}
-use Rattle.std.specs.Cmp.Lexicographic.{slice_cmp}
-use Rattle.std.specs.List.Sorted.{IsSortedBy}
-use Rattle.std.specs.Ordering.{is_lt, nat_cmp, ordering_then}
-use Rattle.std.specs.declared.cmp.Ordering.{Ordering}
+use Rattle.std.specs.{Cmp.Lexicographic.slice_cmp, List.Sorted.IsSortedBy, Ordering.{is_lt, nat_cmp, ordering_then}}
+use Rattle.std.specs.{Prelude.{◌≡◌, ℕ, List}, declared.cmp.Ordering.Ordering}
 use Rattle.kernel_types.specs.declared.object.Att.{Att}
 use Rattle.pod_file.specs.declared.command.ValidAtt.{ValidAtt}
 use Rattle.cni_verbs.specs.Sweep.{is_valid}

@@ -1,23 +1,17 @@
 -- What a run keeps, and stands for.
-use Rattle.std.specs.Prelude.{◌≡◌, ℕ, ◌<◌, List, [], ◌∷◌, map, drop, length, Option, Some, None, option_map}
-use Rattle.std.specs.List.{after_first}
-use Rattle.kernel_types.specs.Codes.{kind_eq}
-use Rattle.kernel_types.specs.declared.object.Att.{Att}
-use Rattle.kernel_types.specs.declared.call.Kind.{Kind}
-use Rattle.kernel_types.specs.declared.call.Reply.{Reply}
+use Rattle.std.specs.{List.after_first, Prelude.{◌≡◌, ℕ, ◌<◌, List, [], ◌∷◌, map, drop, length, Option, Some, None}}
+use Rattle.std.specs.Prelude.{option_map}
+use Rattle.kernel_types.specs.{Codes.kind_eq, declared.{call.{Kind.Kind, Reply.Reply}, object.Att.Att}}
 use Rattle.net_conf.specs.declared.list.NetList.{NetList}
-use Rattle.pod_file.specs.declared.command.Command.{Command}
-use Rattle.pod_file.specs.declared.command.ValidAtt.{ValidAtt}
-use Rattle.cni_verbs.specs.Progress.{Progress}
-use Rattle.cni_verbs.specs.Script.{State, Finish, collecting, finish_of}
-use Rattle.cni_verbs.specs.Sweep.{Step, AskCached, Delete, Sweep, Job, Work, first_sweep, kind_sweep, all_sweeps, job_of, after_step, work_after}
+use Rattle.pod_file.specs.declared.command.{Command.Command, ValidAtt.ValidAtt}
+use Rattle.cni_verbs.specs.{Progress.Progress, Script.{State, Finish, collecting, finish_of}, Sweep.{Step, AskCached}}
+use Rattle.cni_verbs.specs.Sweep.{Delete, Sweep, Job, Work, first_sweep, kind_sweep, all_sweeps, job_of, after_step}
+use Rattle.cni_verbs.specs.Sweep.{work_after}
 use Rattle.plugin_chain.specs.Wanted.{kinds_of}
 use Rattle.cni_errors.specs.declared.answer.Ending.{Ending}
-use Rattle.gc_sweep.specs.declared.place.Stage.{Stage}
-use Rattle.gc_sweep.specs.declared.place.Stage.TheVariants.{Start, First, Of}
-use Rattle.gc_sweep.specs.declared.place.OwnerStep.{OwnerStep}
-use Rattle.gc_sweep.specs.declared.place.OwnerStep.TheVariants as owner_steps
+use Rattle.gc_sweep.specs.declared.place.{OwnerStep.OwnerStep, Stage.{Stage, TheVariants.{Start, First, Of}}}
 use Rattle.gc_sweep.specs.declared.place.SweepPlace.{SweepPlace}
+use Rattle.gc_sweep.specs.declared.place.OwnerStep.TheVariants as owner_steps
 
 -- ---- the work
 

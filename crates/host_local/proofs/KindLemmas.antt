@@ -1,10 +1,8 @@
 -- Where a first plugin masquerades, DEL takes back its rules; where it gives addresses, the leases.
 use Rattle.std.proofs.Common.{◌≡◌, Bool, true, false, List, ◌∷◌, ◌++◌, Option, Some, None, refl}
-use Rattle.std.specs.Prelude.{is_some}
-use Rattle.std.specs.List.{list_any}
+use Rattle.std.specs.{List.list_any, Prelude.is_some}
 use Rattle.net_conf.specs.declared.first.HostLocalConf.{HostLocalConf}
-use Rattle.kernel_types.specs.Codes.{kind_eq}
-use Rattle.kernel_types.specs.declared.call.Kind.{Kind}
+use Rattle.kernel_types.specs.{Codes.kind_eq, declared.call.Kind.Kind}
 use Rattle.kernel_types.specs.declared.call.Kind.TheVariants as kinds
 use Rattle.host_local.specs.Kinds.{interface_kinds, lease_kinds, rule_kinds}
 

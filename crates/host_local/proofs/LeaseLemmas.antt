@@ -1,17 +1,11 @@
 -- A candidate of a set has a range that holds it.
-use Rattle.std.proofs.Common.{◌≡◌, ℕ, ◌+◌, ◌<◌, Bool, true, false, cond, List, [], ◌∷◌, ◌++◌, length, drop, get_or, map, Option, Some, None, refl, sym, ◌∙◌, ap, append_assoc, arith}
-use Rattle.std.specs.Prelude.{find, option_map}
-use Rattle.std.specs.List.{cons_option, list_any}
-use Rattle.std.proofs.lemmas.List.{drop_more}
-use Rattle.cni_addr.specs.declared.address.Addr.{Addr}
-use Rattle.cni_addr.specs.declared.range.Range.{Range}
-use Rattle.cni_addr.specs.declared.range.RangeSet.{RangeSet}
+use Rattle.std.proofs.Common.{◌≡◌, ℕ, ◌+◌, ◌<◌, Bool, true, false, cond, List, [], ◌∷◌, ◌++◌, length, drop, get_or, map}
+use Rattle.std.proofs.{Common.{Option, Some, None, refl, sym, ◌∙◌, ap, append_assoc, arith}, lemmas.List.drop_more}
+use Rattle.std.specs.{List.{cons_option, list_any}, Prelude.{find, option_map}}
+use Rattle.cni_addr.specs.declared.{address.Addr.Addr, range.{Range.Range, RangeSet.RangeSet}}
 use Rattle.ip_pool.specs.NextAddress.{is_between, is_in, is_candidate}
-use Rattle.kernel_types.specs.declared.object.Att.{Att}
-use Rattle.kernel_types.specs.declared.call.Call.{Call}
-use Rattle.kernel_types.specs.declared.call.Call.TheVariants.{LeaseNext}
-use Rattle.host_local.specs.Laws.{CandidatesAreGiven}
-use Rattle.host_local.specs.Leases.{given_by, given_by_set, given_of, lease_calls_from}
+use Rattle.kernel_types.specs.declared.{call.Call.{Call, TheVariants.LeaseNext}, object.Att.Att}
+use Rattle.host_local.specs.{Laws.CandidatesAreGiven, Leases.{given_by, given_by_set, given_of, lease_calls_from}}
 
 found-step : {X : Type 0} (b : Bool) (x : X) (o : Option X) → (b ≡ false → (y : X) × (o ≡ Some y)) → (y : X) × (cond b (Some x) o ≡ Some y)
 found-step true x o h = (x, refl)

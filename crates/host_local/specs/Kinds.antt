@@ -1,8 +1,7 @@
 -- The kinds of objects that DEL takes back of a first plugin.
 use Rattle.std.specs.Prelude.{Bool, List, [], ◌∷◌, ◌++◌, Option, Some, None, if◌then◌else◌}
 use Rattle.net_conf.specs.declared.first.HostLocalConf.{HostLocalConf}
-use Rattle.kernel_types.specs.declared.call.Kind.{Kind}
-use Rattle.kernel_types.specs.declared.call.Kind.TheVariants.{Links, Rules}
+use Rattle.kernel_types.specs.declared.call.Kind.{Kind, TheVariants.{Links, Rules}}
 use Rattle.host_local.specs.Leases.{host_local_kinds}
 
 -- with `ipMasq` the rules

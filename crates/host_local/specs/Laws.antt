@@ -1,8 +1,6 @@
 -- Laws of the given addresses.
-use Rattle.std.specs.Prelude.{◌≡◌, true, List, map}
-use Rattle.std.specs.List.{AllZip}
-use Rattle.cni_addr.specs.declared.address.Addr.{Addr}
-use Rattle.cni_addr.specs.declared.range.RangeSet.{RangeSet}
+use Rattle.std.specs.{List.AllZip, Prelude.{◌≡◌, true, List, map}}
+use Rattle.cni_addr.specs.declared.{address.Addr.Addr, range.RangeSet.RangeSet}
 use Rattle.ip_pool.specs.NextAddress.{is_candidate}
 use Rattle.host_local.specs.Leases.{given_of}
 

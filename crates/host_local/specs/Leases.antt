@@ -1,16 +1,10 @@
 -- The leases of an attachment, and what a leased address means by its range (the `host-local` plugin).
-use Rattle.std.specs.Prelude.{◌≡◌, ℕ, ◌+◌, true, List, [], ◌∷◌, filter_map, find, scan, slice_get, zip, Option, option_map, MatchOption}
-use Rattle.std.specs.Option.{option_and_then}
-use Rattle.cni_addr.specs.declared.address.Addr.{Addr}
-use Rattle.cni_addr.specs.declared.range.Range.{Range}
-use Rattle.cni_addr.specs.declared.range.RangeSet.{RangeSet}
+use Rattle.std.specs.{Option.option_and_then, Prelude.{◌≡◌, ℕ, ◌+◌, true, List, [], ◌∷◌, filter_map, find, scan}}
+use Rattle.std.specs.Prelude.{slice_get, zip, Option, option_map, MatchOption}
+use Rattle.cni_addr.specs.declared.{address.Addr.Addr, range.{Range.Range, RangeSet.RangeSet}}
 use Rattle.ip_pool.specs.NextAddress.{is_between, is_candidate}
-use Rattle.kernel_types.specs.declared.object.Att.{Att}
-use Rattle.kernel_types.specs.declared.call.Call.{Call}
-use Rattle.kernel_types.specs.declared.call.Call.TheVariants.{LeaseNext}
-use Rattle.kernel_types.specs.declared.call.Given.{Given}
-use Rattle.kernel_types.specs.declared.call.Kind.{Kind}
-use Rattle.kernel_types.specs.declared.call.Kind.TheVariants.{Leases}
+use Rattle.kernel_types.specs.declared.call.{Call.{Call, TheVariants.LeaseNext}, Given.Given, Kind.Kind}
+use Rattle.kernel_types.specs.declared.{call.Kind.TheVariants.Leases, object.Att.Att}
 
 -- one lease of each set, in order
 abbrev pub lease_calls_from : Att → ℕ → List RangeSet → List Call

@@ -1,10 +1,7 @@
 -- The result of `host-local`, which the first plugin completes (CNI specification, section 4, "IPAM plugins").
 use Rattle.std.specs.Prelude.{List, [], map, Option, Some, None}
+use Rattle.cni_result.specs.{Dns.no_dns, declared.result.{AddResult.AddResult, IpEntry.IpEntry, RouteEntry.RouteEntry}}
 use Rattle.cni_result.specs.declared.version.Version.{Version}
-use Rattle.cni_result.specs.declared.result.IpEntry.{IpEntry}
-use Rattle.cni_result.specs.declared.result.RouteEntry.{RouteEntry}
-use Rattle.cni_result.specs.Dns.{no_dns}
-use Rattle.cni_result.specs.declared.result.AddResult.{AddResult}
 use Rattle.net_conf.specs.declared.first.HostLocalConf.{HostLocalConf}
 use Rattle.kernel_types.specs.declared.call.Given.{Given}
 use Rattle.host_local.specs.Conf.{routes_of}

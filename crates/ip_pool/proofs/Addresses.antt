@@ -1,10 +1,6 @@
 -- Equal addresses are one address, and what holds of each member of a list holds of each address that is in it.
-use Rattle.std.proofs.Common.{◌≡◌, ℕ, true, arith}
-use Rattle.std.proofs.lemmas.Bool.Decides.{nat_tests}
-use Rattle.cni_addr.specs.declared.address.Family.{Family}
-use Rattle.cni_addr.specs.declared.address.Addr.{Addr}
-use Rattle.cni_addr.specs.Codes.{family_eq}
-use Rattle.cni_addr.specs.Equal.{addr_eq}
+use Rattle.std.proofs.{Common.{◌≡◌, ℕ, true, arith}, lemmas.Bool.Decides.nat_tests}
+use Rattle.cni_addr.specs.{Codes.family_eq, Equal.addr_eq, declared.address.{Addr.Addr, Family.Family}}
 use Rattle.cni_addr.proofs.Networks.{family_eq-true}
 
 same-fields : (f g : Family) (m n : ℕ) → f ≡ g → m ≡ n → let a : Addr = record { family = f; bits = m } in let b : Addr = record { family = g; bits = n } in a ≡ b

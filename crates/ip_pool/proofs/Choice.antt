@@ -1,23 +1,19 @@
 -- The choice by a search in order is the choice by the relation.
-use Rattle.std.proofs.Common.{◌≡◌, ◌↔◌, ℕ, ◌+◌, Bool, true, false, not, ◌&&◌, ◌||◌, ◌==◌, nat_lt, cond, max, Option, Some, None, List, [], ◌∷◌, take, drop, MatchBool, refl, ap, sym, ◌∙◌, arith}
-use Rattle.std.specs.List.{list_any, position_or_len}
-use Rattle.std.proofs.lemmas.Bool.{not-false, not-true}
-use Rattle.std.proofs.lemmas.Bool.Decides.{nat_tests}
-use Rattle.std.proofs.lemmas.List.{take-append-drop}
+use Rattle.std.proofs.Common.{◌≡◌, ◌↔◌, ℕ, ◌+◌, Bool, true, false, not, ◌&&◌, ◌||◌, ◌==◌, nat_lt, cond, max, Option}
+use Rattle.std.proofs.Common.{Some, None, List, [], ◌∷◌, take, drop, MatchBool, refl, ap, sym, ◌∙◌, arith}
+use Rattle.std.proofs.lemmas.{Bool.{not-false, not-true, Decides.nat_tests}, List.take-append-drop}
 use Rattle.std.proofs.lemmas.List.Folds.{list_any-append}
+use Rattle.std.specs.List.{list_any, position_or_len}
 use Rattle.cni_addr.proofs.Lists.{list_all-none}
-use Rattle.cni_addr.specs.declared.address.Addr.{Addr}
-use Rattle.cni_addr.specs.declared.range.Range.{Range}
+use Rattle.cni_addr.specs.{Equal.addr_eq, Lists.distinct, declared.{address.Addr.Addr, range.Range.Range}}
 use Rattle.cni_addr.specs.declared.range.RangeSet.{RangeSet}
-use Rattle.cni_addr.specs.Equal.{addr_eq}
-use Rattle.cni_addr.specs.Lists.{distinct}
-use Rattle.ip_pool.specs.NextAddress.{is_between, is_in, is_candidate, is_candidate_or_none, is_below, is_passed, is_taken, range_place, HasFree, IsNextAddress, IsExhausted, IsPick}
-use Rattle.ip_pool.specs.Pool.{all_pairs, candidates_of, after_last_first, is_free, pick_of, has_free_of, is_apart, are_apart}
-use Rattle.ip_pool.proofs.Addresses.{same-address, addr_eq-itself}
-use Rattle.ip_pool.proofs.InOrder.{find-none, passes-find, find-member, find-in_order, member-passes}
-use Rattle.ip_pool.proofs.Membership.{list_any-candidates}
-use Rattle.ip_pool.proofs.Passing.{never_passes, passed-not_itself, tried-in_order}
-use Rattle.ip_pool.proofs.Places.{below_in, candidates-ascend}
+use Rattle.ip_pool.specs.NextAddress.{is_between, is_in, is_candidate, is_candidate_or_none, is_below, is_passed}
+use Rattle.ip_pool.specs.NextAddress.{is_taken, range_place, HasFree, IsNextAddress, IsExhausted, IsPick}
+use Rattle.ip_pool.specs.Pool.{all_pairs, candidates_of, after_last_first, is_free, pick_of, has_free_of, is_apart}
+use Rattle.ip_pool.specs.Pool.{are_apart}
+use Rattle.ip_pool.proofs.{Addresses.{same-address, addr_eq-itself}, InOrder.{find-none, passes-find, find-member}}
+use Rattle.ip_pool.proofs.{InOrder.{find-in_order, member-passes}, Membership.list_any-candidates, Passing.never_passes}
+use Rattle.ip_pool.proofs.{Passing.{passed-not_itself, tried-in_order}, Places.{below_in, candidates-ascend}}
 
 -- ---- what is tried is what is listed
 

@@ -1,7 +1,7 @@
 -- Ranges that lie apart, from one on.
 use Rattle.std.proofs.Common.{◌≡◌, ℕ, ◌+◌, ◌-◌, ◌<◌, ◌&&◌, List, length, get_or, take, drop, ap, sym, ◌∙◌}
-use Rattle.std.specs.List.{list_all}
 use Rattle.std.proofs.lemmas.List.{drop_more, take_rest}
+use Rattle.std.specs.List.{list_all}
 use Rattle.cni_addr.specs.declared.range.Range.{Range}
 use Rattle.ip_pool.specs.Pool.{is_apart, are_apart}
 

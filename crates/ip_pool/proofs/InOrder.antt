@@ -1,11 +1,9 @@
 -- Lists in which each element stands in a relation to each later one.
-use Rattle.std.proofs.Common.{◌≡◌, Bool, true, false, not, ◌&&◌, ◌||◌, cond, Some, None, List, [], ◌∷◌, ◌++◌, filter, find, refl, ap, sym, arith, ◌∙◌}
+use Rattle.std.proofs.Common.{◌≡◌, Bool, true, false, not, ◌&&◌, ◌||◌, cond, Some, None, List, [], ◌∷◌, ◌++◌, filter}
+use Rattle.std.proofs.{Common.{find, refl, ap, sym, arith, ◌∙◌}, lemmas.List.Elements.{All-filter, All-weaker}}
+use Rattle.std.proofs.lemmas.List.{Folds.list_all-append, Sums.{AllPass-from_list_all, list_all-from_AllPass}}
 use Rattle.std.specs.List.{list_any, list_all}
-use Rattle.std.proofs.lemmas.List.Elements.{All-filter, All-weaker}
-use Rattle.std.proofs.lemmas.List.Folds.{list_all-append}
-use Rattle.std.proofs.lemmas.List.Sums.{AllPass-from_list_all, list_all-from_AllPass}
-use Rattle.cni_addr.specs.declared.address.Addr.{Addr}
-use Rattle.cni_addr.specs.Equal.{addr_eq}
+use Rattle.cni_addr.specs.{Equal.addr_eq, declared.address.Addr.Addr}
 use Rattle.ip_pool.specs.Pool.{all_pairs}
 use Rattle.ip_pool.proofs.Addresses.{same-address, addr_eq-itself}
 

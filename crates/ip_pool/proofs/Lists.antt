@@ -1,11 +1,9 @@
 -- Searches over lists that are joined, and lists that are gone round.
-use Rattle.std.proofs.Common.{◌≡◌, ℕ, suc, ◌+◌, ◌<◌, ◌||◌, Bool, true, false, not, cond, nat_lt, Option, Some, None, List, [], ◌∷◌, ◌++◌, length, get_or, take, drop, find, refl, ap, ◌∙◌, arith}
-use Rattle.std.specs.List.{flat_map, list_any, after_first, position_or_len, position}
-use Rattle.std.specs.Option.{option_or, is_some}
-use Rattle.std.proofs.Math.Seq.{drop-append-add, take-append-add}
-use Rattle.std.proofs.lemmas.List.{drop_more, drop_all, take_all}
-use Rattle.std.proofs.lemmas.List.Folds.{find-append}
-use Rattle.std.proofs.lemmas.Bool.Decides.{nat_tests}
+use Rattle.std.proofs.Common.{◌≡◌, ℕ, suc, ◌+◌, ◌<◌, ◌||◌, Bool, true, false, not, cond, nat_lt, Option, Some, None}
+use Rattle.std.proofs.Common.{List, [], ◌∷◌, ◌++◌, length, get_or, take, drop, find, refl, ap, ◌∙◌, arith}
+use Rattle.std.proofs.{Math.Seq.{drop-append-add, take-append-add}, lemmas.{Bool.Decides.nat_tests, List.drop_more}}
+use Rattle.std.proofs.lemmas.List.{drop_all, take_all, Folds.find-append}
+use Rattle.std.specs.{List.{flat_map, list_any, after_first, position_or_len, position}, Option.{option_or, is_some}}
 
 -- what is sought in the lists that come next is in the first of them, or in those after it
 pub find-flat_map_drop : {X A : Type 0} (p : A → Bool) (f : X → List A) (xs : List X) (i : ℕ) (x : X) → i < length xs → x ≡ get_or xs i x → find p (flat_map f (drop i xs)) ≡ option_or (find p (f x)) (find p (flat_map f (drop (i + 1) xs)))

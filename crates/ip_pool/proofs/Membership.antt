@@ -1,15 +1,11 @@
 -- Which addresses are among the candidates.
-use Rattle.std.proofs.Common.{◌≡◌, ℕ, zero, suc, ◌+◌, ◌-◌, Bool, true, false, not, ◌&&◌, ◌||◌, nat_lt, cond, List, [], ◌∷◌, filter, refl, arith, ◌∙◌}
-use Rattle.std.specs.List.{list_any, flat_map}
+use Rattle.std.proofs.Common.{◌≡◌, ℕ, zero, suc, ◌+◌, ◌-◌, Bool, true, false, not, ◌&&◌, ◌||◌, nat_lt, cond, List, []}
+use Rattle.std.proofs.{Common.{◌∷◌, filter, refl, arith, ◌∙◌}, lemmas.Bool.Decides.nat_tests}
 use Rattle.std.proofs.lemmas.List.Folds.{list_any-append}
-use Rattle.std.proofs.lemmas.Bool.Decides.{nat_tests}
-use Rattle.cni_addr.specs.declared.address.Family.{Family}
-use Rattle.cni_addr.specs.declared.address.Addr.{Addr}
+use Rattle.std.specs.List.{list_any, flat_map}
+use Rattle.cni_addr.specs.{Codes.family_eq, Equal.addr_eq, declared.address.{Addr.Addr, Family.Family}}
 use Rattle.cni_addr.specs.declared.range.Range.{Range}
-use Rattle.cni_addr.specs.Codes.{family_eq}
-use Rattle.cni_addr.specs.Equal.{addr_eq}
-use Rattle.ip_pool.specs.NextAddress.{is_in}
-use Rattle.ip_pool.specs.Pool.{run_of, candidates_between, candidates_in}
+use Rattle.ip_pool.specs.{NextAddress.is_in, Pool.{run_of, candidates_between, candidates_in}}
 
 list_any-filter_step : {X : Type 0} (p : X → Bool) (kept : Bool) (x : X) (xs : List X) → list_any p (cond kept (x ∷ xs) xs) ≡ ((p x && kept) || list_any p xs)
 list_any-filter_step p true x xs = grind arith

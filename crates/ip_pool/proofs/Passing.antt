@@ -1,19 +1,15 @@
 -- Addresses are tried in an order that passes none by: what is tried later is never on the way to what is tried
 -- earlier.
-use Rattle.std.proofs.Common.{◌≡◌, ℕ, ◌+◌, Bool, true, false, not, ◌&&◌, ◌||◌, cond, Option, Some, None, List, [], ◌∷◌, ◌++◌, take, drop, refl, ap, sym, ◌∙◌, arith}
-use Rattle.std.specs.List.{list_all, position_or_len}
-use Rattle.std.proofs.lemmas.Bool.Decides.{nat_tests}
+use Rattle.std.proofs.Common.{◌≡◌, ℕ, ◌+◌, Bool, true, false, not, ◌&&◌, ◌||◌, cond, Option, Some, None, List, [], ◌∷◌}
+use Rattle.std.proofs.{Common.{◌++◌, take, drop, refl, ap, sym, ◌∙◌, arith}, lemmas.Bool.Decides.nat_tests}
 use Rattle.std.proofs.lemmas.List.Folds.{list_all-append}
-use Rattle.cni_addr.specs.declared.address.Addr.{Addr}
-use Rattle.cni_addr.specs.declared.range.RangeSet.{RangeSet}
-use Rattle.cni_addr.specs.Equal.{addr_eq}
-use Rattle.ip_pool.specs.NextAddress.{is_candidate_or_none, is_below, is_passed}
-use Rattle.ip_pool.specs.Pool.{all_pairs, candidates_of, after_last_first, are_apart}
-use Rattle.ip_pool.proofs.Addresses.{same-address}
-use Rattle.ip_pool.proofs.InOrder.{all_before, list_all-weaker, all_pairs-weaker, all_pairs-append, all_pairs-left, all_pairs-across, all_pairs-right}
-use Rattle.ip_pool.proofs.Lists.{FirstAt, first_at}
-use Rattle.ip_pool.proofs.Places.{candidates-ascend}
-use Rattle.ip_pool.proofs.Membership.{list_any-candidates}
+use Rattle.std.specs.List.{list_all, position_or_len}
+use Rattle.cni_addr.specs.{Equal.addr_eq, declared.{address.Addr.Addr, range.RangeSet.RangeSet}}
+use Rattle.ip_pool.specs.{NextAddress.{is_candidate_or_none, is_below, is_passed}, Pool.{all_pairs, candidates_of}}
+use Rattle.ip_pool.specs.Pool.{after_last_first, are_apart}
+use Rattle.ip_pool.proofs.{Addresses.same-address, InOrder.{all_before, list_all-weaker, all_pairs-weaker}}
+use Rattle.ip_pool.proofs.{InOrder.{all_pairs-append, all_pairs-left, all_pairs-across, all_pairs-right}, Lists.FirstAt}
+use Rattle.ip_pool.proofs.{Lists.first_at, Membership.list_any-candidates, Places.candidates-ascend}
 
 -- the second is not on the way to the first
 abbrev pub never_passes : RangeSet → Option Addr → Addr → Addr → Bool

@@ -1,15 +1,12 @@
 -- In ranges that lie apart the candidates stand in the order of their range's place and then of their bits.
-use Rattle.std.proofs.Common.{◌≡◌, ℕ, zero, suc, ◌+◌, ◌-◌, ◌<◌, Bool, true, false, not, ◌&&◌, ◌||◌, ◌==◌, nat_lt, cond, List, [], ◌∷◌, refl, ap, sym, ◌∙◌, arith}
+use Rattle.std.proofs.Common.{◌≡◌, ℕ, zero, suc, ◌+◌, ◌-◌, ◌<◌, Bool, true, false, not, ◌&&◌, ◌||◌, ◌==◌, nat_lt, cond}
+use Rattle.std.proofs.{Common.{List, [], ◌∷◌, refl, ap, sym, ◌∙◌, arith}, lemmas.Bool.Decides.nat_tests}
 use Rattle.std.specs.List.{list_any, list_all, flat_map, position_or_len}
-use Rattle.std.proofs.lemmas.Bool.Decides.{nat_tests}
-use Rattle.cni_addr.specs.declared.address.Family.{Family}
-use Rattle.cni_addr.specs.declared.address.Addr.{Addr}
-use Rattle.cni_addr.specs.declared.range.Range.{Range}
-use Rattle.cni_addr.specs.Equal.{addr_eq}
-use Rattle.ip_pool.specs.NextAddress.{is_in}
-use Rattle.ip_pool.specs.Pool.{all_pairs, run_of, candidates_in, is_apart, are_apart}
-use Rattle.ip_pool.proofs.InOrder.{list_all-members, list_all-weaker, all_pairs-weaker, all_pairs-append, all_pairs-filter, all_before}
-use Rattle.ip_pool.proofs.Membership.{list_any-candidates_in, list_any-candidates}
+use Rattle.cni_addr.specs.{Equal.addr_eq, declared.{address.{Addr.Addr, Family.Family}, range.Range.Range}}
+use Rattle.ip_pool.specs.{NextAddress.is_in, Pool.{all_pairs, run_of, candidates_in, is_apart, are_apart}}
+use Rattle.ip_pool.proofs.InOrder.{list_all-members, list_all-weaker, all_pairs-weaker, all_pairs-append}
+use Rattle.ip_pool.proofs.{InOrder.{all_pairs-filter, all_before}, Membership.list_any-candidates_in}
+use Rattle.ip_pool.proofs.Membership.{list_any-candidates}
 
 -- an earlier range, or the same and a lower number
 abbrev pub below_in : List Range → Addr → Addr → Bool

@@ -1,17 +1,13 @@
 -- Runs that an address joins or leaves: which addresses they have then, how many, and that they are still runs.
-use Rattle.std.proofs.Common.{◌≡◌, ℕ, ◌+◌, ◌-◌, ◌<◌, ◌≤◌, Bool, true, false, not, ◌&&◌, ◌||◌, nat_lt, cond, List, [], ◌∷◌, ◌++◌, refl, ap, ◌∙◌, arith}
+use Rattle.std.proofs.Common.{◌≡◌, ℕ, ◌+◌, ◌-◌, ◌<◌, ◌≤◌, Bool, true, false, not, ◌&&◌, ◌||◌, nat_lt, cond, List, []}
+use Rattle.std.proofs.{Common.{◌∷◌, ◌++◌, refl, ap, ◌∙◌, arith}, lemmas.Bool.Decides.nat_tests}
+use Rattle.std.proofs.lemmas.List.{Folds.{list_any-append, list_all-append}, Sums.{sum_by-cons, sum_by-append}}
 use Rattle.std.specs.List.{list_all}
-use Rattle.std.proofs.lemmas.Bool.Decides.{nat_tests}
-use Rattle.std.proofs.lemmas.List.Folds.{list_any-append, list_all-append}
-use Rattle.std.proofs.lemmas.List.Sums.{sum_by-cons, sum_by-append}
-use Rattle.cni_addr.specs.declared.address.Addr.{Addr}
-use Rattle.cni_addr.specs.Equal.{addr_eq}
-use Rattle.ip_pool.specs.declared.runs.Run.{Run}
-use Rattle.ip_pool.specs.AddrSets.{is_lower}
-use Rattle.ip_pool.specs.Runs.{run_size, size_of, is_in_run, is_in_runs, is_run, ends_before, first_of, is_before, are_runs}
-use Rattle.ip_pool.specs.RunEdits.{is_next, run_up_to, with_addr, part_below, part_above, without_addr}
-use Rattle.ip_pool.proofs.InOrder.{list_all-weaker}
-use Rattle.ip_pool.proofs.RunMembers.{not_in_later}
+use Rattle.cni_addr.specs.{Equal.addr_eq, declared.address.Addr.Addr}
+use Rattle.ip_pool.specs.{AddrSets.is_lower, RunEdits.{is_next, run_up_to, with_addr, part_below, part_above}}
+use Rattle.ip_pool.specs.{RunEdits.without_addr, Runs.{run_size, size_of, is_in_run, is_in_runs, is_run, ends_before}}
+use Rattle.ip_pool.specs.{Runs.{first_of, is_before, are_runs}, declared.runs.Run.Run}
+use Rattle.ip_pool.proofs.{InOrder.list_all-weaker, RunMembers.not_in_later}
 
 -- from a number to an address, in the address's family
 abbrev from_to : ℕ → Addr → Run

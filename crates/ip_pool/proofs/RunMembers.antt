@@ -1,18 +1,13 @@
 -- Which addresses runs have, and in which order they give them.
-use Rattle.std.proofs.Common.{◌≡◌, ℕ, zero, suc, ◌+◌, ◌-◌, ◌<◌, ◌≤◌, Bool, true, false, ◌&&◌, ◌||◌, nat_lt, nat_le, cond, Some, None, List, [], ◌∷◌, ◌++◌, find, refl, ap, sym, subst, ◌∙◌, arith}
+use Rattle.std.proofs.Common.{◌≡◌, ℕ, zero, suc, ◌+◌, ◌-◌, ◌<◌, ◌≤◌, Bool, true, false, ◌&&◌, ◌||◌, nat_lt, nat_le}
+use Rattle.std.proofs.Common.{cond, Some, None, List, [], ◌∷◌, ◌++◌, find, refl, ap, sym, subst, ◌∙◌, arith}
+use Rattle.std.proofs.lemmas.{Bool.Decides.nat_tests, List.Folds.{list_any-append, list_all-append}}
 use Rattle.std.specs.List.{list_any, list_all}
-use Rattle.std.proofs.lemmas.Bool.Decides.{nat_tests}
-use Rattle.std.proofs.lemmas.List.Folds.{list_any-append, list_all-append}
-use Rattle.cni_addr.specs.declared.address.Family.{Family}
-use Rattle.cni_addr.specs.declared.address.Addr.{Addr}
-use Rattle.cni_addr.specs.Codes.{family_eq}
-use Rattle.cni_addr.specs.Equal.{addr_eq}
+use Rattle.cni_addr.specs.{Codes.family_eq, Equal.addr_eq, declared.address.{Addr.Addr, Family.Family}}
 use Rattle.cni_addr.proofs.Networks.{family_eq-true}
-use Rattle.ip_pool.specs.declared.runs.Run.{Run}
-use Rattle.ip_pool.specs.NextAddress.{is_taken}
-use Rattle.ip_pool.specs.Pool.{run_of}
-use Rattle.ip_pool.specs.AddrSets.{is_lower, ascends, next_number, IsRunEnd}
+use Rattle.ip_pool.specs.{AddrSets.{is_lower, ascends, next_number, IsRunEnd}, NextAddress.is_taken, Pool.run_of}
 use Rattle.ip_pool.specs.Runs.{addresses_in, addresses_of, is_in_run, is_in_runs, is_before, are_runs, ends_before}
+use Rattle.ip_pool.specs.declared.runs.Run.{Run}
 use Rattle.ip_pool.proofs.InOrder.{list_all-weaker, all_pairs-append, all_before, passes-find}
 
 -- ---- what a stretch of numbers has

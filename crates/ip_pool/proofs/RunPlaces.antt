@@ -1,18 +1,14 @@
 -- Where an address stands among runs: those before the place end before it.
-use Rattle.std.proofs.Common.{◌≡◌, ℕ, zero, suc, ◌+◌, ◌-◌, ◌<◌, ◌≤◌, Bool, true, false, nat_lt, cond, Some, None, List, [], ◌∷◌, ◌++◌, length, get_or, take, drop, set, find, refl, ap, sym, ◌∙◌, arith}
-use Rattle.std.specs.List.{list_all, AllWithin}
-use Rattle.std.specs.List.Sorted.{IsPartitionedBy}
-use Rattle.std.proofs.lemmas.Bool.Decides.{nat_tests}
-use Rattle.std.proofs.lemmas.List.{take-append-drop, drop_more, drop_all, get_or_default, set_split}
-use Rattle.std.proofs.lemmas.List.Folds.{list_all-append}
-use Rattle.std.proofs.lemmas.List.Sums.{sum_by-cons}
+use Rattle.std.proofs.Common.{◌≡◌, ℕ, zero, suc, ◌+◌, ◌-◌, ◌<◌, ◌≤◌, Bool, true, false, nat_lt, cond, Some, None, List}
+use Rattle.std.proofs.Common.{[], ◌∷◌, ◌++◌, length, get_or, take, drop, set, find, refl, ap, sym, ◌∙◌, arith}
+use Rattle.std.proofs.lemmas.{Bool.Decides.nat_tests, List.{take-append-drop, drop_more, drop_all, get_or_default}}
+use Rattle.std.proofs.lemmas.List.{set_split, Folds.list_all-append, Sums.sum_by-cons}
+use Rattle.std.specs.List.{list_all, AllWithin, Sorted.IsPartitionedBy}
 use Rattle.cni_addr.specs.declared.address.Addr.{Addr}
-use Rattle.ip_pool.specs.declared.runs.Run.{Run}
-use Rattle.ip_pool.specs.Pool.{all_pairs}
-use Rattle.ip_pool.specs.Runs.{is_in_run, is_run, is_before, are_runs, ends_before, first_of, run_size, size_of}
-use Rattle.ip_pool.specs.RunEdits.{is_next, run_up_to, with_addr, part_below, part_above, without_addr}
-use Rattle.ip_pool.proofs.InOrder.{all_pairs-right}
-use Rattle.ip_pool.proofs.RunEdits.{with_addr-past, without_addr-past}
+use Rattle.ip_pool.specs.{Pool.all_pairs, RunEdits.{is_next, run_up_to, with_addr, part_below, part_above}}
+use Rattle.ip_pool.specs.{RunEdits.without_addr, Runs.{is_in_run, is_run, is_before, are_runs, ends_before, first_of}}
+use Rattle.ip_pool.specs.{Runs.{run_size, size_of}, declared.runs.Run.Run}
+use Rattle.ip_pool.proofs.{InOrder.all_pairs-right, RunEdits.{with_addr-past, without_addr-past}}
 use Rattle.ip_pool.proofs.RunMembers.{find-past_ended, find-reached}
 
 at-all : {X : Type 0} (p : X → Bool) (xs : List X) (i : ℕ) (d : X) → list_all p xs ≡ true → i < length xs → p (get_or xs i d) ≡ true

@@ -1,15 +1,10 @@
 -- What is sought in a stretch, where runs of taken addresses are passed in one step, and so is the gateway.
-use Rattle.std.proofs.Common.{◌≡◌, ℕ, zero, suc, ◌+◌, ◌-◌, ◌<◌, ◌≤◌, true, false, not, ◌&&◌, nat_lt, nat_le, Option, Some, None, List, ◌∷◌, ◌++◌, filter, find, refl, ap, sym, subst, ◌∙◌, arith}
-use Rattle.std.proofs.lemmas.Bool.Decides.{nat_tests}
-use Rattle.std.proofs.lemmas.List.Folds.{find-append}
-use Rattle.cni_addr.specs.declared.address.Family.{Family}
-use Rattle.cni_addr.specs.declared.address.Addr.{Addr}
+use Rattle.std.proofs.Common.{◌≡◌, ℕ, zero, suc, ◌+◌, ◌-◌, ◌<◌, ◌≤◌, true, false, not, ◌&&◌, nat_lt, nat_le, Option}
+use Rattle.std.proofs.Common.{Some, None, List, ◌∷◌, ◌++◌, filter, find, refl, ap, sym, subst, ◌∙◌, arith}
+use Rattle.std.proofs.lemmas.{Bool.Decides.nat_tests, List.Folds.find-append}
+use Rattle.cni_addr.specs.{Codes.family_eq, Equal.addr_eq, declared.address.{Addr.Addr, Family.Family}}
 use Rattle.cni_addr.specs.declared.range.Range.{Range}
-use Rattle.cni_addr.specs.Codes.{family_eq}
-use Rattle.cni_addr.specs.Equal.{addr_eq}
-use Rattle.ip_pool.specs.NextAddress.{is_taken}
-use Rattle.ip_pool.specs.Pool.{run_of, candidates_between, is_free}
-use Rattle.ip_pool.specs.AddrSets.{IsRunEnd}
+use Rattle.ip_pool.specs.{AddrSets.IsRunEnd, NextAddress.is_taken, Pool.{run_of, candidates_between, is_free}}
 use Rattle.ip_pool.specs.WayRound.{is_gateway_within}
 use Rattle.ip_pool.proofs.Stretches.{address_at, run_of-append, candidates_between-split, candidates_between-skip}
 

@@ -1,12 +1,9 @@
 -- Stretches of a range's candidates, from one number to below another.
-use Rattle.std.proofs.Common.{◌≡◌, ℕ, zero, suc, ◌+◌, ◌-◌, ◌<◌, ◌≤◌, Bool, true, false, not, ◌&&◌, cond, List, [], ◌∷◌, ◌++◌, Some, None, filter, find, refl, ap, arith, ◌∙◌}
+use Rattle.std.proofs.Common.{◌≡◌, ℕ, zero, suc, ◌+◌, ◌-◌, ◌<◌, ◌≤◌, Bool, true, false, not, ◌&&◌, cond, List, [], ◌∷◌}
+use Rattle.std.proofs.Common.{◌++◌, Some, None, filter, find, refl, ap, arith, ◌∙◌}
+use Rattle.std.proofs.lemmas.List.{Elements.filter-append, Folds.find-append}
 use Rattle.std.specs.Option.{option_or}
-use Rattle.std.proofs.lemmas.List.Elements.{filter-append}
-use Rattle.std.proofs.lemmas.List.Folds.{find-append}
-use Rattle.cni_addr.specs.declared.address.Family.{Family}
-use Rattle.cni_addr.specs.declared.address.Addr.{Addr}
-use Rattle.cni_addr.specs.declared.range.Range.{Range}
-use Rattle.cni_addr.specs.Equal.{addr_eq}
+use Rattle.cni_addr.specs.{Equal.addr_eq, declared.{address.{Addr.Addr, Family.Family}, range.Range.Range}}
 use Rattle.ip_pool.specs.Pool.{run_of, candidates_between}
 
 -- the range's family's address with that number

@@ -1,10 +1,8 @@
 -- The choice depends on which addresses are taken alone.
 use Rattle.std.proofs.Common.{◌≡◌, Bool, not, Option, List, [], ◌∷◌, find, refl, ap}
 use Rattle.std.specs.List.{list_any}
-use Rattle.cni_addr.specs.declared.address.Addr.{Addr}
-use Rattle.cni_addr.specs.declared.range.RangeSet.{RangeSet}
-use Rattle.ip_pool.specs.NextAddress.{is_taken}
-use Rattle.ip_pool.specs.Pool.{candidates_of, after_last_first, is_free, pick_of, has_free_of}
+use Rattle.cni_addr.specs.declared.{address.Addr.Addr, range.RangeSet.RangeSet}
+use Rattle.ip_pool.specs.{NextAddress.is_taken, Pool.{candidates_of, after_last_first, is_free, pick_of, has_free_of}}
 
 find-alike : {X : Type 0} (p q : X → Bool) → ((x : X) → p x ≡ q x) → (xs : List X) → find p xs ≡ find q xs
 find-alike p q alike [] = refl

@@ -1,20 +1,15 @@
 -- The way round from the last address is the candidates in the order in which they are tried.
-use Rattle.std.proofs.Common.{◌≡◌, ℕ, ◌+◌, ◌<◌, ◌≤◌, true, false, Some, None, List, [], ◌∷◌, ◌++◌, length, get_or, take, drop, refl, ap, sym, ◌∙◌, arith, append_assoc}
-use Rattle.std.specs.List.{list_any, flat_map, position}
-use Rattle.std.proofs.lemmas.Bool.Decides.{nat_tests}
-use Rattle.std.proofs.lemmas.List.{drop_more, take-append-drop}
-use Rattle.std.proofs.lemmas.List.Concat.{flat_map-append}
-use Rattle.std.proofs.lemmas.List.Folds.{list_any-append}
+use Rattle.std.proofs.Common.{◌≡◌, ℕ, ◌+◌, ◌<◌, ◌≤◌, true, false, Some, None, List, [], ◌∷◌, ◌++◌, length, get_or, take}
+use Rattle.std.proofs.{Common.{drop, refl, ap, sym, ◌∙◌, arith, append_assoc}, lemmas.Bool.Decides.nat_tests}
+use Rattle.std.proofs.lemmas.List.{drop_more, take-append-drop, Concat.flat_map-append, Folds.list_any-append}
 use Rattle.std.proofs.lemmas.List.Quantifiers.{position-Some}
-use Rattle.cni_addr.specs.declared.address.Addr.{Addr}
-use Rattle.cni_addr.specs.declared.range.Range.{Range}
-use Rattle.cni_addr.specs.Equal.{addr_eq}
-use Rattle.ip_pool.specs.NextAddress.{is_in}
-use Rattle.ip_pool.specs.Pool.{candidates_between, candidates_in, after_last_first}
+use Rattle.std.specs.List.{list_any, flat_map, position}
+use Rattle.cni_addr.specs.{Equal.addr_eq, declared.{address.Addr.Addr, range.Range.Range}}
+use Rattle.ip_pool.specs.{NextAddress.is_in, Pool.{candidates_between, candidates_in, after_last_first}}
 use Rattle.ip_pool.specs.WayRound.{way_round}
 use Rattle.ip_pool.proofs.Lists.{round-absent, round-split, list_any-take_position, list_any-no_position}
-use Rattle.ip_pool.proofs.Membership.{list_any-candidates_between, list_any-candidates}
-use Rattle.ip_pool.proofs.Stretches.{address_at, candidates_between-split, candidates_between-first, candidates_between-empty}
+use Rattle.ip_pool.proofs.{Membership.{list_any-candidates_between, list_any-candidates}, Stretches.address_at}
+use Rattle.ip_pool.proofs.Stretches.{candidates_between-split, candidates_between-first, candidates_between-empty}
 
 -- ---- what it means to be in a range
 

@@ -1,9 +1,7 @@
 -- Sets of addresses, as contracts see them.
 use Rattle.std.specs.Prelude.{◌≡◌, ℕ, ◌+◌, ◌≤◌, Bool, true, false, ◌&&◌, ◌||◌, nat_lt, List}
-use Rattle.cni_addr.specs.declared.address.Addr.{Addr}
-use Rattle.cni_addr.specs.Codes.{family_code, family_eq}
-use Rattle.ip_pool.specs.NextAddress.{is_taken}
-use Rattle.ip_pool.specs.Pool.{all_pairs}
+use Rattle.cni_addr.specs.{Codes.{family_code, family_eq}, declared.address.Addr.Addr}
+use Rattle.ip_pool.specs.{NextAddress.is_taken, Pool.all_pairs}
 
 -- the addresses of a set, and how many more may be added without memory
 pub record AddrSet : Type 0 where

@@ -1,11 +1,7 @@
 -- Laws of the candidates and of the choice among them.
-use Rattle.std.specs.Prelude.{◌≡◌, ◌↔◌, true, false, List, Option, Some, None}
-use Rattle.std.specs.List.{list_any}
-use Rattle.cni_addr.specs.declared.address.Addr.{Addr}
-use Rattle.cni_addr.specs.declared.range.Range.{Range}
+use Rattle.std.specs.{List.list_any, Prelude.{◌≡◌, ◌↔◌, true, false, List, Option, Some, None}}
+use Rattle.cni_addr.specs.{Equal.addr_eq, Lists.distinct, declared.{address.Addr.Addr, range.Range.Range}}
 use Rattle.cni_addr.specs.declared.range.RangeSet.{RangeSet}
-use Rattle.cni_addr.specs.Equal.{addr_eq}
-use Rattle.cni_addr.specs.Lists.{distinct}
 use Rattle.ip_pool.specs.NextAddress.{is_between, is_candidate, is_candidate_or_none, is_taken, IsExhausted, IsPick}
 use Rattle.ip_pool.specs.Pool.{candidates_of, pick_of, has_free_of, is_apart, are_apart}
 

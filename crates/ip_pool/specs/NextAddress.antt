@@ -1,11 +1,8 @@
 -- The next address as a relation, in the terms of who configures a pool (the `host-local` plugin leases round robin).
-use Rattle.std.specs.Prelude.{◌≡◌, ℕ, Bool, true, false, if◌then◌else◌, not, ◌&&◌, ◌||◌, ◌==◌, nat_lt, nat_le, List, Option, Some, None}
-use Rattle.std.specs.List.{list_any, position_or_len}
-use Rattle.cni_addr.specs.declared.address.Addr.{Addr}
-use Rattle.cni_addr.specs.declared.range.Range.{Range}
+use Rattle.std.specs.{List.{list_any, position_or_len}, Prelude.{◌≡◌, ℕ, Bool, true, false, if◌then◌else◌, not, ◌&&◌}}
+use Rattle.std.specs.Prelude.{◌||◌, ◌==◌, nat_lt, nat_le, List, Option, Some, None}
+use Rattle.cni_addr.specs.{Codes.family_eq, Equal.addr_eq, declared.{address.Addr.Addr, range.Range.Range}}
 use Rattle.cni_addr.specs.declared.range.RangeSet.{RangeSet}
-use Rattle.cni_addr.specs.Codes.{family_eq}
-use Rattle.cni_addr.specs.Equal.{addr_eq}
 
 -- from start to end, the gateway too
 abbrev pub is_between : Addr → Range → Bool

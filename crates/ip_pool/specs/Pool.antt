@@ -1,13 +1,10 @@
 -- The candidates of a range set, and the one that is leased next (the `host-local` plugin: `ranges`, `rangeStart`,
 -- `rangeEnd`, `gateway`).
-use Rattle.std.specs.Prelude.{ℕ, ◌+◌, ◌-◌, Bool, true, not, ◌&&◌, ◌||◌, nat_lt, min, max, List, [], ◌∷◌, ◌++◌, map, filter, find, take, Option, Some, None}
-use Rattle.std.specs.List.{list_any, list_all, flat_map, after_first, position_or_len, range_with_len}
-use Rattle.cni_addr.specs.declared.address.Family.{Family}
-use Rattle.cni_addr.specs.declared.address.Addr.{Addr}
-use Rattle.cni_addr.specs.declared.range.Range.{Range}
-use Rattle.cni_addr.specs.declared.range.RangeSet.{RangeSet}
-use Rattle.cni_addr.specs.Codes.{family_eq}
-use Rattle.cni_addr.specs.Equal.{addr_eq}
+use Rattle.std.specs.{List.{list_any, list_all, flat_map, after_first, position_or_len, range_with_len}, Prelude.ℕ}
+use Rattle.std.specs.Prelude.{◌+◌, ◌-◌, Bool, true, not, ◌&&◌, ◌||◌, nat_lt, min, max, List, [], ◌∷◌, ◌++◌, map, filter}
+use Rattle.std.specs.Prelude.{find, take, Option, Some, None}
+use Rattle.cni_addr.specs.{Codes.family_eq, Equal.addr_eq, declared.address.{Addr.Addr, Family.Family}}
+use Rattle.cni_addr.specs.declared.range.{Range.Range, RangeSet.RangeSet}
 use Rattle.ip_pool.specs.NextAddress.{is_taken}
 
 -- so many addresses from this one on

@@ -1,9 +1,7 @@
 -- Scaffolding for the contracts of private functions: what an address makes of runs that it joins or leaves.
 use Rattle.std.specs.Prelude.{ℕ, ◌+◌, ◌-◌, Bool, if◌then◌else◌, ◌&&◌, ◌==◌, nat_lt, List, [], ◌∷◌, ◌++◌}
-use Rattle.cni_addr.specs.declared.address.Addr.{Addr}
-use Rattle.cni_addr.specs.Codes.{family_eq}
-use Rattle.ip_pool.specs.declared.runs.Run.{Run}
-use Rattle.ip_pool.specs.Runs.{is_in_run, ends_before, first_of}
+use Rattle.cni_addr.specs.{Codes.family_eq, declared.address.Addr.Addr}
+use Rattle.ip_pool.specs.{Runs.{is_in_run, ends_before, first_of}, declared.runs.Run.Run}
 
 -- the second address is the next one
 abbrev pub is_next : Addr → Addr → Bool

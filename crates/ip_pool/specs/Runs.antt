@@ -1,10 +1,8 @@
 -- Runs of addresses, in which a set is kept.
-use Rattle.std.specs.Prelude.{◌≡◌, ℕ, ◌+◌, ◌-◌, ◌≤◌, Bool, true, ◌&&◌, ◌||◌, nat_lt, nat_le, List, sum_by}
-use Rattle.std.specs.List.{list_all, list_any, flat_map}
-use Rattle.cni_addr.specs.declared.address.Addr.{Addr}
-use Rattle.cni_addr.specs.Codes.{family_code, family_eq}
-use Rattle.ip_pool.specs.declared.runs.Run.{Run}
-use Rattle.ip_pool.specs.Pool.{all_pairs, run_of}
+use Rattle.std.specs.{List.{list_all, list_any, flat_map}, Prelude.{◌≡◌, ℕ, ◌+◌, ◌-◌, ◌≤◌, Bool, true, ◌&&◌, ◌||◌}}
+use Rattle.std.specs.Prelude.{nat_lt, nat_le, List, sum_by}
+use Rattle.cni_addr.specs.{Codes.{family_code, family_eq}, declared.address.Addr.Addr}
+use Rattle.ip_pool.specs.{Pool.{all_pairs, run_of}, declared.runs.Run.Run}
 
 -- from its first address to its last
 abbrev pub addresses_in : Run → List Addr

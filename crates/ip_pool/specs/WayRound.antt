@@ -1,9 +1,6 @@
 -- Scaffolding for the contracts of private functions: the pieces in which the way round a set is tried.
-use Rattle.std.specs.Prelude.{ℕ, ◌+◌, Bool, ◌&&◌, nat_le, List, ◌++◌}
-use Rattle.std.specs.List.{flat_map}
-use Rattle.cni_addr.specs.declared.address.Addr.{Addr}
-use Rattle.cni_addr.specs.declared.range.Range.{Range}
-use Rattle.cni_addr.specs.Codes.{family_eq}
+use Rattle.std.specs.{List.flat_map, Prelude.{ℕ, ◌+◌, Bool, ◌&&◌, nat_le, List, ◌++◌}}
+use Rattle.cni_addr.specs.{Codes.family_eq, declared.{address.Addr.Addr, range.Range.Range}}
 use Rattle.ip_pool.specs.Pool.{candidates_between, candidates_in}
 
 -- the candidates of a range after the number last, those of the later and of the earlier ranges, and the range's up to

@@ -1,9 +1,7 @@
 -- What lies on links that leave, dropped link by link.
-use Rattle.std.proofs.Common.{◌≡◌, ◌+◌, ◌<◌, ℕ, Bool, true, false, not, List, [], ◌∷◌, take, get_or, length, refl, ap, ◌∙◌, arith}
-use Rattle.std.specs.Prelude.{filter, ◌&&◌, ◌||◌}
-use Rattle.std.specs.List.{list_any}
-use Rattle.std.proofs.lemmas.List.Elements.{filter_agree}
-use Rattle.std.proofs.lemmas.List.Folds.{list_any_more}
+use Rattle.std.proofs.Common.{◌≡◌, ◌+◌, ◌<◌, ℕ, Bool, true, false, not, List, [], ◌∷◌, take, get_or, length, refl, ap}
+use Rattle.std.proofs.{Common.{◌∙◌, arith}, lemmas.List.{Elements.filter_agree, Folds.list_any_more}}
+use Rattle.std.specs.{List.list_any, Prelude.{filter, ◌&&◌, ◌||◌}}
 
 filter-filter : {X : Type 0} (p q : X → Bool) (xs : List X) → filter q (filter p xs) ≡ filter (λ x. p x && q x) xs
 filter-filter p q [] = refl

@@ -1,11 +1,8 @@
 -- The owners that tags name: one more tag.
-use Rattle.std.proofs.Common.{◌≡◌, ℕ, List, [], ◌∷◌, ◌++◌, Some, None, refl, ◌∙◌}
-use Rattle.std.proofs.lemmas.List.{append-nil}
-use Rattle.std.specs.List.{filter_map}
+use Rattle.std.proofs.{Common.{◌≡◌, ℕ, List, [], ◌∷◌, ◌++◌, Some, None, refl, ◌∙◌}, lemmas.List.append-nil}
 use Rattle.std.proofs.lemmas.List.Elements.{filter_map-append}
-use Rattle.kernel_types.specs.Apply.Calls.{owner_in}
-use Rattle.kernel_types.specs.declared.object.Att.{Att}
-use Rattle.kernel_types.specs.declared.object.Tag.{Tag}
+use Rattle.std.specs.List.{filter_map}
+use Rattle.kernel_types.specs.{Apply.Calls.owner_in, declared.object.{Att.Att, Tag.Tag}}
 
 -- one that names an attachment of the network, and one that names none
 pub owners-more : (network : List ℕ) (tags : List Tag) (tag : Tag) (att : Att) → owner_in network tag ≡ Some att → filter_map (owner_in network) (tags ++ tag ∷ []) ≡ filter_map (owner_in network) tags ++ att ∷ []

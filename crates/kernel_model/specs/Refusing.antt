@@ -1,8 +1,6 @@
 -- A kernel some of whose calls are refused memory, by their numbers.
-use Rattle.std.specs.Prelude.{ℕ, ◌+◌, ◌-◌, ◌^◌, ◌==◌, ◌&&◌, List, Bool, nat_lt, not, if◌then◌else◌}
-use Rattle.std.specs.List.{list_any}
-use Rattle.kernel_types.specs.Replies.{needs_no_memory}
-use Rattle.kernel_types.specs.declared.call.Call.{Call}
+use Rattle.std.specs.{List.list_any, Prelude.{ℕ, ◌+◌, ◌-◌, ◌^◌, ◌==◌, ◌&&◌, List, Bool, nat_lt, not, if◌then◌else◌}}
+use Rattle.kernel_types.specs.{Replies.needs_no_memory, declared.call.Call.Call}
 
 -- the kernel that is asked, the numbers of the calls that are refused, and how many calls were numbered
 pub record Refusing (K : Type 0) : Type 0 where

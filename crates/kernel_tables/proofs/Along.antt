@@ -1,8 +1,8 @@
 -- Rows that go along a trail.
-use Rattle.std.proofs.Common.{◌≡◌, ◌<◌, ℕ, zero, suc, ◌+◌, Bool, true, false, not, ap, List, [], ◌∷◌, ◌++◌, Option, Some, None, refl, sym, ◌∙◌, length, get_or, set, take, arith}
+use Rattle.std.proofs.Common.{◌≡◌, ◌<◌, ℕ, zero, suc, ◌+◌, Bool, true, false, not, ap, List, [], ◌∷◌, ◌++◌, Option}
+use Rattle.std.proofs.Common.{Some, None, refl, sym, ◌∙◌, length, get_or, set, take, arith}
+use Rattle.std.proofs.lemmas.{Bool.Decides.nat_tests, List.{append_assoc, get_or_at, length-append, take_more}}
 use Rattle.std.specs.Prelude.{filter, map, ◌&&◌, ◌==◌, if◌then◌else◌}
-use Rattle.std.proofs.lemmas.Bool.Decides.{nat_tests}
-use Rattle.std.proofs.lemmas.List.{append_assoc, get_or_at, length-append, take_more}
 use Rattle.kernel_tables.specs.Places.{row_at, passes, emptied, emptied_at, places_from, places_where, passing}
 use Rattle.kernel_tables.proofs.Places.{filter-later, places_from-later}
 

@@ -1,37 +1,23 @@
 -- What is free for a new row, and what follows as at most one row has a key.
-use Rattle.std.proofs.Common.{append_assoc, ◌≡◌, ℕ, Bool, true, false, ap, List, [], ◌∷◌, ◌++◌, Option, Some, None, refl, sym, ◌∙◌, arith}
-use Rattle.std.specs.Prelude.{find, filter, map, not, ◌&&◌, ◌||◌, if◌then◌else◌}
-use Rattle.std.specs.List.{list_any}
-use Rattle.std.specs.Option.{option_map, option_map_or}
-use Rattle.std.specs.Str.{bytes_eq}
-use Rattle.std.proofs.lemmas.Slice.Eq.{bytes_eq-Decides}
-use Rattle.cni_addr.specs.Equal.{addr_eq}
-use Rattle.cni_addr.specs.Lists.{distinct}
-use Rattle.kernel_types.specs.Keys.{is_same_addr, is_same_link, is_same_setting}
-use Rattle.kernel_types.specs.Terms.{is_at, is_host_link, is_host_ns}
-use Rattle.kernel_types.specs.contracts.object.LinkKeyPartialEq.TheImpl.{eq-value as link_key_eq-value}
+use Rattle.std.proofs.Common.{append_assoc, ◌≡◌, ℕ, Bool, true, false, ap, List, [], ◌∷◌, ◌++◌, Option, Some, None}
+use Rattle.std.proofs.{Common.{refl, sym, ◌∙◌, arith}, lemmas.Slice.Eq.bytes_eq-Decides}
+use Rattle.std.specs.{List.list_any, Option.{option_map, option_map_or}, Prelude.{find, filter, map, not, ◌&&◌, ◌||◌}}
+use Rattle.std.specs.{Prelude.if◌then◌else◌, Str.bytes_eq}
+use Rattle.cni_addr.specs.{Equal.addr_eq, Lists.distinct, declared.mac.Mac.Mac}
+use Rattle.kernel_types.specs.Apply.Calls.{is_own_at, link_set_of, master_is_bridge_or_none, set_link, veth_add_of}
+use Rattle.kernel_types.specs.{Apply.Calls.with_values, Keys.{is_same_addr, is_same_link, is_same_setting}, Terms.is_at}
+use Rattle.kernel_types.specs.Terms.{is_host_link, is_host_ns, has_named_ns, is_own, link_at}
 use Rattle.kernel_types.specs.contracts.object.AddrObjPartialEq.TheImpl.{eq-value as addr_obj_eq-value}
+use Rattle.kernel_types.specs.contracts.object.LinkKeyPartialEq.TheImpl.{eq-value as link_key_eq-value}
 use Rattle.kernel_types.specs.contracts.object.SettingPartialEq.TheImpl.{eq-value as setting_eq-value}
-use Rattle.kernel_types.specs.declared.object.Link.{Link}
-use Rattle.kernel_types.specs.declared.object.LinkKey.{LinkKey}
-use Rattle.kernel_types.specs.declared.object.AddrObj.{AddrObj}
-use Rattle.kernel_types.specs.declared.object.Setting.{Setting}
-use Rattle.cni_addr.specs.declared.mac.Mac.{Mac}
-use Rattle.kernel_types.specs.Apply.Calls.{is_own_at, link_set_of, master_is_bridge_or_none, set_link, veth_add_of, with_values}
-use Rattle.kernel_types.specs.Terms.{has_named_ns, is_own, link_at}
-use Rattle.kernel_types.specs.declared.call.Reply.{Reply}
-use Rattle.kernel_types.specs.declared.call.Reply.TheVariants.{Done}
-use Rattle.kernel_types.specs.declared.object.Att.{Att}
-use Rattle.kernel_types.specs.declared.object.Host.{Host}
-use Rattle.kernel_types.specs.declared.object.Tag.{Tag}
-use Rattle.kernel_types.proofs.Cases.{host_ns-eq, other_host}
-use Rattle.kernel_types.proofs.ListLemmas.{list_any-append_none, list_any-find_none, list_any-none}
+use Rattle.kernel_types.specs.declared.{call.Reply.{Reply, TheVariants.Done}, object.{AddrObj.AddrObj, Att.Att}}
+use Rattle.kernel_types.specs.declared.object.{Host.Host, Link.Link, LinkKey.LinkKey, Setting.Setting, Tag.Tag}
+use Rattle.kernel_types.proofs.{Cases.{host_ns-eq, other_host}, ListLemmas.{list_any-append_none, list_any-find_none}}
+use Rattle.kernel_types.proofs.ListLemmas.{list_any-none}
+use Rattle.kernel_tables.specs.{Rows.host_name, Table.{is_key, has_key}}
 use Rattle.kernel_tables.specs.contracts.keys.AddrKeyPartialEq.TheImpl.{eq-value as addr_key_eq-value}
 use Rattle.kernel_tables.specs.contracts.keys.SettingKeyPartialEq.TheImpl.{eq-value as setting_key_eq-value}
-use Rattle.kernel_tables.specs.declared.keys.AddrKey.{AddrKey}
-use Rattle.kernel_tables.specs.declared.keys.SettingKey.{SettingKey}
-use Rattle.kernel_tables.specs.Rows.{host_name}
-use Rattle.kernel_tables.specs.Table.{is_key, has_key}
+use Rattle.kernel_tables.specs.declared.keys.{AddrKey.AddrKey, SettingKey.SettingKey}
 
 -- ---- at most one element passes
 

@@ -1,21 +1,13 @@
 -- The addresses that are leased, network by network.
-use Rattle.std.proofs.Common.{◌≡◌, ℕ, Bool, true, false, cond, ◌&&◌, ◌||◌, not, List, [], ◌∷◌, Option, Some, None, Bor, refl, sym, ◌∙◌, ap, subst, arith}
-use Rattle.std.specs.Prelude.{find, unwrap_or}
-use Rattle.std.specs.List.{list_any}
-use Rattle.std.specs.Option.{option_copied, option_map_or}
-use Rattle.std.specs.Str.{bytes_eq}
-use Rattle.std.specs.Cmp.Lexicographic.{nat_list_eq_equiv}
-use Rattle.std.proofs.lemmas.Slice.Eq.{bytes_eq-Decides}
-use Rattle.cni_addr.specs.declared.address.Addr.{Addr}
-use Rattle.cni_addr.specs.Equal.{addr_eq}
-use Rattle.cni_addr.specs.Lists.{distinct, without_first}
+use Rattle.std.proofs.Common.{◌≡◌, ℕ, Bool, true, false, cond, ◌&&◌, ◌||◌, not, List, [], ◌∷◌, Option, Some, None, Bor}
+use Rattle.std.proofs.{Common.{refl, sym, ◌∙◌, ap, subst, arith}, lemmas.Slice.Eq.bytes_eq-Decides}
+use Rattle.std.specs.{Cmp.Lexicographic.nat_list_eq_equiv, List.list_any, Option.{option_copied, option_map_or}}
+use Rattle.std.specs.{Prelude.{find, unwrap_or}, Str.bytes_eq}
+use Rattle.cni_addr.specs.{Equal.addr_eq, Lists.{distinct, without_first}, declared.address.Addr.Addr}
 use Rattle.indexmap.specs.IndexMap.{IndexMap}
-use Rattle.ip_pool.specs.AddrSets.{AddrSet}
-use Rattle.ip_pool.specs.NextAddress.{is_taken}
+use Rattle.ip_pool.specs.{AddrSets.AddrSet, NextAddress.is_taken}
 use Rattle.ip_pool.proofs.Addresses.{same-address, addr_eq-itself}
-use Rattle.kernel_types.specs.Keys.{is_same_lease}
-use Rattle.kernel_types.specs.Sound.{HasDistinctKeys}
-use Rattle.kernel_types.specs.Terms.{addresses_in, is_lease_at}
+use Rattle.kernel_types.specs.{Keys.is_same_lease, Sound.HasDistinctKeys, Terms.{addresses_in, is_lease_at}}
 use Rattle.kernel_types.specs.declared.object.Lease.{Lease}
 use Rattle.kernel_types.proofs.ListLemmas.{list_any-map_filter, list_any-none}
 use Rattle.kernel_tables.specs.Leased.{kept_for, AreLeased}

@@ -1,34 +1,21 @@
 -- What leaves a sound host with a link.
-use Rattle.std.proofs.Common.{◌≡◌, ◌<◌, ℕ, zero, suc, Bool, true, false, not, ap, List, [], ◌∷◌, inl, inr, Option, Some, None, refl, sym, ◌∙◌, length, arith}
-use Rattle.std.specs.Prelude.{filter, find, ◌&&◌, ◌||◌, if◌then◌else◌}
-use Rattle.std.specs.List.{list_any, list_all, Contains}
-use Rattle.std.specs.Str.{bytes_eq}
-use Rattle.std.specs.Cmp.{both_ways}
-use Rattle.std.specs.Cmp.Lexicographic.{nat_list_eq_equiv}
-use Rattle.std.proofs.lemmas.Bool.{and_parts}
-use Rattle.std.proofs.lemmas.Slice.Eq.{bytes_eq-Decides}
+use Rattle.std.proofs.Common.{◌≡◌, ◌<◌, ℕ, zero, suc, Bool, true, false, not, ap, List, [], ◌∷◌, inl, inr, Option, Some}
+use Rattle.std.proofs.{Common.{None, refl, sym, ◌∙◌, length, arith}, lemmas.{Bool.and_parts, Slice.Eq.bytes_eq-Decides}}
+use Rattle.std.specs.{Cmp.{both_ways, Lexicographic.nat_list_eq_equiv}, List.{list_any, list_all, Contains}}
+use Rattle.std.specs.{Prelude.{filter, find, ◌&&◌, ◌||◌, if◌then◌else◌}, Str.bytes_eq}
 use Rattle.cni_addr.specs.Lists.{distinct, IsAmong, without_first}
-use Rattle.kernel_types.specs.Apply.Calls.{drop_link_of, goes_with, link_del_of, without_link}
-use Rattle.kernel_types.specs.Equal.{tag_eq}
-use Rattle.kernel_types.specs.Sound.{HasTagsOn, IsSound, is_link_or_peer, link_fits_tag, may_be_on, peer_fits, peers_back}
-use Rattle.kernel_types.specs.Terms.{has_ns_in, is_at, is_bridge, is_own, is_peer_at}
-use Rattle.kernel_types.specs.declared.call.Reply.TheVariants.{Gone, NoNs}
-use Rattle.kernel_types.specs.declared.object.Att.{Att}
-use Rattle.kernel_types.specs.declared.object.Host.{Host}
-use Rattle.kernel_types.specs.declared.object.Link.{Link}
-use Rattle.kernel_types.specs.declared.object.LinkKey.{LinkKey}
-use Rattle.kernel_types.proofs.Cases.{is_at-itself, own-own, tag_eq-refl}
-use Rattle.kernel_types.proofs.Isolation.{tag_eq-same}
-use Rattle.kernel_types.proofs.ListLemmas.{list_any-find_none, list_any-weaker, without_first-none}
-use Rattle.kernel_types.proofs.Removal.{goes_with-itself, link_del-found, same_place}
-use Rattle.kernel_types.proofs.SoundHosts.{goes_with-sound, HasTagsOn-sound}
-use Rattle.kernel_types.proofs.TouchRemoval.{addresses_gone, gone_may_go, is_at-symm, keeps_or_owns, owned_no_bridge, routes_gone}
+use Rattle.kernel_types.specs.{Apply.Calls.{drop_link_of, goes_with, link_del_of, without_link}, Equal.tag_eq}
+use Rattle.kernel_types.specs.Sound.{HasTagsOn, IsSound, is_link_or_peer, link_fits_tag, may_be_on, peer_fits}
+use Rattle.kernel_types.specs.{Sound.peers_back, Terms.{has_ns_in, is_at, is_bridge, is_own, is_peer_at}}
 use Rattle.kernel_types.specs.contracts.object.AttPartialEq.TheImpl.{eq-value as att_eq-value}
-use Rattle.kernel_types.specs.declared.object.Tag.{Tag}
-use Rattle.kernel_types.specs.declared.object.Tag.TheVariants.{Own}
-use Rattle.kernel_tables.specs.Leaving.{has_end_at, is_peer}
-use Rattle.kernel_tables.specs.Rows.{owner_named}
-use Rattle.kernel_tables.specs.Table.{is_key}
+use Rattle.kernel_types.specs.declared.{call.Reply.TheVariants.{Gone, NoNs}, object.{Att.Att, Host.Host, Link.Link}}
+use Rattle.kernel_types.specs.declared.object.{LinkKey.LinkKey, Tag.{Tag, TheVariants.Own}}
+use Rattle.kernel_types.proofs.{Cases.{is_at-itself, own-own, tag_eq-refl}, Isolation.tag_eq-same}
+use Rattle.kernel_types.proofs.ListLemmas.{list_any-find_none, list_any-weaker, without_first-none}
+use Rattle.kernel_types.proofs.{Removal.{goes_with-itself, link_del-found, same_place}, SoundHosts.goes_with-sound}
+use Rattle.kernel_types.proofs.{SoundHosts.HasTagsOn-sound, TouchRemoval.{addresses_gone, gone_may_go, is_at-symm}}
+use Rattle.kernel_types.proofs.TouchRemoval.{keeps_or_owns, owned_no_bridge, routes_gone}
+use Rattle.kernel_tables.specs.{Leaving.{has_end_at, is_peer}, Rows.owner_named, Table.is_key}
 use Rattle.kernel_tables.proofs.Owned.{att-same, own-is}
 
 -- ---- lists

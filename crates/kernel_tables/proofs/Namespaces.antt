@@ -1,30 +1,19 @@
 -- What leaves a sound host with a namespace.
 use Rattle.std.proofs.Common.{◌≡◌, ℕ, Bool, true, false, not, ap, List, [], Option, Some, None, refl, sym, ◌∙◌, arith}
-use Rattle.std.specs.Prelude.{filter, find, ◌&&◌, ◌||◌, if◌then◌else◌}
-use Rattle.std.specs.List.{list_any}
-use Rattle.std.specs.Option.{option_map_or}
+use Rattle.std.proofs.lemmas.{Bool.and_parts, Slice.Eq.bytes_eq-Decides}
+use Rattle.std.specs.{List.list_any, Option.option_map_or, Prelude.{filter, find, ◌&&◌, ◌||◌, if◌then◌else◌}}
 use Rattle.std.specs.Str.{bytes_eq}
-use Rattle.std.proofs.lemmas.Bool.{and_parts}
-use Rattle.std.proofs.lemmas.Slice.Eq.{bytes_eq-Decides}
 use Rattle.kernel_types.specs.Apply.Calls.{goes_with_ns, has_peer_in, ns_del_of, without_links, without_ns}
-use Rattle.kernel_types.specs.Equal.{tag_eq}
-use Rattle.kernel_types.specs.Keys.{is_same_link}
-use Rattle.kernel_types.specs.Sound.{IsSound, address_fits_tag, peer_fits}
-use Rattle.kernel_types.specs.Terms.{has_bridge_in, has_link_in, has_named_ns, is_at, is_host_bridge, is_host_link, is_host_ns, is_link_of}
-use Rattle.kernel_types.specs.declared.call.Reply.TheVariants.{Done, NoNs}
-use Rattle.kernel_types.specs.declared.object.AddrObj.{AddrObj}
-use Rattle.kernel_types.specs.declared.object.Host.{Host}
-use Rattle.kernel_types.specs.declared.object.Link.{Link}
-use Rattle.kernel_types.specs.declared.object.LinkKey.{LinkKey}
-use Rattle.kernel_types.specs.declared.object.RouteObj.{RouteObj}
-use Rattle.kernel_types.specs.declared.object.Tag.{Tag}
-use Rattle.kernel_types.specs.declared.object.Tag.TheVariants.{Outside, Base, Own}
-use Rattle.kernel_types.proofs.Cases.{host_bridge-at, host_ns-eq}
-use Rattle.kernel_types.proofs.ListLemmas.{list_any-find_none, list_any-weaker}
+use Rattle.kernel_types.specs.{Equal.tag_eq, Keys.is_same_link, Sound.{IsSound, address_fits_tag, peer_fits}}
+use Rattle.kernel_types.specs.Terms.{has_bridge_in, has_link_in, has_named_ns, is_at, is_host_bridge, is_host_link}
+use Rattle.kernel_types.specs.{Terms.{is_host_ns, is_link_of}, declared.call.Reply.TheVariants.{Done, NoNs}}
+use Rattle.kernel_types.specs.declared.object.{AddrObj.AddrObj, Host.Host, Link.Link, LinkKey.LinkKey}
+use Rattle.kernel_types.specs.declared.object.{RouteObj.RouteObj, Tag.{Tag, TheVariants.{Outside, Base, Own}}}
+use Rattle.kernel_types.proofs.{Cases.{host_bridge-at, host_ns-eq}, ListLemmas.{list_any-find_none, list_any-weaker}}
 use Rattle.kernel_types.proofs.TouchRemoval.{from_one}
 use Rattle.kernel_tables.specs.Leaving.{leads_into, place_goes_with_ns}
-use Rattle.kernel_tables.proofs.Free.{any-both, place-alike}
-use Rattle.kernel_tables.proofs.Leaving.{all-among, filter-where, found-among, passes-found}
+use Rattle.kernel_tables.proofs.{Free.{any-both, place-alike}, Leaving.{all-among, filter-where, found-among}}
+use Rattle.kernel_tables.proofs.Leaving.{passes-found}
 
 -- ---- the link at a place of the host
 

@@ -1,23 +1,17 @@
 -- A lease that comes, and the last of its pool.
-use Rattle.std.proofs.Common.{◌≡◌, ℕ, Bool, true, false, ◌&&◌, ◌||◌, not, List, [], ◌∷◌, ◌++◌, Some, refl, ◌∙◌, ap, subst, arith}
-use Rattle.std.specs.Prelude.{filter, Result, Ok, Err, OnErr}
-use Rattle.std.specs.List.{list_any}
-use Rattle.std.specs.Str.{bytes_eq}
-use Rattle.std.proofs.lemmas.List.Folds.{list_any-append}
-use Rattle.cni_addr.specs.declared.address.Addr.{Addr}
-use Rattle.cni_addr.specs.Equal.{addr_eq}
+use Rattle.std.proofs.Common.{◌≡◌, ℕ, Bool, true, false, ◌&&◌, ◌||◌, not, List, [], ◌∷◌, ◌++◌, Some, refl, ◌∙◌, ap}
+use Rattle.std.proofs.{Common.{subst, arith}, lemmas.List.Folds.list_any-append}
+use Rattle.std.specs.{List.list_any, Prelude.{filter, Result, Ok, Err, OnErr}, Str.bytes_eq}
+use Rattle.cni_addr.specs.{Equal.addr_eq, declared.address.Addr.Addr}
 use Rattle.indexmap.specs.IndexMap.{IndexMap}
-use Rattle.ip_pool.specs.AddrSets.{AddrSet}
-use Rattle.ip_pool.specs.NextAddress.{is_taken}
-use Rattle.kernel_types.specs.contracts.object.LeasePartialEq.TheImpl.{eq-value as lease_eq-value}
+use Rattle.ip_pool.specs.{AddrSets.AddrSet, NextAddress.is_taken}
 use Rattle.kernel_types.specs.Terms.{is_lease_at, is_of_pool}
-use Rattle.kernel_types.specs.declared.object.Last.{Last}
-use Rattle.kernel_types.specs.declared.object.Lease.{Lease}
+use Rattle.kernel_types.specs.contracts.object.LeasePartialEq.TheImpl.{eq-value as lease_eq-value}
+use Rattle.kernel_types.specs.declared.object.{Last.Last, Lease.Lease}
 use Rattle.kernel_types.proofs.ListLemmas.{filter-push_dropped, list_any-none}
+use Rattle.kernel_tables.specs.{Leased.{kept_for, AreLeased}, Table.has_key}
 use Rattle.kernel_tables.specs.contracts.keys.PoolKeyPartialEq.TheImpl.{eq-value as pool_eq-value}
 use Rattle.kernel_tables.specs.declared.keys.PoolKey.{PoolKey}
-use Rattle.kernel_tables.specs.Leased.{kept_for, AreLeased}
-use Rattle.kernel_tables.specs.Table.{has_key}
 use Rattle.kernel_tables.proofs.Kept.{taken-leased}
 
 -- a lease whose address none has is not there

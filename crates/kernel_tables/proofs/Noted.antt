@@ -1,17 +1,11 @@
 -- What the indexes of a table find when a row comes.
-use Rattle.std.proofs.Common.{◌≡◌, ℕ, Bool, true, false, cond, ap, List, [], ◌∷◌, ◌++◌, Option, Some, None, ◌⊎◌, inl, inr, true≢false, refl, sym, ◌∙◌, length, drop, arith}
-use Rattle.std.specs.Prelude.{if◌then◌else◌}
-use Rattle.std.specs.List.{list_any}
-use Rattle.std.specs.Cmp.{IsEquivalence}
-use Rattle.std.specs.declared.collections.VecDeque.{VecDeque}
-use Rattle.std.specs.Map.{lookup}
-use Rattle.std.specs.Option.{option_map_or}
-use Rattle.std.specs.VecDeque.{deque_items}
-use Rattle.std.proofs.lemmas.List.Elements.{filter_agree}
+use Rattle.std.proofs.Common.{◌≡◌, ℕ, Bool, true, false, cond, ap, List, [], ◌∷◌, ◌++◌, Option, Some, None, ◌⊎◌, inl}
+use Rattle.std.proofs.{Common.{inr, true≢false, refl, sym, ◌∙◌, length, drop, arith}, lemmas.List.Elements.filter_agree}
+use Rattle.std.specs.{Cmp.IsEquivalence, List.list_any, Map.lookup, Option.option_map_or, Prelude.if◌then◌else◌}
+use Rattle.std.specs.{VecDeque.deque_items, declared.collections.VecDeque.VecDeque}
 use Rattle.indexmap.specs.IndexMap.{IndexMap, get}
-use Rattle.kernel_tables.specs.Places.{rows_of, row_at, passes, passing}
-use Rattle.kernel_tables.specs.Table.{is_key, has_key, place_of, IsIndex, AreTrails}
-use Rattle.kernel_tables.specs.Trails.{trail_of}
+use Rattle.kernel_tables.specs.{Places.{rows_of, row_at, passes, passing}, Table.{is_key, has_key, place_of, IsIndex}}
+use Rattle.kernel_tables.specs.{Table.AreTrails, Trails.trail_of}
 use Rattle.kernel_tables.proofs.Places.{Finds-keyed, Finds-trailed, Finds-trimmed}
 
 any-same : {X : Type 0} (p q : X → Bool) → ((x : X) → p x ≡ q x) → (xs : List X) → list_any p xs ≡ list_any q xs

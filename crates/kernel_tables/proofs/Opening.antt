@@ -1,35 +1,16 @@
 -- A list in which each key stands once: what is free for each of its elements, and which lists of a sound host are
 -- such.
-use Rattle.std.proofs.Common.{◌≡◌, ◌<◌, ℕ, ◌+◌, Bool, true, false, true≢false, List, [], ◌∷◌, ◌++◌, Option, Some, None, refl, sym, ◌∙◌, ap, subst, length, get_or, set, suc, take, drop, arith}
-use Rattle.std.specs.Prelude.{not, ◌&&◌, ◌||◌, if◌then◌else◌}
-use Rattle.std.specs.List.{list_any}
-use Rattle.std.specs.Option.{option_map_or}
-use Rattle.std.specs.Str.{bytes_eq}
-use Rattle.std.specs.Cmp.Lexicographic.{nat_list_eq_equiv}
-use Rattle.std.proofs.lemmas.List.{set-get_or, set_split, take_more}
-use Rattle.std.proofs.lemmas.List.Folds.{list_any-append}
-use Rattle.cni_addr.specs.declared.address.Addr.{Addr}
-use Rattle.cni_addr.specs.Equal.{addr_eq}
-use Rattle.cni_addr.specs.Lists.{distinct}
+use Rattle.std.proofs.Common.{◌≡◌, ◌<◌, ℕ, ◌+◌, Bool, true, false, true≢false, List, [], ◌∷◌, ◌++◌, Option, Some, None}
+use Rattle.std.proofs.Common.{refl, sym, ◌∙◌, ap, subst, length, get_or, set, suc, take, drop, arith}
+use Rattle.std.proofs.lemmas.List.{set-get_or, set_split, take_more, Folds.list_any-append}
+use Rattle.std.specs.{Cmp.Lexicographic.nat_list_eq_equiv, List.list_any, Option.option_map_or, Prelude.{not, ◌&&◌}}
+use Rattle.std.specs.{Prelude.{◌||◌, if◌then◌else◌}, Str.bytes_eq}
+use Rattle.cni_addr.specs.{Equal.addr_eq, Lists.distinct, declared.address.Addr.Addr}
 use Rattle.indexmap.specs.IndexMap.{IndexMap}
-use Rattle.ip_pool.specs.AddrSets.{AddrSet}
-use Rattle.ip_pool.specs.NextAddress.{is_taken}
-use Rattle.kernel_types.specs.Equal.{tag_eq}
-use Rattle.kernel_types.specs.Keys.{is_same_addr, is_same_cached, is_same_last, is_same_lease, is_same_link, is_same_namespace, is_same_route, is_same_rule, is_same_setting}
-use Rattle.kernel_types.specs.Sound.{HasDistinctKeys}
-use Rattle.kernel_types.specs.Terms.{addresses_in, is_host_ns}
-use Rattle.kernel_types.specs.declared.object.AddrObj.{AddrObj}
-use Rattle.kernel_types.specs.declared.object.CachedObj.{CachedObj}
-use Rattle.kernel_types.specs.declared.object.Last.{Last}
-use Rattle.kernel_types.specs.declared.object.Lease.{Lease}
-use Rattle.kernel_types.specs.declared.object.Link.{Link}
-use Rattle.kernel_types.specs.declared.object.LinkKey.{LinkKey}
-use Rattle.kernel_types.specs.declared.object.NsObj.{NsObj}
-use Rattle.kernel_types.specs.declared.object.RouteObj.{RouteObj}
-use Rattle.kernel_types.specs.declared.object.Setting.{Setting}
-use Rattle.kernel_types.specs.declared.object.Tag.{Tag}
-use Rattle.kernel_types.specs.declared.object.Tag.TheVariants.{Outside, Base, Own}
-use Rattle.kernel_types.specs.declared.rule.Rule.{Rule}
+use Rattle.ip_pool.specs.{AddrSets.AddrSet, NextAddress.is_taken}
+use Rattle.kernel_types.specs.{Equal.tag_eq, Keys.{is_same_addr, is_same_cached, is_same_last, is_same_lease}}
+use Rattle.kernel_types.specs.Keys.{is_same_link, is_same_namespace, is_same_route, is_same_rule, is_same_setting}
+use Rattle.kernel_types.specs.{Sound.HasDistinctKeys, Terms.{addresses_in, is_host_ns}}
 use Rattle.kernel_types.specs.contracts.object.AddrObjPartialEq.TheImpl.{eq-value as addr_obj-value}
 use Rattle.kernel_types.specs.contracts.object.AttPartialEq.TheImpl.{eq-value as att-value}
 use Rattle.kernel_types.specs.contracts.object.LeasePartialEq.TheImpl.{eq-value as lease-value}
@@ -37,20 +18,20 @@ use Rattle.kernel_types.specs.contracts.object.LinkKeyPartialEq.TheImpl.{eq-valu
 use Rattle.kernel_types.specs.contracts.object.RouteObjPartialEq.TheImpl.{eq-value as route-value}
 use Rattle.kernel_types.specs.contracts.object.SettingPartialEq.TheImpl.{eq-value as setting-value}
 use Rattle.kernel_types.specs.contracts.rule.RulePartialEq.TheImpl.{eq-value as rule-value}
+use Rattle.kernel_types.specs.declared.object.{AddrObj.AddrObj, CachedObj.CachedObj, Last.Last, Lease.Lease, Link.Link}
+use Rattle.kernel_types.specs.declared.object.{LinkKey.LinkKey, NsObj.NsObj, RouteObj.RouteObj, Setting.Setting}
+use Rattle.kernel_types.specs.declared.{object.Tag.{Tag, TheVariants.{Outside, Base, Own}}, rule.Rule.Rule}
 use Rattle.kernel_types.proofs.ListLemmas.{list_any-none}
+use Rattle.kernel_tables.specs.{Leased.{kept_for, AreLeased}, Rows.{host_name, owner_named}, Table.{is_key, has_key}}
+use Rattle.kernel_tables.specs.Table.{has_same_key, HasEachKeyOnce}
 use Rattle.kernel_tables.specs.contracts.keys.AddrKeyPartialEq.TheImpl.{eq-value as addr_key-value}
 use Rattle.kernel_tables.specs.contracts.keys.PoolKeyPartialEq.TheImpl.{eq-value as pool-value}
 use Rattle.kernel_tables.specs.contracts.keys.RouteKeyPartialEq.TheImpl.{eq-value as route_key-value}
 use Rattle.kernel_tables.specs.contracts.keys.SettingKeyPartialEq.TheImpl.{eq-value as setting_key-value}
 use Rattle.kernel_tables.specs.declared.keys.PoolKey.{PoolKey}
-use Rattle.kernel_tables.specs.Leased.{kept_for, AreLeased}
-use Rattle.kernel_tables.specs.Rows.{host_name, owner_named}
-use Rattle.kernel_tables.specs.Table.{is_key, has_key, has_same_key, HasEachKeyOnce}
-use Rattle.kernel_tables.proofs.Added.{addr_key, addr-keyed, route_key, route-keyed, rule-same, setting_key, setting-keyed}
-use Rattle.kernel_tables.proofs.Free.{host-alike, host-named}
-use Rattle.kernel_tables.proofs.Kept.{taken-leased}
-use Rattle.kernel_tables.proofs.NewLease.{AreLeased-new, same-pool}
-use Rattle.kernel_tables.proofs.Owned.{att-same}
+use Rattle.kernel_tables.proofs.Added.{addr_key, addr-keyed, route_key, route-keyed, rule-same, setting_key}
+use Rattle.kernel_tables.proofs.{Added.setting-keyed, Free.{host-alike, host-named}, Kept.taken-leased}
+use Rattle.kernel_tables.proofs.{NewLease.{AreLeased-new, same-pool}, Owned.att-same}
 
 -- no earlier element is the same
 none-earlier : {X : Type 0} (same : X → X → Bool) (earlier : List X) (x : X) (later : List X) → distinct same (earlier ++ x ∷ later) ≡ true → list_any (λ y. same y x) earlier ≡ false

@@ -1,17 +1,11 @@
 -- An attachment's objects, by their tag.
 use Rattle.std.proofs.Common.{◌≡◌, Bool, List, [], ◌∷◌, Option, Some, None, Bor, refl, arith}
-use Rattle.std.specs.Prelude.{find, is_some}
-use Rattle.std.specs.List.{list_any}
-use Rattle.std.specs.Option.{option_copied}
+use Rattle.std.specs.{List.list_any, Option.option_copied, Prelude.{find, is_some}}
 use Rattle.cni_addr.specs.Lists.{without_first}
-use Rattle.kernel_types.specs.contracts.object.AttPartialEq.TheImpl.{eq-value as att_eq-value}
-use Rattle.kernel_types.specs.Equal.{att_eq}
-use Rattle.kernel_types.specs.Terms.{is_own}
-use Rattle.kernel_types.specs.declared.object.Att.{Att}
-use Rattle.kernel_types.specs.declared.object.Tag.{Tag}
-use Rattle.kernel_types.specs.declared.object.Tag.TheVariants.{Outside, Base, Own}
-use Rattle.kernel_tables.specs.Rows.{owner_named}
-use Rattle.kernel_tables.specs.Table.{is_key}
+use Rattle.kernel_types.specs.{Equal.att_eq, Terms.is_own}
+use Rattle.kernel_types.specs.{contracts.object.AttPartialEq.TheImpl.eq-value as att_eq-value, declared.object.Att.Att}
+use Rattle.kernel_types.specs.declared.object.Tag.{Tag, TheVariants.{Outside, Base, Own}}
+use Rattle.kernel_tables.specs.{Rows.owner_named, Table.is_key}
 
 -- what `==` computes of two attachments
 pub att-same : (a b : Att) → att_eq-value.it a b ≡ att_eq a b

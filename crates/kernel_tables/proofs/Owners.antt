@@ -1,10 +1,7 @@
 -- The owners of the rows so far.
 use Rattle.std.proofs.Common.{◌≡◌, ◌<◌, ℕ, ◌+◌, Bool, ap, List, [], Option, sym, ◌∙◌, length, get_or, take}
-use Rattle.std.specs.Prelude.{filter, fold}
-use Rattle.std.specs.List.{filter_map}
-use Rattle.std.specs.Option.{option_to_list}
-use Rattle.std.proofs.lemmas.Grind.{fold-append}
-use Rattle.std.proofs.lemmas.List.Elements.{filter-append, filter_map-append}
+use Rattle.std.proofs.lemmas.{Grind.fold-append, List.Elements.{filter-append, filter_map-append}}
+use Rattle.std.specs.{List.filter_map, Option.option_to_list, Prelude.{filter, fold}}
 use Rattle.cni_addr.specs.Lists.{each_key_once, push_unless_there}
 use Rattle.kernel_tables.specs.Places.{rows_of}
 use Rattle.kernel_tables.proofs.Places.{rows_of-more}

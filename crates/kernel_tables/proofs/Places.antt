@@ -1,15 +1,15 @@
 -- Laws of rows at places.
-use Rattle.std.proofs.Common.{◌≡◌, ◌<◌, ℕ, zero, suc, ◌+◌, Bool, true, false, not, ap, List, [], ◌∷◌, ◌++◌, Option, Some, None, ◌⊎◌, inl, inr, true≢false, refl, sym, subst, ◌∙◌, length, get_or, set, take, drop, arith}
-use Rattle.std.specs.Prelude.{filter, find, map, is_some, ◌&&◌, ◌==◌, if◌then◌else◌, nat_lt}
-use Rattle.std.specs.List.{list_any, list_all}
-use Rattle.std.proofs.lemmas.Bool.Decides.{nat_tests}
-use Rattle.std.proofs.lemmas.List.{append-nil, append_assoc, length-append, length-map, length-set, get_or_append_left, get_or_at, set_at, set-get_or, take_more}
-use Rattle.std.proofs.lemmas.List.Elements.{filter-append, filter_map-append, filter_agree}
-use Rattle.std.proofs.Math.Seq.{drop-nil}
-use Rattle.std.proofs.lemmas.List.Folds.{list_any-append}
-use Rattle.std.specs.Option.{option_map, option_to_list}
+use Rattle.std.proofs.Common.{◌≡◌, ◌<◌, ℕ, zero, suc, ◌+◌, Bool, true, false, not, ap, List, [], ◌∷◌, ◌++◌, Option}
+use Rattle.std.proofs.Common.{Some, None, ◌⊎◌, inl, inr, true≢false, refl, sym, subst, ◌∙◌, length, get_or, set, take}
+use Rattle.std.proofs.{Common.{drop, arith}, Math.Seq.drop-nil, lemmas.{Bool.Decides.nat_tests, List.append-nil}}
+use Rattle.std.proofs.lemmas.List.{append_assoc, length-append, length-map, length-set, get_or_append_left, get_or_at}
+use Rattle.std.proofs.lemmas.List.{set_at, set-get_or, take_more, Elements.{filter-append, filter_map-append}}
+use Rattle.std.proofs.lemmas.List.{Elements.filter_agree, Folds.list_any-append}
+use Rattle.std.specs.{List.{list_any, list_all}, Option.{option_map, option_to_list}, Prelude.{filter, find, map}}
+use Rattle.std.specs.Prelude.{is_some, ◌&&◌, ◌==◌, if◌then◌else◌, nat_lt}
 use Rattle.cni_addr.specs.Lists.{without_first}
-use Rattle.kernel_tables.specs.Places.{rows_of, row_at, passes, emptied, first_of, at_first, places_from, places_where, passing, Finds}
+use Rattle.kernel_tables.specs.Places.{rows_of, row_at, passes, emptied, first_of, at_first, places_from, places_where}
+use Rattle.kernel_tables.specs.Places.{passing, Finds}
 
 pub rows_of-append : {T : Type 0} (xs ys : List (Option T)) → rows_of (xs ++ ys) ≡ rows_of xs ++ rows_of ys
 rows_of-append xs ys = filter_map-append (λ row. row) xs ys

@@ -1,45 +1,29 @@
 -- What is asked of rows and answered by a look-up.
-use Rattle.std.proofs.Common.{◌≡◌, Bool, true, false, not, ap, List, [], ◌∷◌, ◌++◌, Option, Some, None, refl, sym, ◌∙◌, arith, rules, ℕ}
-use Rattle.std.specs.Prelude.{filter, map, find, is_some, ◌&&◌, ◌==◌, if◌then◌else◌}
-use Rattle.std.specs.List.{list_any, filter_map}
-use Rattle.std.specs.Option.{option_eq, option_map_or, option_to_list}
-use Rattle.std.specs.Str.{bytes_eq}
-use Rattle.std.proofs.Math.Bool.{beq}
-use Rattle.std.proofs.lemmas.Bool.{and_parts}
-use Rattle.std.proofs.lemmas.Slice.Eq.{bytes_eq-Decides}
-use Rattle.cni_addr.specs.declared.mac.Mac.{Mac}
-use Rattle.cni_addr.specs.Lists.{distinct, each_key_once}
-use Rattle.kernel_types.specs.contracts.object.AttPartialEq.TheImpl.{eq-value as att_eq-value}
+use Rattle.std.proofs.Common.{◌≡◌, Bool, true, false, not, ap, List, [], ◌∷◌, ◌++◌, Option, Some, None, refl, sym, ◌∙◌}
+use Rattle.std.proofs.{Common.{arith, rules, ℕ}, Math.Bool.beq, lemmas.{Bool.and_parts, Slice.Eq.bytes_eq-Decides}}
+use Rattle.std.specs.{List.{list_any, filter_map}, Option.{option_eq, option_map_or, option_to_list}, Prelude.filter}
+use Rattle.std.specs.{Prelude.{map, find, is_some, ◌&&◌, ◌==◌, if◌then◌else◌}, Str.bytes_eq}
+use Rattle.cni_addr.specs.{Lists.{distinct, each_key_once}, declared.mac.Mac.Mac}
+use Rattle.kernel_types.specs.Equal.{addr_eq, addr_obj_eq, att_eq, chain_eq, cidr_eq, key_eq, lease_eq, link_eq}
+use Rattle.kernel_types.specs.Equal.{link_kind_eq, mac_eq, route_eq, rule_eq, proto_eq, setting_eq, table_eq, tag_eq}
+use Rattle.kernel_types.specs.{Equal.target_eq, Keys.is_same_link, Sound.HasDistinctKeys, Terms.{is_at, is_bridge}}
+use Rattle.kernel_types.specs.Terms.{is_bridge_with, is_host_link, is_host_ns, owner_in}
 use Rattle.kernel_types.specs.contracts.object.AddrObjPartialEq.TheImpl.{eq-value as address_eq-value}
+use Rattle.kernel_types.specs.contracts.object.AttPartialEq.TheImpl.{eq-value as att_eq-value}
+use Rattle.kernel_types.specs.contracts.object.LeasePartialEq.TheImpl.{eq-value as lease_eq-value}
 use Rattle.kernel_types.specs.contracts.object.RouteObjPartialEq.TheImpl.{eq-value as route_eq-value}
+use Rattle.kernel_types.specs.contracts.object.SettingPartialEq.TheImpl.{eq-value as setting_eq-value}
+use Rattle.kernel_types.specs.contracts.object.TagPartialEq.TheImpl.{eq-value as tag_eq-value}
 use Rattle.kernel_types.specs.contracts.rule.RulePartialEq.TheImpl.{eq-value as rule_eq-value}
 use Rattle.kernel_types.specs.contracts.rule.TargetPartialEq.TheImpl.{eq-value as target_eq-value}
-use Rattle.kernel_types.specs.contracts.object.TagPartialEq.TheImpl.{eq-value as tag_eq-value}
-use Rattle.kernel_types.specs.declared.rule.Rule.{Rule}
-use Rattle.kernel_types.specs.declared.rule.Target.{Target}
+use Rattle.kernel_types.specs.declared.object.{AddrObj.AddrObj, Att.Att, Lease.Lease, Link.Link, RouteObj.RouteObj}
+use Rattle.kernel_types.specs.declared.object.{Setting.Setting, Tag.{Tag, TheVariants.{Outside, Base, Own}}}
+use Rattle.kernel_types.specs.declared.rule.{Rule.Rule, Target.Target}
 use Rattle.kernel_types.specs.declared.rule.Target.TheVariants as targets
-use Rattle.kernel_types.specs.contracts.object.SettingPartialEq.TheImpl.{eq-value as setting_eq-value}
-use Rattle.kernel_types.specs.contracts.object.LeasePartialEq.TheImpl.{eq-value as lease_eq-value}
-use Rattle.kernel_types.specs.Equal.{addr_eq, addr_obj_eq, att_eq, chain_eq, cidr_eq, key_eq, lease_eq, link_eq, link_kind_eq, mac_eq, route_eq, rule_eq, proto_eq, setting_eq, table_eq, tag_eq, target_eq}
-use Rattle.kernel_types.specs.Keys.{is_same_link}
-use Rattle.kernel_types.specs.Sound.{HasDistinctKeys}
-use Rattle.kernel_types.specs.Terms.{is_at, is_bridge, is_bridge_with, is_host_link, is_host_ns, owner_in}
-use Rattle.kernel_types.specs.declared.object.AddrObj.{AddrObj}
-use Rattle.kernel_types.specs.declared.object.Att.{Att}
-use Rattle.kernel_types.specs.declared.object.Lease.{Lease}
-use Rattle.kernel_types.specs.declared.object.Link.{Link}
-use Rattle.kernel_types.specs.declared.object.RouteObj.{RouteObj}
-use Rattle.kernel_types.specs.declared.object.Setting.{Setting}
-use Rattle.kernel_types.specs.declared.object.Tag.{Tag}
-use Rattle.kernel_types.specs.declared.object.Tag.TheVariants.{Outside, Base, Own}
-use Rattle.kernel_tables.specs.Places.{rows_of, row_at, passes, places_where, passing, first_of}
-use Rattle.kernel_tables.specs.Rows.{host_name, owner_named}
-use Rattle.kernel_tables.specs.Table.{is_key}
-use Rattle.kernel_types.proofs.Cases.{host_ns-eq, tag_eq-own}
-use Rattle.kernel_types.proofs.ListLemmas.{list_any-none}
-use Rattle.kernel_types.proofs.TouchRemoval.{one_place}
-use Rattle.kernel_tables.proofs.Owned.{att-same, own-is}
-use Rattle.kernel_tables.proofs.Places.{any-first}
+use Rattle.kernel_tables.specs.{Places.{rows_of, row_at, passes, places_where, passing, first_of}, Rows.host_name}
+use Rattle.kernel_tables.specs.{Rows.owner_named, Table.is_key}
+use Rattle.kernel_types.proofs.{Cases.{host_ns-eq, tag_eq-own}, ListLemmas.list_any-none, TouchRemoval.one_place}
+use Rattle.kernel_tables.proofs.{Owned.{att-same, own-is}, Places.any-first}
 
 -- ---- rows that pass, along all places and along a trail
 

@@ -1,13 +1,9 @@
 -- The addresses that are leased, network by network.
-use Rattle.std.specs.Prelude.{◌≡◌, ℕ, List, []}
-use Rattle.std.specs.Option.{option_map_or}
-use Rattle.std.specs.Str.{bytes_eq}
+use Rattle.std.specs.{Option.option_map_or, Prelude.{◌≡◌, ℕ, List, []}, Str.bytes_eq}
 use Rattle.cni_addr.specs.declared.address.Addr.{Addr}
 use Rattle.indexmap.specs.IndexMap.{IndexMap, get}
-use Rattle.ip_pool.specs.AddrSets.{AddrSet}
-use Rattle.ip_pool.specs.NextAddress.{is_taken}
-use Rattle.kernel_types.specs.Terms.{addresses_in}
-use Rattle.kernel_types.specs.declared.object.Lease.{Lease}
+use Rattle.ip_pool.specs.{AddrSets.AddrSet, NextAddress.is_taken}
+use Rattle.kernel_types.specs.{Terms.addresses_in, declared.object.Lease.Lease}
 
 -- the addresses that are kept for the network
 abbrev pub kept_for : {S : Type 0} → IndexMap (List ℕ) AddrSet S → List ℕ → List Addr

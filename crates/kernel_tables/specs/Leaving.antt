@@ -1,10 +1,7 @@
 -- What leaves with a link, and with a namespace.
-use Rattle.std.specs.Prelude.{ℕ, Bool, false, ◌&&◌, ◌||◌, List, Option, Some, None, find}
-use Rattle.std.specs.Str.{bytes_eq}
-use Rattle.kernel_types.specs.Apply.Calls.{has_peer_in}
-use Rattle.kernel_types.specs.Terms.{is_at, is_host_link, is_host_ns, is_peer_at}
-use Rattle.kernel_types.specs.declared.object.Link.{Link}
-use Rattle.kernel_types.specs.declared.object.LinkKey.{LinkKey}
+use Rattle.std.specs.{Prelude.{ℕ, Bool, false, ◌&&◌, ◌||◌, List, Option, Some, None, find}, Str.bytes_eq}
+use Rattle.kernel_types.specs.{Apply.Calls.has_peer_in, Terms.{is_at, is_host_link, is_host_ns, is_peer_at}}
+use Rattle.kernel_types.specs.declared.object.{Link.Link, LinkKey.LinkKey}
 
 -- the link stands where the peer does
 abbrev pub is_peer : Option LinkKey → Link → Bool

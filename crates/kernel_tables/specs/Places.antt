@@ -1,6 +1,6 @@
 -- Rows at places. A row keeps its place; a place whose row went stays empty.
-use Rattle.std.specs.Prelude.{◌≡◌, ℕ, ◌+◌, Bool, true, false, List, [], ◌∷◌, length, filter, nat_lt, Option, Some, None, if◌then◌else◌, get_or, set}
-use Rattle.std.specs.List.{list_all, filter_map}
+use Rattle.std.specs.{List.{list_all, filter_map}, Prelude.{◌≡◌, ℕ, ◌+◌, Bool, true, false, List, [], ◌∷◌, length}}
+use Rattle.std.specs.Prelude.{filter, nat_lt, Option, Some, None, if◌then◌else◌, get_or, set}
 
 -- the rows in the order of their places
 abbrev pub rows_of : {T : Type 0} → List (Option T) → List T

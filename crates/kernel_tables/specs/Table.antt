@@ -1,11 +1,9 @@
 -- What a table finds its rows by.
-use Rattle.std.specs.Prelude.{ℕ, Bool, false, List, Option, Some, None}
-use Rattle.std.specs.Option.{option_map_or, option_to_list}
+use Rattle.std.specs.{Option.{option_map_or, option_to_list}, Prelude.{ℕ, Bool, false, List, Option, Some, None}}
 use Rattle.std.specs.declared.collections.VecDeque.{VecDeque}
 use Rattle.indexmap.specs.IndexMap.{IndexMap, get}
 use Rattle.kernel_types.specs.Sound.{HasDistinctKeys}
-use Rattle.kernel_tables.specs.Places.{Finds}
-use Rattle.kernel_tables.specs.Trails.{trail_of}
+use Rattle.kernel_tables.specs.{Places.Finds, Trails.trail_of}
 
 -- it is there, and is this one
 abbrev pub is_key : {K : Type 0} → (K → K → Bool) → Option K → K → Bool

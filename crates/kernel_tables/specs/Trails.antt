@@ -1,7 +1,5 @@
 -- The places that are noted for an owner.
-use Rattle.std.specs.Prelude.{ℕ, Bool, List, []}
-use Rattle.std.specs.Option.{option_map_or}
-use Rattle.std.specs.VecDeque.{deque_items}
+use Rattle.std.specs.{Option.option_map_or, Prelude.{ℕ, Bool, List, []}, VecDeque.deque_items}
 use Rattle.std.specs.declared.collections.VecDeque.{VecDeque}
 use Rattle.indexmap.specs.IndexMap.{IndexMap, get}
 

@@ -1,20 +1,13 @@
 -- No line of a dump has a number outside u64 and i64.
 use Rattle.std.proofs.Common.{◌≡◌, ℕ, List, ◌++◌, false, refl, ap, ◌∙◌, append_assoc}
-use Rattle.serde_json.specs.Data.{Data, Members}
-use Rattle.serde_json.specs.Written.{has_float, members_have_float}
-use Rattle.cni_result.proofs.ResultLemmas.{result_is_whole, mapping_is_whole}
-use Rattle.cni_result.proofs.WholeNumbers.{puts_are_whole}
-use Rattle.kernel_text.specs.Dump.{namespace_data, link_key_data, put_identity, put_attributes, put_relations, link_data, address_data, route_data, put_match, put_chain, rule_data, setting_data, lease_data, cached_data, last_data, lines_of}
-use Rattle.kernel_types.specs.declared.object.AddrObj.{AddrObj}
-use Rattle.kernel_types.specs.declared.object.CachedObj.{CachedObj}
-use Rattle.kernel_types.specs.declared.object.Last.{Last}
-use Rattle.kernel_types.specs.declared.object.Lease.{Lease}
-use Rattle.kernel_types.specs.declared.object.Link.{Link}
-use Rattle.kernel_types.specs.declared.object.LinkKey.{LinkKey}
-use Rattle.kernel_types.specs.declared.object.NsObj.{NsObj}
-use Rattle.kernel_types.specs.declared.object.RouteObj.{RouteObj}
+use Rattle.serde_json.specs.{Data.{Data, Members}, Written.{has_float, members_have_float}}
+use Rattle.cni_result.proofs.{ResultLemmas.{result_is_whole, mapping_is_whole}, WholeNumbers.puts_are_whole}
+use Rattle.kernel_text.specs.Dump.{namespace_data, link_key_data, put_identity, put_attributes, put_relations}
+use Rattle.kernel_text.specs.Dump.{link_data, address_data, route_data, put_match, put_chain, rule_data, setting_data}
+use Rattle.kernel_text.specs.Dump.{lease_data, cached_data, last_data, lines_of}
+use Rattle.kernel_types.specs.declared.object.{AddrObj.AddrObj, CachedObj.CachedObj, Last.Last, Lease.Lease, Link.Link}
+use Rattle.kernel_types.specs.declared.object.{LinkKey.LinkKey, NsObj.NsObj, RouteObj.RouteObj, Setting.Setting}
 use Rattle.kernel_types.specs.declared.rule.Rule.{Rule}
-use Rattle.kernel_types.specs.declared.object.Setting.{Setting}
 
 pub namespace_is_whole : (namespace : NsObj) → has_float (namespace_data namespace) ≡ false
 unfolding namespace_data

@@ -1,26 +1,15 @@
 -- The objects of a host as lines, one JSON object a line.
-use Rattle.std.specs.Prelude.{ℕ, List, ◌++◌, codes}
-use Rattle.std.specs.List.{flat_map}
+use Rattle.std.specs.{List.flat_map, Prelude.{ℕ, List, ◌++◌, codes}}
 use Rattle.serde_json.specs.Data.{Data, boolean, object, Members, no_members, put}
-use Rattle.cni_json.specs.Json.{line_of}
-use Rattle.cni_result.specs.Mappings.{proto_data, mapping_data}
-use Rattle.cni_json.specs.Members.{text_data, number_data, addr_data, cidr_data, mac_data, ◌▷◌, put_if, put_if_true, put_list_unless_empty}
-use Rattle.cni_result.specs.Results.{result_data}
+use Rattle.cni_json.specs.{Json.line_of, Members.{text_data, number_data, addr_data, cidr_data, mac_data, ◌▷◌, put_if}}
+use Rattle.cni_json.specs.Members.{put_if_true, put_list_unless_empty}
+use Rattle.cni_result.specs.{Mappings.{proto_data, mapping_data}, Results.result_data}
 use Rattle.cni_addr.specs.Modes.{mode_text}
-use Rattle.kernel_types.specs.Texts.{link_kind_text, table_text}
+use Rattle.kernel_types.specs.{Texts.{link_kind_text, table_text}, declared.object.AddrObj.AddrObj}
+use Rattle.kernel_types.specs.declared.object.{CachedObj.CachedObj, Host.Host, Last.Last, Lease.Lease, Link.Link}
+use Rattle.kernel_types.specs.declared.object.{LinkKey.LinkKey, NsObj.NsObj, RouteObj.RouteObj, Setting.Setting}
+use Rattle.kernel_types.specs.declared.{object.Tag.Tag, rule.Rule.Rule}
 use Rattle.kernel_text.specs.Texts.{tag_text, link_mode, vlan_id, chain_text, target_text}
-use Rattle.kernel_types.specs.declared.object.AddrObj.{AddrObj}
-use Rattle.kernel_types.specs.declared.object.CachedObj.{CachedObj}
-use Rattle.kernel_types.specs.declared.object.Host.{Host}
-use Rattle.kernel_types.specs.declared.object.Last.{Last}
-use Rattle.kernel_types.specs.declared.object.Lease.{Lease}
-use Rattle.kernel_types.specs.declared.object.Link.{Link}
-use Rattle.kernel_types.specs.declared.object.LinkKey.{LinkKey}
-use Rattle.kernel_types.specs.declared.object.NsObj.{NsObj}
-use Rattle.kernel_types.specs.declared.object.RouteObj.{RouteObj}
-use Rattle.kernel_types.specs.declared.rule.Rule.{Rule}
-use Rattle.kernel_types.specs.declared.object.Setting.{Setting}
-use Rattle.kernel_types.specs.declared.object.Tag.{Tag}
 
 -- the list that an object stands in
 abbrev pub put_kind : List ℕ → Members → Members

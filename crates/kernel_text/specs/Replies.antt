@@ -4,10 +4,13 @@ use Rattle.serde_json.specs.Data.{Data, object, no_members, put}
 use Rattle.cni_addr.specs.AddrText.{addr_text}
 use Rattle.cni_json.specs.Members.{text_data, number_data, ◌▷◌}
 use Rattle.kernel_text.specs.Texts.{tag_text}
-use Rattle.kernel_types.specs.declared.call.Call.{Call}
-use Rattle.kernel_types.specs.declared.call.Call.TheVariants.{Begin, BridgeEnsure, GatewayEnsure, ForwardEnsure, VethAdd, MacvlanAdd, LinkSet, AddrAdd, RouteAdd, RuleAppend, SettingSet, LeaseNext, CachePut, LinkDel, RuleDel, SettingDel, LeaseDel, CacheDel, HasObj, CacheGet, OwnersOf, PoolFree, NsChange, Outside}
-use Rattle.kernel_types.specs.declared.call.Reply.{Reply}
-use Rattle.kernel_types.specs.declared.call.Reply.TheVariants.{Done, NoNs, NoLink, Taken, Empty, Leased, Gone, Has, Owners, Entry, Fault}
+use Rattle.kernel_types.specs.declared.call.Call.{Call, TheVariants.{Begin, BridgeEnsure, GatewayEnsure, ForwardEnsure}}
+use Rattle.kernel_types.specs.declared.call.Call.TheVariants.{VethAdd, MacvlanAdd, LinkSet, AddrAdd, RouteAdd}
+use Rattle.kernel_types.specs.declared.call.Call.TheVariants.{RuleAppend, SettingSet, LeaseNext, CachePut, LinkDel}
+use Rattle.kernel_types.specs.declared.call.Call.TheVariants.{RuleDel, SettingDel, LeaseDel, CacheDel, HasObj, CacheGet}
+use Rattle.kernel_types.specs.declared.call.{Call.TheVariants.{OwnersOf, PoolFree, NsChange, Outside}, Reply.Reply}
+use Rattle.kernel_types.specs.declared.call.Reply.TheVariants.{Done, NoNs, NoLink, Taken, Empty, Leased, Gone, Has}
+use Rattle.kernel_types.specs.declared.call.Reply.TheVariants.{Owners, Entry, Fault}
 
 -- the name of a call
 abbrev pub call_name : Call → List ℕ

@@ -1,20 +1,11 @@
 -- Attachments, owners, chains and targets as texts, and the mode and the VLAN of a link.
-use Rattle.std.specs.Prelude.{ℕ, List, [], ◌∷◌, ◌++◌, codes, Option, Some, None, decimal}
-use Rattle.std.specs.List.{join_with_byte}
-use Rattle.cni_addr.specs.AddrText.{addr_text}
-use Rattle.cni_addr.specs.MacText.{colon}
-use Rattle.cni_addr.specs.declared.address.Addr.{Addr}
-use Rattle.cni_addr.specs.declared.address.Family.{Family}
-use Rattle.cni_addr.specs.declared.address.Family.TheVariants.{V4, V6}
-use Rattle.cni_addr.specs.declared.macvlan.MacvlanMode.{MacvlanMode}
-use Rattle.kernel_types.specs.declared.object.Att.{Att}
-use Rattle.kernel_types.specs.declared.object.Tag.{Tag}
-use Rattle.kernel_types.specs.declared.object.Tag.TheVariants.{Outside, Base, Own}
-use Rattle.kernel_types.specs.declared.rule.Chain.{Chain}
+use Rattle.std.specs.{List.join_with_byte, Prelude.{ℕ, List, [], ◌∷◌, ◌++◌, codes, Option, Some, None, decimal}}
+use Rattle.cni_addr.specs.{AddrText.addr_text, MacText.colon, declared.address.{Addr.Addr, Family.Family}}
+use Rattle.cni_addr.specs.declared.{address.Family.TheVariants.{V4, V6}, macvlan.MacvlanMode.MacvlanMode}
+use Rattle.kernel_types.specs.declared.object.{Att.Att, LinkKind.LinkKind, Tag.{Tag, TheVariants.{Outside, Base, Own}}}
+use Rattle.kernel_types.specs.declared.rule.{Chain.Chain, Target.Target}
 use Rattle.kernel_types.specs.declared.rule.Chain.TheVariants as chains
-use Rattle.kernel_types.specs.declared.object.LinkKind.{LinkKind}
 use Rattle.kernel_types.specs.declared.object.LinkKind.TheVariants as kinds
-use Rattle.kernel_types.specs.declared.rule.Target.{Target}
 use Rattle.kernel_types.specs.declared.rule.Target.TheVariants as targets
 
 -- `NETWORK/CONTAINER/IFNAME`

@@ -1,34 +1,26 @@
 -- Addresses, routes, rules, settings and cached results that are appended leave a host sound, and are their
 -- attachment's.
 use Rattle.std.proofs.Common.{◌≡◌, ℕ, true, List, [], ◌∷◌, inl, inr, refl, sym, ◌∙◌, arith}
-use Rattle.std.specs.Prelude.{find, ◌&&◌}
-use Rattle.std.specs.List.{list_any}
-use Rattle.std.specs.Option.{option_map}
-use Rattle.std.specs.Str.{bytes_eq}
+use Rattle.std.specs.{List.list_any, Option.option_map, Prelude.{find, ◌&&◌}, Str.bytes_eq}
 use Rattle.cni_result.specs.declared.cached.Cached.{Cached}
-use Rattle.cni_addr.specs.declared.address.Cidr.{Cidr}
-use Rattle.cni_addr.specs.declared.address.Family.{Family}
-use Rattle.kernel_types.specs.Equal.{rule_eq, tag_eq}
-use Rattle.kernel_types.specs.Terms.{is_own, is_owned, is_link_of, has_named_ns, has_host_bridge}
-use Rattle.kernel_types.specs.Apply.Calls.{cache_put_of, addr_add_of, route_add_of, rule_append_of, setting_set_of, gateway_ensure_of, forward_ensure_of, is_same_addr, is_same_route, is_same_setting, has_link_of, new_gateway, new_forward}
-use Rattle.kernel_types.specs.Sound.{IsSound, address_fits_tag, setting_fits_tag}
-use Rattle.kernel_types.specs.Touch.{AddsAddress, AddsSetting, TouchesOwnAlone, TouchesTag}
+use Rattle.cni_addr.specs.declared.address.{Cidr.Cidr, Family.Family}
+use Rattle.kernel_types.specs.Apply.Calls.{cache_put_of, addr_add_of, route_add_of, rule_append_of, setting_set_of}
+use Rattle.kernel_types.specs.Apply.Calls.{gateway_ensure_of, forward_ensure_of, is_same_addr, is_same_route}
+use Rattle.kernel_types.specs.{Apply.Calls.{is_same_setting, has_link_of, new_gateway, new_forward}, Equal.rule_eq}
+use Rattle.kernel_types.specs.{Equal.tag_eq, Sound.{IsSound, address_fits_tag, setting_fits_tag}, Terms.is_own}
+use Rattle.kernel_types.specs.{Terms.{is_owned, is_link_of, has_named_ns, has_host_bridge}, Touch.AddsAddress}
+use Rattle.kernel_types.specs.{Touch.{AddsSetting, TouchesOwnAlone, TouchesTag}, declared.call.Reply.Reply}
+use Rattle.kernel_types.specs.declared.object.{AddrObj.AddrObj, Att.Att, Host.Host, Link.Link, NsObj.NsObj}
+use Rattle.kernel_types.specs.declared.object.{RouteObj.RouteObj, Setting.Setting, Tag.{Tag, TheVariants.Outside}}
+use Rattle.kernel_types.specs.declared.{object.Tag.TheVariants.{Base, Own}, rule.Rule.Rule}
 use Rattle.cni_addr.proofs.Cases.{by_test}
 use Rattle.kernel_types.proofs.Cases.{by_absence, by_addition, none-option_map, tag_eq-own, own-own, TouchesTag-owned}
-use Rattle.kernel_types.proofs.ChangeLemmas.{ChangesOnly-append}
-use Rattle.kernel_types.proofs.ListLemmas.{list_any-none, list_any-find_none, list_all-push, distinct-push}
-use Rattle.kernel_types.proofs.OneList.{IsSound-with_cached, IsSound-with_addresses, IsSound-with_routes, IsSound-with_rules, IsSound-with_settings, TouchesOwnAlone-nothing, TouchesOwnAlone-with_cached, TouchesOwnAlone-with_addresses, TouchesOwnAlone-with_routes, TouchesOwnAlone-with_rules, TouchesOwnAlone-with_settings}
-use Rattle.kernel_types.specs.declared.object.Att.{Att}
-use Rattle.kernel_types.specs.declared.object.Tag.{Tag}
-use Rattle.kernel_types.specs.declared.object.Tag.TheVariants.{Outside, Base, Own}
-use Rattle.kernel_types.specs.declared.object.NsObj.{NsObj}
-use Rattle.kernel_types.specs.declared.object.Link.{Link}
-use Rattle.kernel_types.specs.declared.object.AddrObj.{AddrObj}
-use Rattle.kernel_types.specs.declared.object.RouteObj.{RouteObj}
-use Rattle.kernel_types.specs.declared.rule.Rule.{Rule}
-use Rattle.kernel_types.specs.declared.object.Setting.{Setting}
-use Rattle.kernel_types.specs.declared.object.Host.{Host}
-use Rattle.kernel_types.specs.declared.call.Reply.{Reply}
+use Rattle.kernel_types.proofs.{ChangeLemmas.ChangesOnly-append, ListLemmas.{list_any-none, list_any-find_none}}
+use Rattle.kernel_types.proofs.{ListLemmas.{list_all-push, distinct-push}, OneList.IsSound-with_cached}
+use Rattle.kernel_types.proofs.OneList.{IsSound-with_addresses, IsSound-with_routes, IsSound-with_rules}
+use Rattle.kernel_types.proofs.OneList.{IsSound-with_settings, TouchesOwnAlone-nothing, TouchesOwnAlone-with_cached}
+use Rattle.kernel_types.proofs.OneList.{TouchesOwnAlone-with_addresses, TouchesOwnAlone-with_routes}
+use Rattle.kernel_types.proofs.OneList.{TouchesOwnAlone-with_rules, TouchesOwnAlone-with_settings}
 
 one_own : (att : Att) (t : Tag) → t ≡ Own att → (is_own att t && true) ≡ true
 one_own att t own = let at : is_own att t ≡ true = own-own att t own in grind (arith, at)

@@ -1,33 +1,26 @@
 -- Links that are appended leave a host sound, and are their attachment's.
-use Rattle.std.proofs.Common.{◌≡◌, ℕ, Bool, true, false, not, List, [], ◌∷◌, ◌++◌, inl, inr, Option, Some, None, refl, sym, ◌∙◌, ap, arith}
-use Rattle.std.specs.Prelude.{find, ◌&&◌, ◌||◌}
-use Rattle.std.specs.List.{list_any, list_all}
-use Rattle.std.specs.Option.{option_map, option_or}
+use Rattle.std.proofs.Common.{◌≡◌, ℕ, Bool, true, false, not, List, [], ◌∷◌, ◌++◌, inl, inr, Option, Some, None, refl}
+use Rattle.std.proofs.{Common.{sym, ◌∙◌, ap, arith}, lemmas.Slice.Eq.bytes_eq-Decides}
+use Rattle.std.specs.{List.{list_any, list_all}, Option.{option_map, option_or}, Prelude.{find, ◌&&◌, ◌||◌}}
 use Rattle.std.specs.Str.{bytes_eq}
-use Rattle.std.proofs.lemmas.Slice.Eq.{bytes_eq-Decides}
 use Rattle.cni_addr.specs.Lists.{distinct}
-use Rattle.kernel_types.specs.Equal.{tag_eq}
-use Rattle.kernel_types.specs.Terms.{is_host_ns, is_host_or_ns, is_host_link, is_own, is_at, is_peer_at, is_owned, is_link_of, is_veth, has_named_ns, link_at, is_host_bridge, fits_master}
-use Rattle.kernel_types.specs.Apply.Calls.{bridge_ensure_of, bridge_or_new, new_bridge, veth_add_of, macvlan_add_of, master_is_bridge_or_none, has_master}
-use Rattle.kernel_types.specs.Sound.{IsSound, peer_fits, peers_back, address_fits_tag, link_fits_tag, is_owned_kind}
-use Rattle.kernel_types.specs.Allowed.{IsVethPair, IsInnerLink}
-use Rattle.kernel_types.specs.Touch.{AddsBridge, TouchesOwnAlone, TouchesTag}
-use Rattle.cni_addr.proofs.Cases.{by_test}
-use Rattle.kernel_types.proofs.Cases.{by_addition, none-option_map, none-option_or, tag_eq-refl, own-own, TouchesTag-owned, is_at-itself, host_ns-eq, other_host}
-use Rattle.kernel_types.proofs.ChangeLemmas.{ChangesOnly-append}
-use Rattle.kernel_types.proofs.ListLemmas.{list_all-weaker, list_any-none, list_any-find_none, list_any-append_left, list_any-append_right, list_all-append, are_new, distinct-append}
-use Rattle.kernel_types.proofs.OneList.{TouchesOwnAlone-nothing, TouchesOwnAlone-with_links}
-use Rattle.kernel_types.specs.declared.object.LinkKey.{LinkKey}
-use Rattle.kernel_types.specs.declared.object.LinkKind.{LinkKind}
+use Rattle.kernel_types.specs.{Allowed.{IsVethPair, IsInnerLink}, Apply.Calls.{bridge_ensure_of, bridge_or_new}}
+use Rattle.kernel_types.specs.Apply.Calls.{new_bridge, veth_add_of, macvlan_add_of, master_is_bridge_or_none}
+use Rattle.kernel_types.specs.{Apply.Calls.has_master, Equal.tag_eq, Sound.{IsSound, peer_fits, peers_back}}
+use Rattle.kernel_types.specs.{Sound.{address_fits_tag, link_fits_tag, is_owned_kind}, Terms.is_host_ns}
+use Rattle.kernel_types.specs.Terms.{is_host_or_ns, is_host_link, is_own, is_at, is_peer_at, is_owned, is_link_of}
+use Rattle.kernel_types.specs.{Terms.{is_veth, has_named_ns, link_at, is_host_bridge, fits_master}, Touch.AddsBridge}
+use Rattle.kernel_types.specs.{Touch.{TouchesOwnAlone, TouchesTag}, declared.{call.Reply.Reply, object.AddrObj.AddrObj}}
+use Rattle.kernel_types.specs.declared.object.{Att.Att, Host.Host, Link.Link, LinkKey.LinkKey, LinkKind.LinkKind}
 use Rattle.kernel_types.specs.declared.object.LinkKind.TheVariants.{Device, Bridge, Veth, Macvlan, Dummy, Vlan}
-use Rattle.kernel_types.specs.declared.object.Att.{Att}
-use Rattle.kernel_types.specs.declared.object.Tag.{Tag}
-use Rattle.kernel_types.specs.declared.object.Tag.TheVariants.{Outside, Base, Own}
-use Rattle.kernel_types.specs.declared.object.NsObj.{NsObj}
-use Rattle.kernel_types.specs.declared.object.Link.{Link}
-use Rattle.kernel_types.specs.declared.object.AddrObj.{AddrObj}
-use Rattle.kernel_types.specs.declared.object.Host.{Host}
-use Rattle.kernel_types.specs.declared.call.Reply.{Reply}
+use Rattle.kernel_types.specs.declared.object.{NsObj.NsObj, Tag.{Tag, TheVariants.{Outside, Base, Own}}}
+use Rattle.cni_addr.proofs.Cases.{by_test}
+use Rattle.kernel_types.proofs.Cases.{by_addition, none-option_map, none-option_or, tag_eq-refl, own-own}
+use Rattle.kernel_types.proofs.Cases.{TouchesTag-owned, is_at-itself, host_ns-eq, other_host}
+use Rattle.kernel_types.proofs.{ChangeLemmas.ChangesOnly-append, ListLemmas.{list_all-weaker, list_any-none}}
+use Rattle.kernel_types.proofs.ListLemmas.{list_any-find_none, list_any-append_left, list_any-append_right}
+use Rattle.kernel_types.proofs.{ListLemmas.{list_all-append, are_new, distinct-append}, OneList.TouchesOwnAlone-nothing}
+use Rattle.kernel_types.proofs.OneList.{TouchesOwnAlone-with_links}
 
 -- ---- more links
 

@@ -1,25 +1,15 @@
 -- The cases by which a call is taken apart, and the tags of an attachment.
 use Rattle.std.proofs.Common.{◌≡◌, ℕ, Bool, true, false, List, [], ◌∷◌, Option, Some, None, refl, ◌∙◌, ap, arith}
-use Rattle.std.specs.Prelude.{if◌then◌else◌}
-use Rattle.std.specs.Option.{option_map, option_or}
-use Rattle.std.specs.Str.{bytes_eq}
-use Rattle.std.specs.Cmp.Lexicographic.{nat_list_eq_equiv}
 use Rattle.std.proofs.lemmas.Bool.Decides.{nat_tests}
+use Rattle.std.specs.{Cmp.Lexicographic.nat_list_eq_equiv, Option.{option_map, option_or}, Prelude.if◌then◌else◌}
+use Rattle.std.specs.Str.{bytes_eq}
 use Rattle.cni_addr.proofs.Cases.{by_test}
-use Rattle.kernel_types.specs.Equal.{att_eq, tag_eq}
-use Rattle.kernel_types.specs.Terms.{is_host_ns, is_host_bridge, is_own, is_owned, is_at, is_veth}
-use Rattle.kernel_types.specs.Apply.Calls.{append_unless_taken, unless_there}
-use Rattle.kernel_types.specs.Sound.{is_unowned_kind}
-use Rattle.kernel_types.specs.Touch.{TouchesOwnAlone, TouchesTag}
-use Rattle.kernel_types.specs.declared.object.Att.{Att}
-use Rattle.kernel_types.specs.declared.object.Link.{Link}
-use Rattle.kernel_types.specs.declared.object.LinkKind.{LinkKind}
-use Rattle.kernel_types.specs.declared.object.LinkKind.TheVariants.{Device, Bridge, Veth, Macvlan, Dummy, Vlan}
-use Rattle.kernel_types.specs.declared.object.Tag.{Tag}
-use Rattle.kernel_types.specs.declared.object.Tag.TheVariants.{Outside, Base, Own}
-use Rattle.kernel_types.specs.declared.object.Host.{Host}
-use Rattle.kernel_types.specs.declared.call.Reply.{Reply}
-use Rattle.kernel_types.specs.declared.call.Reply.TheVariants.{Done}
+use Rattle.kernel_types.specs.{Apply.Calls.{append_unless_taken, unless_there}, Equal.{att_eq, tag_eq}}
+use Rattle.kernel_types.specs.{Sound.is_unowned_kind, Terms.{is_host_ns, is_host_bridge, is_own, is_owned, is_at}}
+use Rattle.kernel_types.specs.{Terms.is_veth, Touch.{TouchesOwnAlone, TouchesTag}, declared.call.Reply.Reply}
+use Rattle.kernel_types.specs.declared.{call.Reply.TheVariants.Done, object.{Att.Att, Host.Host, Link.Link}}
+use Rattle.kernel_types.specs.declared.object.LinkKind.{LinkKind, TheVariants.{Device, Bridge, Veth, Macvlan, Dummy}}
+use Rattle.kernel_types.specs.declared.object.{LinkKind.TheVariants.Vlan, Tag.{Tag, TheVariants.{Outside, Base, Own}}}
 
 -- ---- cases
 

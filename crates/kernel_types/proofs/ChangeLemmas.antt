@@ -1,7 +1,6 @@
 -- Laws of lists that change only where they may.
 use Rattle.std.proofs.Common.{◌≡◌, Bool, true, false, List, [], ◌∷◌, ◌++◌, ◌⊎◌, inl, inr, refl, sym, ap, arith}
-use Rattle.std.specs.Prelude.{filter, map, ◌||◌, if◌then◌else◌}
-use Rattle.std.specs.List.{list_all}
+use Rattle.std.specs.{List.list_all, Prelude.{filter, map, ◌||◌, if◌then◌else◌}}
 use Rattle.cni_addr.specs.Lists.{without_first}
 use Rattle.kernel_types.specs.Touch.{ChangesOnly, DropsOnly}
 use Rattle.kernel_types.proofs.ListLemmas.{filter_never}

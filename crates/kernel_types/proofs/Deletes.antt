@@ -1,14 +1,10 @@
 -- The deletion of one object that isn't a link leaves a host sound.
-use Rattle.std.specs.Prelude.{◌&&◌, is_some}
-use Rattle.std.specs.Str.{bytes_eq}
-use Rattle.kernel_types.specs.Equal.{addr_eq, rule_eq, tag_eq}
-use Rattle.kernel_types.specs.Terms.{is_own, is_owned}
-use Rattle.kernel_types.specs.Apply.Calls.{rule_del_of, setting_del_of, lease_del_of, cache_del_of, is_same_setting, owner_in}
-use Rattle.kernel_types.specs.Sound.{IsSound, setting_fits_tag}
-use Rattle.kernel_types.proofs.ListLemmas.{list_all-without_first, distinct-without_first}
-use Rattle.kernel_types.proofs.OneList.{IsSound-with_rules, IsSound-with_settings, IsSound-with_leases, IsSound-with_cached}
-use Rattle.kernel_types.specs.declared.object.Att.{Att}
-use Rattle.kernel_types.specs.declared.object.Host.{Host}
+use Rattle.std.specs.{Prelude.{◌&&◌, is_some}, Str.bytes_eq}
+use Rattle.kernel_types.specs.Apply.Calls.{rule_del_of, setting_del_of, lease_del_of, cache_del_of, is_same_setting}
+use Rattle.kernel_types.specs.{Apply.Calls.owner_in, Equal.{addr_eq, rule_eq, tag_eq}, Sound.IsSound}
+use Rattle.kernel_types.specs.{Sound.setting_fits_tag, Terms.{is_own, is_owned}, declared.object.{Att.Att, Host.Host}}
+use Rattle.kernel_types.proofs.{ListLemmas.{list_all-without_first, distinct-without_first}, OneList.IsSound-with_rules}
+use Rattle.kernel_types.proofs.OneList.{IsSound-with_settings, IsSound-with_leases, IsSound-with_cached}
 
 -- ---- rules
 

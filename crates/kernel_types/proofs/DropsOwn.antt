@@ -1,25 +1,21 @@
 -- A deletion removes the attachment's objects and changes nothing else, so it touches the attachment's alone.
-use Rattle.std.proofs.Common.{◌≡◌, Bool, not, List, Option, Some, None, refl, subst}
-use Rattle.std.specs.Prelude.{find, ◌&&◌}
-use Rattle.std.specs.List.{list_any}
-use Rattle.std.proofs.lemmas.Option.{same_Some}
-use Rattle.kernel_types.specs.Terms.{is_own, is_at}
-use Rattle.kernel_types.specs.Apply as apply
-use Rattle.kernel_types.specs.Apply.Calls.{goes_with, without_link, without_links, link_del_of, rule_del_of, setting_del_of, lease_del_of, cache_del_of}
-use Rattle.kernel_types.specs.Isolation.{RemovesOwn, deletes_for}
-use Rattle.kernel_types.specs.Sound.{IsSound}
-use Rattle.kernel_types.specs.Touch.{DropsOnly, TouchesOwn, TouchesOwnAlone}
-use Rattle.kernel_types.proofs.ChangeLemmas.{ChangesOnly-DropsOnly, DropsOnly-nothing, DropsOnly-filter, DropsOnly-without_first}
-use Rattle.kernel_types.proofs.TouchRemoval.{addresses_gone, routes_gone, gone_owned, gone_may_go}
-use Rattle.kernel_types.specs.declared.object.Att.{Att}
-use Rattle.kernel_types.specs.declared.object.Link.{Link}
+use Rattle.std.proofs.{Common.{◌≡◌, Bool, not, List, Option, Some, None, refl, subst}, lemmas.Option.same_Some}
+use Rattle.std.specs.{List.list_any, Prelude.{find, ◌&&◌}}
+use Rattle.kernel_types.specs.Apply.Calls.{goes_with, without_link, without_links, link_del_of, rule_del_of}
+use Rattle.kernel_types.specs.{Apply.Calls.{setting_del_of, lease_del_of, cache_del_of}, Isolation.RemovesOwn}
+use Rattle.kernel_types.specs.{Isolation.deletes_for, Sound.IsSound, Terms.{is_own, is_at}, Touch.DropsOnly}
+use Rattle.kernel_types.specs.{Touch.{TouchesOwn, TouchesOwnAlone}, declared.call.Call.{Call, TheVariants.Begin}}
+use Rattle.kernel_types.specs.declared.call.Call.TheVariants.{BridgeEnsure, GatewayEnsure, ForwardEnsure, VethAdd}
+use Rattle.kernel_types.specs.declared.call.Call.TheVariants.{MacvlanAdd, LinkSet, AddrAdd, RouteAdd, RuleAppend}
+use Rattle.kernel_types.specs.declared.call.Call.TheVariants.{SettingSet, LeaseNext, CachePut, LinkDel, RuleDel}
+use Rattle.kernel_types.specs.declared.call.Call.TheVariants.{SettingDel, LeaseDel, CacheDel, HasObj, CacheGet}
+use Rattle.kernel_types.specs.declared.{call.Call.TheVariants.{OwnersOf, PoolFree, NsChange, Outside}, object.Att.Att}
+use Rattle.kernel_types.specs.declared.object.{CachedObj.CachedObj, Host.Host, Lease.Lease, Link.Link, Setting.Setting}
 use Rattle.kernel_types.specs.declared.rule.Rule.{Rule}
-use Rattle.kernel_types.specs.declared.object.Setting.{Setting}
-use Rattle.kernel_types.specs.declared.object.Lease.{Lease}
-use Rattle.kernel_types.specs.declared.object.CachedObj.{CachedObj}
-use Rattle.kernel_types.specs.declared.object.Host.{Host}
-use Rattle.kernel_types.specs.declared.call.Call.{Call}
-use Rattle.kernel_types.specs.declared.call.Call.TheVariants.{Begin, BridgeEnsure, GatewayEnsure, ForwardEnsure, VethAdd, MacvlanAdd, LinkSet, AddrAdd, RouteAdd, RuleAppend, SettingSet, LeaseNext, CachePut, LinkDel, RuleDel, SettingDel, LeaseDel, CacheDel, HasObj, CacheGet, OwnersOf, PoolFree, NsChange, Outside}
+use Rattle.kernel_types.specs.Apply as apply
+use Rattle.kernel_types.proofs.ChangeLemmas.{ChangesOnly-DropsOnly, DropsOnly-nothing, DropsOnly-filter}
+use Rattle.kernel_types.proofs.{ChangeLemmas.DropsOnly-without_first, TouchRemoval.{addresses_gone, routes_gone}}
+use Rattle.kernel_types.proofs.TouchRemoval.{gone_owned, gone_may_go}
 
 -- no more than the attachment's objects of the lists that don't lie on links are removed
 RemovesOwn-with : (att : Att) (host : Host) (rules : List Rule) (settings : List Setting) (leases : List Lease) (cached : List CachedObj)

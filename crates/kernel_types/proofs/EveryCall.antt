@@ -1,22 +1,28 @@
 -- Every call that may be made keeps a host sound, and changes only what it may.
 use Rattle.std.proofs.Common.{true, false, refl}
-use Rattle.kernel_types.specs.Allowed.{IsAllowed}
+use Rattle.kernel_types.specs.{Allowed.IsAllowed, Sound.IsSound, Touch.Touches, declared.call.Call.Call}
+use Rattle.kernel_types.specs.declared.call.Call.TheVariants.{Begin, BridgeEnsure, GatewayEnsure, ForwardEnsure}
+use Rattle.kernel_types.specs.declared.call.Call.TheVariants.{VethAdd, MacvlanAdd, LinkSet, AddrAdd, RouteAdd}
+use Rattle.kernel_types.specs.declared.call.Call.TheVariants.{RuleAppend, SettingSet, LeaseNext, CachePut, LinkDel}
+use Rattle.kernel_types.specs.declared.call.Call.TheVariants.{RuleDel, SettingDel, LeaseDel, CacheDel, HasObj, CacheGet}
+use Rattle.kernel_types.specs.declared.call.Call.TheVariants.{OwnersOf, PoolFree, NsChange, Outside}
+use Rattle.kernel_types.specs.declared.{call.Change.TheVariants.{DropLink, Flush}, object.Host.Host}
 use Rattle.kernel_types.specs.Apply as apply
-use Rattle.kernel_types.specs.Sound.{IsSound}
-use Rattle.kernel_types.specs.Touch.{Touches}
-use Rattle.kernel_types.proofs.Adds.{IsSound-cache_put, TouchesOwnAlone-cache_put, IsSound-addr_add, TouchesTag-addr_add, IsSound-route_add, TouchesTag-route_add, IsSound-rule_append, TouchesTag-rule_append, IsSound-setting_set, TouchesTag-setting_set, IsSound-gateway_ensure, AddsAddress-gateway_ensure, IsSound-forward_ensure, AddsSetting-forward_ensure}
-use Rattle.kernel_types.proofs.Append.{IsSound-bridge_ensure, AddsBridge-bridge_ensure, IsSound-veth_add, TouchesTag-veth_add, IsSound-macvlan_add, TouchesTag-macvlan_add}
-use Rattle.kernel_types.proofs.Deletes.{IsSound-rule_del, IsSound-setting_del, IsSound-lease_del, IsSound-cache_del}
-use Rattle.kernel_types.proofs.DropsOwn.{TouchesOwnAlone-RemovesOwn, RemovesOwn-link_del, RemovesOwn-rule_del, RemovesOwn-setting_del, RemovesOwn-lease_del, RemovesOwn-cache_del}
-use Rattle.kernel_types.proofs.Leases.{IsSound-lease_next, TouchesOwnAndLast-lease_next}
-use Rattle.kernel_types.proofs.LinkSet.{IsSound-link_set, TouchesOwnAlone-link_set}
-use Rattle.kernel_types.proofs.Namespaces.{IsSound-ns_add, AddsNamespace-ns_add, IsSound-ns_del, RemovesUnshared-ns_del}
-use Rattle.kernel_types.proofs.Outside.{IsSound-drop_link, RemovesUnshared-drop_link, IsSound-flush, RemovesUnshared-flush}
+use Rattle.kernel_types.proofs.Adds.{IsSound-cache_put, TouchesOwnAlone-cache_put, IsSound-addr_add}
+use Rattle.kernel_types.proofs.Adds.{TouchesTag-addr_add, IsSound-route_add, TouchesTag-route_add, IsSound-rule_append}
+use Rattle.kernel_types.proofs.Adds.{TouchesTag-rule_append, IsSound-setting_set, TouchesTag-setting_set}
+use Rattle.kernel_types.proofs.Adds.{IsSound-gateway_ensure, AddsAddress-gateway_ensure, IsSound-forward_ensure}
+use Rattle.kernel_types.proofs.{Adds.AddsSetting-forward_ensure, Append.IsSound-bridge_ensure}
+use Rattle.kernel_types.proofs.Append.{AddsBridge-bridge_ensure, IsSound-veth_add, TouchesTag-veth_add}
+use Rattle.kernel_types.proofs.{Append.{IsSound-macvlan_add, TouchesTag-macvlan_add}, Deletes.IsSound-rule_del}
+use Rattle.kernel_types.proofs.Deletes.{IsSound-setting_del, IsSound-lease_del, IsSound-cache_del}
+use Rattle.kernel_types.proofs.DropsOwn.{TouchesOwnAlone-RemovesOwn, RemovesOwn-link_del, RemovesOwn-rule_del}
+use Rattle.kernel_types.proofs.DropsOwn.{RemovesOwn-setting_del, RemovesOwn-lease_del, RemovesOwn-cache_del}
+use Rattle.kernel_types.proofs.{Leases.{IsSound-lease_next, TouchesOwnAndLast-lease_next}, LinkSet.IsSound-link_set}
+use Rattle.kernel_types.proofs.{LinkSet.TouchesOwnAlone-link_set, Namespaces.{IsSound-ns_add, AddsNamespace-ns_add}}
+use Rattle.kernel_types.proofs.{Namespaces.{IsSound-ns_del, RemovesUnshared-ns_del}, Outside.IsSound-drop_link}
+use Rattle.kernel_types.proofs.Outside.{RemovesUnshared-drop_link, IsSound-flush, RemovesUnshared-flush}
 use Rattle.kernel_types.proofs.Removal.{IsSound-link_del}
-use Rattle.kernel_types.specs.declared.object.Host.{Host}
-use Rattle.kernel_types.specs.declared.call.Call.{Call}
-use Rattle.kernel_types.specs.declared.call.Call.TheVariants.{Begin, BridgeEnsure, GatewayEnsure, ForwardEnsure, VethAdd, MacvlanAdd, LinkSet, AddrAdd, RouteAdd, RuleAppend, SettingSet, LeaseNext, CachePut, LinkDel, RuleDel, SettingDel, LeaseDel, CacheDel, HasObj, CacheGet, OwnersOf, PoolFree, NsChange, Outside}
-use Rattle.kernel_types.specs.declared.call.Change.TheVariants.{DropLink, Flush}
 
 pub IsSound-apply : (host : Host) (call : Call) → IsSound host → IsAllowed host call → IsSound (apply.apply host call).0
 IsSound-apply host (Begin att netns) sound allowed = sound

@@ -1,26 +1,20 @@
 -- A call leaves the objects that are not its attachment's, list by list and in order.
-use Rattle.std.proofs.Common.{◌≡◌, ℕ, Bool, true, false, not, ◌&&◌, List, [], ◌∷◌, ◌++◌, inl, inr, refl, sym, ◌∙◌, ap, subst, arith}
-use Rattle.std.specs.Prelude.{filter}
-use Rattle.std.specs.Cmp.{IsPartialEquivalence}
-use Rattle.std.specs.Cmp.Lexicographic.{nat_list_eq_equiv}
-use Rattle.std.proofs.lemmas.Slice.Eq.{bytes_eq-Decides}
-use Rattle.kernel_types.specs.Allowed.{IsAllowed}
-use Rattle.kernel_types.specs.Equal.{att_eq, tag_eq}
-use Rattle.kernel_types.specs.Isolation.{KeepsWhere, KeepsPart, KeepsUnowned, names_att, is_from_outside, ensures_shared}
-use Rattle.kernel_types.specs.Terms.{is_own, is_owned}
-use Rattle.kernel_types.specs.Touch.{Touches, TouchesOwn, TouchesTag, AddsOne, AddsBridge, AddsAddress, AddsSetting, RemovesUnshared, is_unshared}
-use Rattle.kernel_types.proofs.Cases.{tag_eq-own}
-use Rattle.kernel_types.proofs.ChangeLemmas.{filter-ChangesOnly, filter-DropsOnly}
+use Rattle.std.proofs.Common.{◌≡◌, ℕ, Bool, true, false, not, ◌&&◌, List, [], ◌∷◌, ◌++◌, inl, inr, refl, sym, ◌∙◌, ap}
+use Rattle.std.proofs.{Common.{subst, arith}, lemmas.Slice.Eq.bytes_eq-Decides}
+use Rattle.std.specs.{Cmp.{IsPartialEquivalence, Lexicographic.nat_list_eq_equiv}, Prelude.filter}
+use Rattle.kernel_types.specs.{Allowed.IsAllowed, Equal.{att_eq, tag_eq}, Isolation.{KeepsWhere, KeepsPart}}
+use Rattle.kernel_types.specs.{Isolation.{KeepsUnowned, names_att, is_from_outside, ensures_shared}, Terms.is_own}
+use Rattle.kernel_types.specs.{Terms.is_owned, Touch.{Touches, TouchesOwn, TouchesTag, AddsOne, AddsBridge}}
+use Rattle.kernel_types.specs.{Touch.{AddsAddress, AddsSetting, RemovesUnshared, is_unshared}, declared.call.Call.Call}
+use Rattle.kernel_types.specs.declared.call.Call.TheVariants.{Begin, BridgeEnsure, GatewayEnsure, ForwardEnsure}
+use Rattle.kernel_types.specs.declared.call.Call.TheVariants.{VethAdd, MacvlanAdd, LinkSet, AddrAdd, RouteAdd}
+use Rattle.kernel_types.specs.declared.call.Call.TheVariants.{RuleAppend, SettingSet, LeaseNext, CachePut, LinkDel}
+use Rattle.kernel_types.specs.declared.call.Call.TheVariants.{RuleDel, SettingDel, LeaseDel, CacheDel, HasObj, CacheGet}
+use Rattle.kernel_types.specs.declared.call.Call.TheVariants.{OwnersOf, PoolFree, NsChange, Outside}
+use Rattle.kernel_types.specs.declared.object.{AddrObj.AddrObj, Att.Att, Host.Host, Link.Link, Setting.Setting, Tag.Tag}
+use Rattle.kernel_types.proofs.{Cases.tag_eq-own, ChangeLemmas.{filter-ChangesOnly, filter-DropsOnly}}
 use Rattle.kernel_types.proofs.ListLemmas.{filter-push_dropped}
-use Rattle.kernel_types.specs.declared.object.Att.{Att}
-use Rattle.kernel_types.specs.declared.object.Tag.{Tag}
 use Rattle.kernel_types.specs.declared.object.Tag.TheVariants as tags
-use Rattle.kernel_types.specs.declared.object.AddrObj.{AddrObj}
-use Rattle.kernel_types.specs.declared.object.Link.{Link}
-use Rattle.kernel_types.specs.declared.object.Setting.{Setting}
-use Rattle.kernel_types.specs.declared.object.Host.{Host}
-use Rattle.kernel_types.specs.declared.call.Call.{Call}
-use Rattle.kernel_types.specs.declared.call.Call.TheVariants.{Begin, BridgeEnsure, GatewayEnsure, ForwardEnsure, VethAdd, MacvlanAdd, LinkSet, AddrAdd, RouteAdd, RuleAppend, SettingSet, LeaseNext, CachePut, LinkDel, RuleDel, SettingDel, LeaseDel, CacheDel, HasObj, CacheGet, OwnersOf, PoolFree, NsChange, Outside}
 
 -- ---- any test of tags
 

@@ -1,23 +1,16 @@
 -- The address that a lease replies is a candidate of the set that was free, and the last of its pool from then on.
-use Rattle.std.proofs.Common.{◌≡◌, ℕ, Bool, true, false, cond, List, [], ◌∷◌, ◌++◌, Option, Some, None, refl, sym, ◌∙◌, ap, subst, arith}
-use Rattle.std.specs.Prelude.{find, map}
-use Rattle.std.specs.List.{list_any}
-use Rattle.std.specs.Option.{option_map}
-use Rattle.cni_addr.specs.declared.address.Addr.{Addr}
-use Rattle.cni_addr.specs.declared.range.RangeSet.{RangeSet}
-use Rattle.ip_pool.specs.NextAddress.{is_candidate, is_taken, IsExhausted, IsNextAddress, IsPick}
-use Rattle.ip_pool.specs.Pool.{pick_of}
+use Rattle.std.proofs.Common.{◌≡◌, ℕ, Bool, true, false, cond, List, [], ◌∷◌, ◌++◌, Option, Some, None, refl, sym, ◌∙◌}
+use Rattle.std.proofs.Common.{ap, subst, arith}
+use Rattle.std.specs.{List.list_any, Option.option_map, Prelude.{find, map}}
+use Rattle.cni_addr.specs.declared.{address.Addr.Addr, range.RangeSet.RangeSet}
+use Rattle.ip_pool.specs.{NextAddress.{is_candidate, is_taken, IsExhausted, IsNextAddress, IsPick}, Pool.pick_of}
 use Rattle.ip_pool.proofs.Choice.{none-exhausted, picked-candidate, picked-free, pick-is_pick}
-use Rattle.kernel_types.specs.Allowed.{IsAllowed}
-use Rattle.kernel_types.specs.Apply.Calls.{lease_next_of, lease_taken, leased_addresses, last_leased, is_of_pool, moved_last, with_last}
+use Rattle.kernel_types.specs.{Allowed.IsAllowed, Apply.Calls.{lease_next_of, lease_taken, leased_addresses}}
+use Rattle.kernel_types.specs.Apply.Calls.{last_leased, is_of_pool, moved_last, with_last}
+use Rattle.kernel_types.specs.declared.call.{Call.TheVariants.LeaseNext, Reply.TheVariants.{Empty, Leased}}
+use Rattle.kernel_types.specs.declared.object.{Att.Att, Host.Host, Last.Last, Tag.TheVariants.Own}
 use Rattle.cni_addr.proofs.Cases.{by_test}
 use Rattle.kernel_types.proofs.Leases.{is_of_pool-moved, pool_itself}
-use Rattle.kernel_types.specs.declared.object.Att.{Att}
-use Rattle.kernel_types.specs.declared.object.Last.{Last}
-use Rattle.kernel_types.specs.declared.object.Host.{Host}
-use Rattle.kernel_types.specs.declared.object.Tag.TheVariants.{Own}
-use Rattle.kernel_types.specs.declared.call.Call.TheVariants.{LeaseNext}
-use Rattle.kernel_types.specs.declared.call.Reply.TheVariants.{Empty, Leased}
 
 -- ---- what the reply says of the choice
 

@@ -1,27 +1,20 @@
 -- An address that is leased was free, and leaves a host sound.
-use Rattle.std.proofs.Common.{◌≡◌, ℕ, true, false, List, [], ◌∷◌, ◌++◌, ◌⊎◌, inl, inr, Option, Some, None, refl, sym, ◌∙◌, ap, arith}
-use Rattle.std.specs.Prelude.{◌&&◌, ◌==◌, if◌then◌else◌, is_some}
-use Rattle.std.specs.List.{list_any}
+use Rattle.std.proofs.Common.{◌≡◌, ℕ, true, false, List, [], ◌∷◌, ◌++◌, ◌⊎◌, inl, inr, Option, Some, None, refl, sym}
+use Rattle.std.proofs.{Common.{◌∙◌, ap, arith}, lemmas.Bool.Decides.nat_tests}
+use Rattle.std.specs.{Cmp.Lexicographic.nat_list_eq_equiv, List.list_any, Prelude.{◌&&◌, ◌==◌, if◌then◌else◌, is_some}}
 use Rattle.std.specs.Str.{bytes_eq}
-use Rattle.std.specs.Cmp.Lexicographic.{nat_list_eq_equiv}
-use Rattle.std.proofs.lemmas.Bool.Decides.{nat_tests}
-use Rattle.cni_addr.specs.declared.address.Addr.{Addr}
-use Rattle.cni_addr.specs.declared.range.RangeSet.{RangeSet}
+use Rattle.cni_addr.specs.declared.{address.Addr.Addr, range.RangeSet.RangeSet}
 use Rattle.ip_pool.specs.Pool.{is_free, pick_of, after_last_first, candidates_of}
-use Rattle.kernel_types.specs.Equal.{addr_eq}
-use Rattle.kernel_types.specs.Terms.{is_own}
-use Rattle.kernel_types.specs.Apply.Calls.{lease_next_of, lease_taken, leased_addresses, last_leased, is_of_pool, moved_last, owner_in, with_last}
-use Rattle.kernel_types.specs.Sound.{IsSound}
-use Rattle.kernel_types.specs.Touch.{ChangesOnly, TouchesOwn, TouchesOwnAndLast}
+use Rattle.kernel_types.specs.Apply.Calls.{lease_next_of, lease_taken, leased_addresses, last_leased, is_of_pool}
+use Rattle.kernel_types.specs.{Apply.Calls.{moved_last, owner_in, with_last}, Equal.addr_eq, Sound.IsSound}
+use Rattle.kernel_types.specs.{Terms.is_own, Touch.{ChangesOnly, TouchesOwn, TouchesOwnAndLast}}
+use Rattle.kernel_types.specs.declared.object.{Att.Att, Host.Host, Last.Last, Tag.TheVariants.Own}
 use Rattle.cni_addr.proofs.Cases.{by_test}
-use Rattle.kernel_types.proofs.Cases.{att_eq-refl}
-use Rattle.kernel_types.proofs.ChangeLemmas.{ChangesOnly-nothing, ChangesOnly-append, ChangesOnly-map}
-use Rattle.kernel_types.proofs.ListLemmas.{passes-find, list_all-push, list_any-map_filter, distinct-push, distinct-map}
-use Rattle.kernel_types.proofs.OneList.{IsSound-with_leases, IsSound-with_lasts, TouchesOwn-nothing, TouchesOwn-with_lasts, TouchesOwn-with_leases}
-use Rattle.kernel_types.specs.declared.object.Att.{Att}
-use Rattle.kernel_types.specs.declared.object.Tag.TheVariants.{Own}
-use Rattle.kernel_types.specs.declared.object.Last.{Last}
-use Rattle.kernel_types.specs.declared.object.Host.{Host}
+use Rattle.kernel_types.proofs.{Cases.att_eq-refl, ChangeLemmas.{ChangesOnly-nothing, ChangesOnly-append}}
+use Rattle.kernel_types.proofs.{ChangeLemmas.ChangesOnly-map, ListLemmas.{passes-find, list_all-push}}
+use Rattle.kernel_types.proofs.ListLemmas.{list_any-map_filter, distinct-push, distinct-map}
+use Rattle.kernel_types.proofs.OneList.{IsSound-with_leases, IsSound-with_lasts, TouchesOwn-nothing}
+use Rattle.kernel_types.proofs.OneList.{TouchesOwn-with_lasts, TouchesOwn-with_leases}
 
 -- ---- the last of a pool
 

@@ -1,24 +1,16 @@
 -- A link that gets values in place leaves a host sound, and is the attachment's.
 use Rattle.std.proofs.Common.{◌≡◌, ℕ, Bool, true, not, List, ◌⊎◌, inl, inr, Option, Some, None, refl, ◌∙◌, ap, arith}
-use Rattle.std.specs.Prelude.{map, ◌&&◌, ◌||◌}
-use Rattle.std.specs.List.{list_any}
+use Rattle.std.specs.{List.list_any, Prelude.{map, ◌&&◌, ◌||◌}}
 use Rattle.cni_addr.specs.declared.mac.Mac.{Mac}
-use Rattle.kernel_types.specs.Terms.{is_host_ns, is_host_or_ns, is_own, is_at, is_veth, is_link_of, is_host_bridge}
-use Rattle.kernel_types.specs.Apply.Calls.{link_set_of, set_link, is_own_at}
-use Rattle.kernel_types.specs.Sound.{IsSound, peer_fits, peers_back, address_fits_tag, link_fits_tag}
-use Rattle.kernel_types.specs.Touch.{TouchesOwnAlone}
+use Rattle.kernel_types.specs.{Apply.Calls.{link_set_of, set_link, is_own_at}, Sound.{IsSound, peer_fits, peers_back}}
+use Rattle.kernel_types.specs.{Sound.{address_fits_tag, link_fits_tag}, Terms.{is_host_ns, is_host_or_ns, is_own}}
+use Rattle.kernel_types.specs.{Terms.{is_at, is_veth, is_link_of, is_host_bridge}, Touch.TouchesOwnAlone}
+use Rattle.kernel_types.specs.declared.{call.Reply.Reply, object.{AddrObj.AddrObj, Att.Att, Host.Host, Link.Link}}
+use Rattle.kernel_types.specs.declared.object.{LinkKey.LinkKey, Tag.{Tag, TheVariants.{Outside, Base, Own}}}
 use Rattle.cni_addr.proofs.Cases.{by_test}
-use Rattle.kernel_types.proofs.ChangeLemmas.{ChangesOnly-map}
-use Rattle.kernel_types.proofs.ListLemmas.{list_all-map, list_all-weaker, list_any-map, list_any-same_test, distinct-map}
-use Rattle.kernel_types.proofs.OneList.{TouchesOwnAlone-nothing, TouchesOwnAlone-with_links}
-use Rattle.kernel_types.specs.declared.object.LinkKey.{LinkKey}
-use Rattle.kernel_types.specs.declared.object.Att.{Att}
-use Rattle.kernel_types.specs.declared.object.Tag.{Tag}
-use Rattle.kernel_types.specs.declared.object.Tag.TheVariants.{Outside, Base, Own}
-use Rattle.kernel_types.specs.declared.object.Link.{Link}
-use Rattle.kernel_types.specs.declared.object.AddrObj.{AddrObj}
-use Rattle.kernel_types.specs.declared.object.Host.{Host}
-use Rattle.kernel_types.specs.declared.call.Reply.{Reply}
+use Rattle.kernel_types.proofs.{ChangeLemmas.ChangesOnly-map, ListLemmas.{list_all-map, list_all-weaker, list_any-map}}
+use Rattle.kernel_types.proofs.{ListLemmas.{list_any-same_test, distinct-map}, OneList.TouchesOwnAlone-nothing}
+use Rattle.kernel_types.proofs.OneList.{TouchesOwnAlone-with_links}
 
 -- a change that leaves each link where it is, of its kind, with its peer and its tag
 pub record KeepsPlaces (f : Link → Link) : Type 0 where

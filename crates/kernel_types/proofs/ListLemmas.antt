@@ -1,8 +1,8 @@
 -- Laws of the definitions on lists. Nearly each is an induction that one call of `grind` closes.
-use Rattle.std.proofs.Common.{◌≡◌, ℕ, suc, ◌+◌, Bool, true, false, not, cond, ap, List, [], ◌∷◌, Option, Some, None, refl, sym, ◌∙◌, length, get_or, arith}
-use Rattle.std.specs.Prelude.{filter, find, map, remove, ◌&&◌, ◌||◌, if◌then◌else◌, nat_lt, position}
-use Rattle.std.specs.List.{list_any, list_all, position_or_len}
-use Rattle.std.proofs.lemmas.Bool.Decides.{nat_tests}
+use Rattle.std.proofs.Common.{◌≡◌, ℕ, suc, ◌+◌, Bool, true, false, not, cond, ap, List, [], ◌∷◌, Option, Some, None}
+use Rattle.std.proofs.{Common.{refl, sym, ◌∙◌, length, get_or, arith}, lemmas.Bool.Decides.nat_tests}
+use Rattle.std.specs.{List.{list_any, list_all, position_or_len}, Prelude.{filter, find, map, remove, ◌&&◌, ◌||◌}}
+use Rattle.std.specs.Prelude.{if◌then◌else◌, nat_lt, position}
 pub use Rattle.std.proofs.lemmas.List.Folds.{list_all-map}
 use Rattle.std.proofs.lemmas.Option.{cond_some}
 use Rattle.cni_addr.specs.Lists.{distinct, without_first}

@@ -1,28 +1,19 @@
 -- A namespace that comes or goes leaves a host sound. Nothing that is shared goes with it.
-use Rattle.std.proofs.Common.{◌≡◌, ℕ, Bool, true, false, not, List, [], ◌∷◌, ◌++◌, inl, inr, Option, Some, None, refl, arith}
-use Rattle.std.specs.Prelude.{filter, is_some, ◌&&◌, ◌||◌}
-use Rattle.std.specs.List.{list_any}
-use Rattle.std.specs.Str.{bytes_eq}
-use Rattle.std.proofs.lemmas.Slice.Eq.{bytes_eq-Decides}
-use Rattle.kernel_types.specs.Equal.{tag_eq}
-use Rattle.kernel_types.specs.Terms.{is_host_ns, is_host_or_ns, has_named_ns}
-use Rattle.kernel_types.specs.Apply.Calls.{ns_add_of, ns_del_of, goes_with_ns, has_peer_in, without_links, without_ns, is_same_setting}
-use Rattle.kernel_types.specs.Sound.{IsSound, setting_fits_tag}
-use Rattle.kernel_types.specs.Touch.{AddsNamespace, RemovesUnshared, is_unshared}
-use Rattle.cni_addr.proofs.Cases.{by_test}
-use Rattle.kernel_types.proofs.Cases.{by_absence}
-use Rattle.kernel_types.proofs.ChangeLemmas.{DropsOnly-filter}
-use Rattle.kernel_types.proofs.ListLemmas.{list_all-filter, list_all-kept, list_all-push, list_all-weaker, list_any-append_left, list_any-kept, distinct-filter, distinct-push}
-use Rattle.kernel_types.proofs.Removal.{IsSound-without_links, none_by}
-use Rattle.kernel_types.proofs.Outside.{RemovesUnshared-without_links, RemovesUnshared-nothing, is_loose, outside-unshared}
-use Rattle.kernel_types.specs.declared.object.LinkKey.{LinkKey}
-use Rattle.kernel_types.specs.declared.object.Tag.{Tag}
+use Rattle.std.proofs.Common.{◌≡◌, ℕ, Bool, true, false, not, List, [], ◌∷◌, ◌++◌, inl, inr, Option, Some, None, refl}
+use Rattle.std.proofs.{Common.arith, lemmas.Slice.Eq.bytes_eq-Decides}
+use Rattle.std.specs.{List.list_any, Prelude.{filter, is_some, ◌&&◌, ◌||◌}, Str.bytes_eq}
+use Rattle.kernel_types.specs.Apply.Calls.{ns_add_of, ns_del_of, goes_with_ns, has_peer_in, without_links, without_ns}
+use Rattle.kernel_types.specs.{Apply.Calls.is_same_setting, Equal.tag_eq, Sound.{IsSound, setting_fits_tag}}
+use Rattle.kernel_types.specs.{Terms.{is_host_ns, is_host_or_ns, has_named_ns}, Touch.{AddsNamespace, RemovesUnshared}}
+use Rattle.kernel_types.specs.{Touch.is_unshared, declared.{call.Reply.Reply, object.{Host.Host, Link.Link}}}
+use Rattle.kernel_types.specs.declared.object.{LinkKey.LinkKey, NsObj.NsObj, Setting.Setting, Tag.Tag}
 use Rattle.kernel_types.specs.declared.object.Tag.TheVariants.{Outside, Base, Own}
-use Rattle.kernel_types.specs.declared.object.NsObj.{NsObj}
-use Rattle.kernel_types.specs.declared.object.Link.{Link}
-use Rattle.kernel_types.specs.declared.object.Setting.{Setting}
-use Rattle.kernel_types.specs.declared.object.Host.{Host}
-use Rattle.kernel_types.specs.declared.call.Reply.{Reply}
+use Rattle.cni_addr.proofs.Cases.{by_test}
+use Rattle.kernel_types.proofs.{Cases.by_absence, ChangeLemmas.DropsOnly-filter, ListLemmas.list_all-filter}
+use Rattle.kernel_types.proofs.ListLemmas.{list_all-kept, list_all-push, list_all-weaker, list_any-append_left}
+use Rattle.kernel_types.proofs.ListLemmas.{list_any-kept, distinct-filter, distinct-push}
+use Rattle.kernel_types.proofs.Outside.{RemovesUnshared-without_links, RemovesUnshared-nothing, is_loose}
+use Rattle.kernel_types.proofs.{Outside.outside-unshared, Removal.{IsSound-without_links, none_by}}
 
 -- ---- a namespace that comes
 

@@ -1,19 +1,11 @@
 -- A host of which one list is changed.
 use Rattle.std.proofs.Common.{List, refl}
-use Rattle.kernel_types.specs.Terms.{is_own}
-use Rattle.kernel_types.specs.Sound.{IsSound, AreAddresses, AreRoutes, AreRules, AreSettings, AreLeases, AreCached, AreLasts}
-use Rattle.kernel_types.specs.Touch.{ChangesOnly, TouchesOwn, TouchesOwnAlone}
-use Rattle.kernel_types.proofs.ChangeLemmas.{ChangesOnly-nothing}
-use Rattle.kernel_types.specs.declared.object.Att.{Att}
-use Rattle.kernel_types.specs.declared.object.Host.{Host}
-use Rattle.kernel_types.specs.declared.object.Link.{Link}
-use Rattle.kernel_types.specs.declared.object.AddrObj.{AddrObj}
-use Rattle.kernel_types.specs.declared.object.RouteObj.{RouteObj}
+use Rattle.kernel_types.specs.Sound.{IsSound, AreAddresses, AreRoutes, AreRules, AreSettings, AreLeases, AreCached}
+use Rattle.kernel_types.specs.{Sound.AreLasts, Terms.is_own, Touch.{ChangesOnly, TouchesOwn, TouchesOwnAlone}}
+use Rattle.kernel_types.specs.declared.object.{AddrObj.AddrObj, Att.Att, CachedObj.CachedObj, Host.Host, Last.Last}
+use Rattle.kernel_types.specs.declared.object.{Lease.Lease, Link.Link, RouteObj.RouteObj, Setting.Setting}
 use Rattle.kernel_types.specs.declared.rule.Rule.{Rule}
-use Rattle.kernel_types.specs.declared.object.Setting.{Setting}
-use Rattle.kernel_types.specs.declared.object.Lease.{Lease}
-use Rattle.kernel_types.specs.declared.object.CachedObj.{CachedObj}
-use Rattle.kernel_types.specs.declared.object.Last.{Last}
+use Rattle.kernel_types.proofs.ChangeLemmas.{ChangesOnly-nothing}
 
 -- ---- the host stays sound where that list does
 

@@ -1,29 +1,19 @@
 -- What is done from outside leaves a host sound, and removes nothing that is shared.
 use Rattle.std.proofs.Common.{◌≡◌, ℕ, Bool, true, false, not, List, Option, Some, None, refl, arith}
-use Rattle.std.specs.Prelude.{is_some, ◌&&◌, ◌||◌}
-use Rattle.std.specs.List.{list_any, list_all}
 use Rattle.std.proofs.lemmas.Slice.Eq.{bytes_eq-Decides}
-use Rattle.kernel_types.specs.Equal.{rule_eq, table_eq, tag_eq}
-use Rattle.kernel_types.specs.Terms.{is_host_ns, is_at, is_peer_at, is_bridge, is_owned, is_veth, has_named_ns, link_at}
+use Rattle.std.specs.{List.{list_any, list_all}, Prelude.{is_some, ◌&&◌, ◌||◌}}
 use Rattle.kernel_types.specs.Apply.Calls.{drop_link_of, flush_of, goes_with, without_link, without_links}
-use Rattle.kernel_types.specs.Sound.{IsSound, link_fits_tag, peer_fits}
-use Rattle.kernel_types.specs.Touch.{RemovesUnshared, is_unshared}
+use Rattle.kernel_types.specs.{Equal.{rule_eq, table_eq, tag_eq}, Sound.{IsSound, link_fits_tag, peer_fits}}
+use Rattle.kernel_types.specs.Terms.{is_host_ns, is_at, is_peer_at, is_bridge, is_owned, is_veth, has_named_ns, link_at}
+use Rattle.kernel_types.specs.{Touch.{RemovesUnshared, is_unshared}, declared.{call.Reply.Reply, object.Host.Host}}
+use Rattle.kernel_types.specs.declared.object.{Link.Link, LinkKey.LinkKey, LinkKind.{LinkKind, TheVariants.Device}}
+use Rattle.kernel_types.specs.declared.object.{LinkKind.TheVariants.{Bridge, Veth, Macvlan, Dummy, Vlan}, Tag.Tag}
+use Rattle.kernel_types.specs.declared.{object.Tag.TheVariants.{Outside, Base, Own}, rule.Table.Table}
 use Rattle.cni_addr.proofs.Cases.{by_test}
-use Rattle.kernel_types.proofs.Cases.{shared-no_veth}
-use Rattle.kernel_types.proofs.ChangeLemmas.{DropsOnly-nothing, DropsOnly-filter}
+use Rattle.kernel_types.proofs.{Cases.shared-no_veth, ChangeLemmas.{DropsOnly-nothing, DropsOnly-filter}}
 use Rattle.kernel_types.proofs.ListLemmas.{list_all-filter, list_all-weaker, distinct-filter, passes-find}
-use Rattle.kernel_types.proofs.OneList.{IsSound-with_rules}
-use Rattle.kernel_types.proofs.Removal.{IsSound-without_link}
-use Rattle.kernel_types.proofs.TouchRemoval.{addresses_gone, routes_gone, may_go, keeps_or_owns, list_all-both}
-use Rattle.kernel_types.specs.declared.object.LinkKey.{LinkKey}
-use Rattle.kernel_types.specs.declared.object.LinkKind.{LinkKind}
-use Rattle.kernel_types.specs.declared.object.LinkKind.TheVariants.{Device, Bridge, Veth, Macvlan, Dummy, Vlan}
-use Rattle.kernel_types.specs.declared.object.Tag.{Tag}
-use Rattle.kernel_types.specs.declared.object.Tag.TheVariants.{Outside, Base, Own}
-use Rattle.kernel_types.specs.declared.object.Link.{Link}
-use Rattle.kernel_types.specs.declared.rule.Table.{Table}
-use Rattle.kernel_types.specs.declared.object.Host.{Host}
-use Rattle.kernel_types.specs.declared.call.Reply.{Reply}
+use Rattle.kernel_types.proofs.{OneList.IsSound-with_rules, Removal.IsSound-without_link, TouchRemoval.addresses_gone}
+use Rattle.kernel_types.proofs.TouchRemoval.{routes_gone, may_go, keeps_or_owns, list_all-both}
 
 -- ---- tags that are not shared
 

@@ -1,27 +1,17 @@
 -- Links that go with their peers and with what is on them leave a host sound.
-use Rattle.std.proofs.Common.{◌≡◌, ℕ, Bool, true, false, not, List, [], ◌∷◌, Option, Some, None, refl, sym, ◌∙◌, ap, arith}
-use Rattle.std.specs.Prelude.{filter, find, ◌&&◌, ◌||◌}
-use Rattle.std.specs.List.{list_any}
+use Rattle.std.proofs.Common.{◌≡◌, ℕ, Bool, true, false, not, List, [], ◌∷◌, Option, Some, None, refl, sym, ◌∙◌, ap}
+use Rattle.std.proofs.{Common.arith, lemmas.{Bool.and_parts, Slice.Eq.bytes_eq-Decides}}
+use Rattle.std.specs.{Cmp.Lexicographic.nat_list_eq_equiv, List.list_any, Prelude.{filter, find, ◌&&◌, ◌||◌}}
 use Rattle.std.specs.Str.{bytes_eq}
-use Rattle.std.proofs.lemmas.Bool.{and_parts}
-use Rattle.std.proofs.lemmas.Slice.Eq.{bytes_eq-Decides}
-use Rattle.std.specs.Cmp.Lexicographic.{nat_list_eq_equiv}
-use Rattle.kernel_types.specs.declared.call.Reply.TheVariants.{Gone}
-use Rattle.kernel_types.specs.Equal.{tag_eq}
-use Rattle.kernel_types.specs.Terms.{is_own, is_at, is_peer_at, is_link_of, is_host_or_ns, is_host_ns, is_host_bridge}
-use Rattle.kernel_types.specs.Apply.Calls.{without_links, goes_with, without_link, link_del_of, is_same_addr, is_same_route}
-use Rattle.kernel_types.specs.Sound.{IsSound, AreLinks, AreAddresses, AreRoutes, peer_fits, peers_back, address_fits_tag, link_fits_tag}
-use Rattle.kernel_types.proofs.ListLemmas.{list_all-filter, list_all-kept, list_any-kept, list_any-none, distinct-filter}
-use Rattle.kernel_types.specs.declared.object.Att.{Att}
-use Rattle.kernel_types.specs.declared.object.LinkKey.{LinkKey}
-use Rattle.kernel_types.specs.declared.object.Tag.{Tag}
+use Rattle.kernel_types.specs.Apply.Calls.{without_links, goes_with, without_link, link_del_of, is_same_addr}
+use Rattle.kernel_types.specs.{Apply.Calls.is_same_route, Equal.tag_eq, Sound.{IsSound, AreLinks, AreAddresses}}
+use Rattle.kernel_types.specs.{Sound.{AreRoutes, peer_fits, peers_back, address_fits_tag, link_fits_tag}, Terms.is_own}
+use Rattle.kernel_types.specs.Terms.{is_at, is_peer_at, is_link_of, is_host_or_ns, is_host_ns, is_host_bridge}
+use Rattle.kernel_types.specs.declared.{call.Reply.TheVariants.Gone, object.{AddrObj.AddrObj, Att.Att, Host.Host}}
+use Rattle.kernel_types.specs.declared.object.{Link.Link, LinkKey.LinkKey, NsObj.NsObj, RouteObj.RouteObj, Tag.Tag}
 use Rattle.kernel_types.specs.declared.object.Tag.TheVariants.{Outside, Base, Own}
-use Rattle.kernel_types.specs.declared.object.NsObj.{NsObj}
-use Rattle.kernel_types.specs.declared.object.Link.{Link}
-use Rattle.kernel_types.specs.declared.object.AddrObj.{AddrObj}
-use Rattle.kernel_types.specs.declared.object.RouteObj.{RouteObj}
-use Rattle.kernel_types.proofs.Cases.{host_bridge-at}
-use Rattle.kernel_types.specs.declared.object.Host.{Host}
+use Rattle.kernel_types.proofs.{Cases.host_bridge-at, ListLemmas.{list_all-filter, list_all-kept, list_any-kept}}
+use Rattle.kernel_types.proofs.ListLemmas.{list_any-none, distinct-filter}
 
 -- a test of places, at a link and at its peer
 abbrev pub passes_peer : (List ℕ → List ℕ → Bool) → Option LinkKey → Bool

@@ -1,26 +1,24 @@
 -- No call replies with a fault, and a reply that holds a text or a list leaves the host.
 use Rattle.std.proofs.Common.{◌≡◌, ℕ, true, false, List, Option, Some, None, refl}
-use Rattle.std.specs.Prelude.{find, if◌then◌else◌}
-use Rattle.std.specs.List.{list_any}
-use Rattle.std.specs.Option.{option_map, option_or}
+use Rattle.std.specs.{List.list_any, Option.{option_map, option_or}, Prelude.{find, if◌then◌else◌}}
 use Rattle.cni_addr.specs.declared.address.Addr.{Addr}
-use Rattle.kernel_types.specs.Equal.{rule_eq}
-use Rattle.kernel_types.specs.Terms.{is_host_or_ns, is_host_link, is_bridge, is_own, has_named_ns, has_host_bridge, has_objects, link_at}
+use Rattle.kernel_types.specs.Apply.Calls.{append_unless_taken, bridge_or_new, master_is_bridge_or_none, has_master}
+use Rattle.kernel_types.specs.Apply.Calls.{has_link_of, is_own_at, is_same_addr, is_same_route, is_same_setting}
+use Rattle.kernel_types.specs.Apply.Calls.{lease_taken, leased_addresses, last_leased, new_bridge, without_link}
+use Rattle.kernel_types.specs.{Equal.rule_eq, Replies.{is_fault, holds_text_or_list}, Terms.is_host_or_ns}
+use Rattle.kernel_types.specs.Terms.{is_host_link, is_bridge, is_own, has_named_ns, has_host_bridge, has_objects}
+use Rattle.kernel_types.specs.{Terms.link_at, declared.call.Call.{Call, TheVariants.{Begin, BridgeEnsure}}}
+use Rattle.kernel_types.specs.declared.call.Call.TheVariants.{GatewayEnsure, ForwardEnsure, VethAdd, MacvlanAdd}
+use Rattle.kernel_types.specs.declared.call.Call.TheVariants.{LinkSet, AddrAdd, RouteAdd, RuleAppend, SettingSet}
+use Rattle.kernel_types.specs.declared.call.Call.TheVariants.{LeaseNext, CachePut, LinkDel, RuleDel, SettingDel}
+use Rattle.kernel_types.specs.declared.call.Call.TheVariants.{LeaseDel, CacheDel, HasObj, CacheGet, OwnersOf, PoolFree}
+use Rattle.kernel_types.specs.declared.call.{Call.TheVariants.{NsChange, Outside}, Change.TheVariants.{DropLink, Flush}}
+use Rattle.kernel_types.specs.declared.{call.Reply.{Reply, TheVariants.{Done, NoNs, Taken}}, object.Att.Att}
+use Rattle.kernel_types.specs.declared.object.{Host.Host, Link.Link, Tag.Tag}
 use Rattle.kernel_types.specs.Apply as apply
-use Rattle.kernel_types.specs.Apply.Calls.{append_unless_taken, bridge_or_new, master_is_bridge_or_none, has_master, has_link_of, is_own_at, is_same_addr, is_same_route, is_same_setting, lease_taken, leased_addresses, last_leased, new_bridge, without_link}
 use Rattle.ip_pool.specs.Pool.{pick_of}
-use Rattle.kernel_types.specs.Replies.{is_fault, holds_text_or_list}
 use Rattle.cni_addr.proofs.Cases.{by_test}
-use Rattle.kernel_types.specs.declared.object.Tag.{Tag}
 use Rattle.kernel_types.specs.declared.object.Tag.TheVariants as tags
-use Rattle.kernel_types.specs.declared.object.Att.{Att}
-use Rattle.kernel_types.specs.declared.object.Link.{Link}
-use Rattle.kernel_types.specs.declared.object.Host.{Host}
-use Rattle.kernel_types.specs.declared.call.Call.{Call}
-use Rattle.kernel_types.specs.declared.call.Call.TheVariants.{Begin, BridgeEnsure, GatewayEnsure, ForwardEnsure, VethAdd, MacvlanAdd, LinkSet, AddrAdd, RouteAdd, RuleAppend, SettingSet, LeaseNext, CachePut, LinkDel, RuleDel, SettingDel, LeaseDel, CacheDel, HasObj, CacheGet, OwnersOf, PoolFree, NsChange, Outside}
-use Rattle.kernel_types.specs.declared.call.Change.TheVariants.{DropLink, Flush}
-use Rattle.kernel_types.specs.declared.call.Reply.{Reply}
-use Rattle.kernel_types.specs.declared.call.Reply.TheVariants.{Done, NoNs, Taken}
 
 -- the host and reply of a call that was made in this host
 pub record IsReplyOf (host : Host) (step : Host × Reply) : Type 0 where

@@ -1,29 +1,19 @@
 -- What follows of a sound host.
-use Rattle.std.proofs.Common.{◌≡◌, ℕ, zero, suc, ◌<◌, Bool, true, false, List, [], ◌∷◌, inl, inr, Option, Some, None, length, refl, sym, ◌∙◌, ap, arith}
-use Rattle.std.specs.Prelude.{not, filter, map, ◌&&◌, ◌||◌, if◌then◌else◌}
-use Rattle.std.specs.List.{list_any, list_all, Contains, slice_index_or}
-use Rattle.std.specs.Str.{bytes_eq}
-use Rattle.std.specs.Cmp.{both_ways}
-use Rattle.std.specs.Cmp.Lexicographic.{nat_list_eq_equiv}
-use Rattle.std.proofs.lemmas.Bool.{and_parts}
-use Rattle.std.proofs.lemmas.Slice.Eq.{bytes_eq-Decides}
+use Rattle.std.proofs.Common.{◌≡◌, ℕ, zero, suc, ◌<◌, Bool, true, false, List, [], ◌∷◌, inl, inr, Option, Some, None}
+use Rattle.std.proofs.{Common.{length, refl, sym, ◌∙◌, ap, arith}, lemmas.{Bool.and_parts, Slice.Eq.bytes_eq-Decides}}
+use Rattle.std.specs.{Cmp.{both_ways, Lexicographic.nat_list_eq_equiv}, List.{list_any, list_all, Contains}}
+use Rattle.std.specs.{List.slice_index_or, Prelude.{not, filter, map, ◌&&◌, ◌||◌, if◌then◌else◌}, Str.bytes_eq}
 use Rattle.cni_addr.specs.Lists.{distinct, IsAmong}
-use Rattle.kernel_types.specs.Equal.{addr_eq, tag_eq}
-use Rattle.kernel_types.specs.Terms.{is_host_ns, is_host_or_ns, is_host_bridge, is_owned, is_at, is_peer_at, is_link_of, has_bridge_in, has_link_in}
-use Rattle.kernel_types.specs.Apply.Calls.{goes_with, goes_with_ns, has_peer_in}
-use Rattle.kernel_types.specs.Sound.{IsSound, AreInPlaces, HasTagsOn, NoNamespaceOwned, may_be_on, NoAddressTwice, is_link_or_peer, is_in_ns_or_peer, address_fits_tag, peer_fits, peers_back, setting_fits_tag}
-use Rattle.kernel_types.proofs.Cases.{host_bridge-at}
-use Rattle.kernel_types.proofs.ListLemmas.{list_all-weaker, list_any-weaker, list_any-none, list_any-map_filter}
-use Rattle.kernel_types.proofs.TouchRemoval.{is_at-symm, keeps_or_owns, one_place}
-use Rattle.kernel_types.specs.declared.object.LinkKey.{LinkKey}
-use Rattle.kernel_types.specs.declared.object.Tag.{Tag}
-use Rattle.kernel_types.specs.declared.object.Tag.TheVariants.{Outside, Base, Own}
-use Rattle.kernel_types.specs.declared.object.NsObj.{NsObj}
-use Rattle.kernel_types.specs.declared.object.Link.{Link}
-use Rattle.kernel_types.specs.declared.object.AddrObj.{AddrObj}
-use Rattle.kernel_types.specs.declared.object.Setting.{Setting}
-use Rattle.kernel_types.specs.declared.object.Lease.{Lease}
-use Rattle.kernel_types.specs.declared.object.Host.{Host}
+use Rattle.kernel_types.specs.{Apply.Calls.{goes_with, goes_with_ns, has_peer_in}, Equal.{addr_eq, tag_eq}}
+use Rattle.kernel_types.specs.Sound.{IsSound, AreInPlaces, HasTagsOn, NoNamespaceOwned, may_be_on, NoAddressTwice}
+use Rattle.kernel_types.specs.Sound.{is_link_or_peer, is_in_ns_or_peer, address_fits_tag, peer_fits, peers_back}
+use Rattle.kernel_types.specs.{Sound.setting_fits_tag, Terms.{is_host_ns, is_host_or_ns, is_host_bridge, is_owned}}
+use Rattle.kernel_types.specs.Terms.{is_at, is_peer_at, is_link_of, has_bridge_in, has_link_in}
+use Rattle.kernel_types.specs.declared.object.{AddrObj.AddrObj, Host.Host, Lease.Lease, Link.Link, LinkKey.LinkKey}
+use Rattle.kernel_types.specs.declared.object.{NsObj.NsObj, Setting.Setting, Tag.{Tag, TheVariants.{Outside, Base}}}
+use Rattle.kernel_types.specs.declared.object.Tag.TheVariants.{Own}
+use Rattle.kernel_types.proofs.{Cases.host_bridge-at, ListLemmas.{list_all-weaker, list_any-weaker, list_any-none}}
+use Rattle.kernel_types.proofs.{ListLemmas.list_any-map_filter, TouchRemoval.{is_at-symm, keeps_or_owns, one_place}}
 
 -- ---- places
 

@@ -1,19 +1,12 @@
 -- A host in which all was made outside is sound.
 use Rattle.std.proofs.Common.{◌≡◌, ℕ, true, not, List, [], ◌∷◌, Option, Some, None, refl, ◌∙◌, arith}
-use Rattle.std.specs.Prelude.{map, is_none}
-use Rattle.std.specs.List.{list_any, list_all}
-use Rattle.std.specs.Str.{bytes_eq}
+use Rattle.std.specs.{List.{list_any, list_all}, Prelude.{map, is_none}, Str.bytes_eq}
 use Rattle.cni_addr.specs.Lists.{distinct}
-use Rattle.kernel_types.specs.Equal.{tag_eq}
-use Rattle.kernel_types.specs.Terms.{is_host_ns, outside_namespace}
-use Rattle.kernel_types.specs.Sound.{IsSound, link_fits_tag, peer_fits, is_unowned_kind}
-use Rattle.kernel_types.specs.Opening.{opening_with, AreNamespaceNames, AreOutsideLinks, is_outside_link}
-use Rattle.kernel_types.proofs.Cases.{shared-no_veth}
-use Rattle.kernel_types.proofs.ListLemmas.{list_any-map, list_all-map, list_all-weaker}
-use Rattle.kernel_types.specs.declared.object.LinkKey.{LinkKey}
-use Rattle.kernel_types.specs.declared.object.Link.{Link}
-use Rattle.kernel_types.specs.declared.object.Tag.{Tag}
-use Rattle.kernel_types.specs.declared.object.Tag.TheVariants.{Outside, Base, Own}
+use Rattle.kernel_types.specs.{Equal.tag_eq, Opening.{opening_with, AreNamespaceNames, AreOutsideLinks}}
+use Rattle.kernel_types.specs.{Opening.is_outside_link, Sound.{IsSound, link_fits_tag, peer_fits, is_unowned_kind}}
+use Rattle.kernel_types.specs.{Terms.{is_host_ns, outside_namespace}, declared.object.{Link.Link, LinkKey.LinkKey}}
+use Rattle.kernel_types.specs.declared.object.Tag.{Tag, TheVariants.{Outside, Base, Own}}
+use Rattle.kernel_types.proofs.{Cases.shared-no_veth, ListLemmas.{list_any-map, list_all-map, list_all-weaker}}
 
 distinct-names : (names : List (List ℕ)) → distinct (λ a b. bytes_eq a.name b.name) (map outside_namespace names) ≡ distinct bytes_eq names
 distinct-names [] = refl

@@ -1,29 +1,17 @@
 -- What goes with an attachment's link is the attachment's.
-use Rattle.std.proofs.Common.{◌≡◌, ℕ, Bool, true, false, not, List, [], ◌∷◌, Option, Some, None, refl, ◌∙◌, ap, subst, arith}
-use Rattle.std.specs.Prelude.{find, ◌&&◌, ◌||◌}
-use Rattle.std.specs.List.{list_any, list_all}
-use Rattle.std.proofs.lemmas.Bool.{and_parts}
-use Rattle.std.proofs.lemmas.Option.{same_Some}
-use Rattle.std.specs.Cmp.Lexicographic.{nat_list_eq_equiv}
+use Rattle.std.proofs.Common.{◌≡◌, ℕ, Bool, true, false, not, List, [], ◌∷◌, Option, Some, None, refl, ◌∙◌, ap, subst}
+use Rattle.std.proofs.{Common.arith, lemmas.{Bool.and_parts, Option.same_Some}}
+use Rattle.std.specs.{Cmp.Lexicographic.nat_list_eq_equiv, List.{list_any, list_all}, Prelude.{find, ◌&&◌, ◌||◌}}
 use Rattle.cni_addr.specs.Lists.{distinct}
-use Rattle.kernel_types.specs.Equal.{tag_eq}
-use Rattle.kernel_types.specs.Terms.{is_host_ns, is_own, is_at, is_peer_at, is_bridge, is_link_of, is_host_bridge}
-use Rattle.kernel_types.specs.Apply.Calls.{goes_with}
-use Rattle.kernel_types.specs.Sound.{IsSound, AreAddresses, AreRoutes, peer_fits, peers_back, address_fits_tag, link_fits_tag, is_owned_kind}
-use Rattle.kernel_types.proofs.Isolation.{tag_eq-same}
-use Rattle.kernel_types.proofs.ListLemmas.{list_any-weaker, list_all-weaker}
-use Rattle.kernel_types.proofs.Removal.{same_place}
-use Rattle.kernel_types.specs.declared.object.Att.{Att}
-use Rattle.kernel_types.specs.declared.object.LinkKey.{LinkKey}
-use Rattle.kernel_types.specs.declared.object.LinkKind.{LinkKind}
-use Rattle.kernel_types.specs.declared.object.LinkKind.TheVariants.{Device, Bridge, Veth, Macvlan, Dummy, Vlan}
-use Rattle.kernel_types.specs.declared.object.Tag.{Tag}
+use Rattle.kernel_types.specs.{Apply.Calls.goes_with, Equal.tag_eq, Sound.{IsSound, AreAddresses, AreRoutes, peer_fits}}
+use Rattle.kernel_types.specs.{Sound.{peers_back, address_fits_tag, link_fits_tag, is_owned_kind}, Terms.is_host_ns}
+use Rattle.kernel_types.specs.Terms.{is_own, is_at, is_peer_at, is_bridge, is_link_of, is_host_bridge}
+use Rattle.kernel_types.specs.declared.object.{AddrObj.AddrObj, Att.Att, Host.Host, Link.Link, LinkKey.LinkKey}
+use Rattle.kernel_types.specs.declared.object.LinkKind.{LinkKind, TheVariants.{Device, Bridge, Veth, Macvlan, Dummy}}
+use Rattle.kernel_types.specs.declared.object.{LinkKind.TheVariants.Vlan, RouteObj.RouteObj, Tag.Tag}
 use Rattle.kernel_types.specs.declared.object.Tag.TheVariants.{Outside, Base, Own}
-use Rattle.kernel_types.specs.declared.object.Link.{Link}
-use Rattle.kernel_types.specs.declared.object.AddrObj.{AddrObj}
-use Rattle.kernel_types.specs.declared.object.RouteObj.{RouteObj}
-use Rattle.kernel_types.proofs.Cases.{host_bridge-at}
-use Rattle.kernel_types.specs.declared.object.Host.{Host}
+use Rattle.kernel_types.proofs.{Cases.host_bridge-at, Isolation.tag_eq-same, ListLemmas.list_any-weaker}
+use Rattle.kernel_types.proofs.{ListLemmas.list_all-weaker, Removal.same_place}
 
 -- ---- lists
 

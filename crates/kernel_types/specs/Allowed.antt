@@ -1,15 +1,14 @@
 -- When a call may be made: the shape of its fields, and what it asks of the host.
 use Rattle.std.specs.Prelude.{◌≡◌, true, false, None}
 use Rattle.cni_addr.specs.declared.range.RangeSet.{RangeSet}
-use Rattle.ip_pool.specs.Pool.{are_apart}
-use Rattle.ip_pool.specs.NextAddress.{is_candidate_or_none}
+use Rattle.ip_pool.specs.{NextAddress.is_candidate_or_none, Pool.are_apart}
 use Rattle.kernel_types.specs.Terms.{last_leased, fits_master, is_host_ns, is_owned, is_peer_at, is_veth}
-use Rattle.kernel_types.specs.declared.object.Link.{Link}
-use Rattle.kernel_types.specs.declared.object.Host.{Host}
-use Rattle.kernel_types.specs.declared.call.Call.{Call}
-use Rattle.kernel_types.specs.declared.call.Call.TheVariants.{Begin, BridgeEnsure, GatewayEnsure, ForwardEnsure, VethAdd, MacvlanAdd, LinkSet, AddrAdd, RouteAdd, RuleAppend, SettingSet, LeaseNext, CachePut, LinkDel, RuleDel, SettingDel, LeaseDel, CacheDel, HasObj, CacheGet, OwnersOf, PoolFree, NsChange, Outside}
-use Rattle.kernel_types.specs.declared.call.Change.{Change}
-use Rattle.kernel_types.specs.declared.call.Change.TheVariants.{DropLink, Flush}
+use Rattle.kernel_types.specs.declared.call.Call.{Call, TheVariants.{Begin, BridgeEnsure, GatewayEnsure, ForwardEnsure}}
+use Rattle.kernel_types.specs.declared.call.Call.TheVariants.{VethAdd, MacvlanAdd, LinkSet, AddrAdd, RouteAdd}
+use Rattle.kernel_types.specs.declared.call.Call.TheVariants.{RuleAppend, SettingSet, LeaseNext, CachePut, LinkDel}
+use Rattle.kernel_types.specs.declared.call.Call.TheVariants.{RuleDel, SettingDel, LeaseDel, CacheDel, HasObj, CacheGet}
+use Rattle.kernel_types.specs.declared.call.{Call.TheVariants.{OwnersOf, PoolFree, NsChange, Outside}, Change.Change}
+use Rattle.kernel_types.specs.declared.{call.Change.TheVariants.{DropLink, Flush}, object.{Host.Host, Link.Link}}
 
 -- the two ends of one pair of one owner, the first in the host's own namespace and the second in another namespace
 pub record IsVethPair (host_end inner_end : Link) : Type 0 where

@@ -1,10 +1,8 @@
 -- Enums without fields, by number, and when two are the same.
 use Rattle.std.specs.Prelude.{ℕ, Bool, ◌==◌}
-use Rattle.kernel_types.specs.declared.call.Kind.{Kind}
+use Rattle.kernel_types.specs.declared.{call.Kind.Kind, rule.{Chain.Chain, Table.Table}}
 use Rattle.kernel_types.specs.declared.call.Kind.TheVariants as kinds
-use Rattle.kernel_types.specs.declared.rule.Table.{Table}
 use Rattle.kernel_types.specs.declared.rule.Table.TheVariants as tables
-use Rattle.kernel_types.specs.declared.rule.Chain.{Chain}
 use Rattle.kernel_types.specs.declared.rule.Chain.TheVariants as chains
 
 abbrev pub table_code : Table → ℕ

@@ -1,6 +1,5 @@
 -- When two values are the same, as tests that compute. Each is what `==` of the type computes.
-use Rattle.std.specs.Prelude.{Bool, true, false, ◌&&◌, ◌==◌}
-use Rattle.std.specs.Str.{bytes_eq}
+use Rattle.std.specs.{Prelude.{Bool, true, false, ◌&&◌, ◌==◌}, Str.bytes_eq}
 pub use Rattle.cni_addr.specs.Equal.{addr_eq, cidr_eq, mac_eq}
 use Rattle.std.specs.Option.{option_eq}
 use Rattle.std.proofs.Math.Bool.{beq}

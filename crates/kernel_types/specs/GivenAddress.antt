@@ -1,7 +1,6 @@
 -- What contracts see of a given address.
 use Rattle.std.specs.Prelude.{◌≡◌}
-use Rattle.cni_addr.specs.declared.address.Addr.{Addr}
-use Rattle.cni_addr.specs.declared.address.Cidr.{Cidr}
+use Rattle.cni_addr.specs.declared.address.{Addr.Addr, Cidr.Cidr}
 
 -- a leased address, the gateway and the subnet of its range
 pub record GivenValue : Type 0 where

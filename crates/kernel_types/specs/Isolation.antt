@@ -1,13 +1,11 @@
 -- What a call leaves of the objects that are not its attachment's.
 use Rattle.std.specs.Prelude.{◌≡◌, Bool, true, false, not, ◌&&◌, filter, Option, Some, None}
-use Rattle.kernel_types.specs.Equal.{att_eq}
-use Rattle.kernel_types.specs.Touch.{DropsOnly}
-use Rattle.kernel_types.specs.Terms.{is_own, is_owned}
-use Rattle.kernel_types.specs.declared.object.Att.{Att}
-use Rattle.kernel_types.specs.declared.object.Host.{Host}
-use Rattle.kernel_types.specs.declared.object.Tag.{Tag}
-use Rattle.kernel_types.specs.declared.call.Call.{Call}
-use Rattle.kernel_types.specs.declared.call.Call.TheVariants.{Begin, BridgeEnsure, GatewayEnsure, ForwardEnsure, VethAdd, MacvlanAdd, LinkSet, AddrAdd, RouteAdd, RuleAppend, SettingSet, LeaseNext, CachePut, LinkDel, RuleDel, SettingDel, LeaseDel, CacheDel, CacheGet, NsChange, Outside}
+use Rattle.kernel_types.specs.{Equal.att_eq, Terms.{is_own, is_owned}, Touch.DropsOnly, declared.call.Call.Call}
+use Rattle.kernel_types.specs.declared.call.Call.TheVariants.{Begin, BridgeEnsure, GatewayEnsure, ForwardEnsure}
+use Rattle.kernel_types.specs.declared.call.Call.TheVariants.{VethAdd, MacvlanAdd, LinkSet, AddrAdd, RouteAdd}
+use Rattle.kernel_types.specs.declared.call.Call.TheVariants.{RuleAppend, SettingSet, LeaseNext, CachePut, LinkDel}
+use Rattle.kernel_types.specs.declared.call.Call.TheVariants.{RuleDel, SettingDel, LeaseDel, CacheDel, CacheGet}
+use Rattle.kernel_types.specs.declared.{call.Call.TheVariants.{NsChange, Outside}, object.{Att.Att, Host.Host, Tag.Tag}}
 
 -- each tagged list has the same objects whose tag passes, in the same order
 pub record KeepsWhere (test : Tag → Bool) (old new : Host) : Type 0 where

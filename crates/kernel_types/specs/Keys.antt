@@ -1,17 +1,8 @@
 -- When an object has the key of a new one: a list has at most one object of each key.
-use Rattle.std.specs.Prelude.{Bool, ◌&&◌}
-use Rattle.std.specs.Str.{bytes_eq}
-use Rattle.kernel_types.specs.Equal.{addr_eq, cidr_eq, rule_eq, tag_eq}
-use Rattle.kernel_types.specs.Terms.{is_at, is_lease_at, is_of_pool}
-use Rattle.kernel_types.specs.declared.object.NsObj.{NsObj}
-use Rattle.kernel_types.specs.declared.object.Link.{Link}
-use Rattle.kernel_types.specs.declared.object.AddrObj.{AddrObj}
-use Rattle.kernel_types.specs.declared.object.RouteObj.{RouteObj}
-use Rattle.kernel_types.specs.declared.rule.Rule.{Rule}
-use Rattle.kernel_types.specs.declared.object.Setting.{Setting}
-use Rattle.kernel_types.specs.declared.object.Lease.{Lease}
-use Rattle.kernel_types.specs.declared.object.CachedObj.{CachedObj}
-use Rattle.kernel_types.specs.declared.object.Last.{Last}
+use Rattle.std.specs.{Prelude.{Bool, ◌&&◌}, Str.bytes_eq}
+use Rattle.kernel_types.specs.{Equal.{addr_eq, cidr_eq, rule_eq, tag_eq}, Terms.{is_at, is_lease_at, is_of_pool}}
+use Rattle.kernel_types.specs.declared.object.{AddrObj.AddrObj, CachedObj.CachedObj, Last.Last, Lease.Lease, Link.Link}
+use Rattle.kernel_types.specs.declared.{object.{NsObj.NsObj, RouteObj.RouteObj, Setting.Setting}, rule.Rule.Rule}
 
 abbrev pub is_same_namespace : NsObj → NsObj → Bool
 is_same_namespace new n = bytes_eq n.name new.name

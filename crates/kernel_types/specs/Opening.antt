@@ -1,13 +1,8 @@
 -- The opening: the host before the first call. All that stands in it was made outside.
-use Rattle.std.specs.Prelude.{ℕ, Bool, not, ◌&&◌, List, [], map, is_none}
-use Rattle.std.specs.Str.{bytes_eq}
-use Rattle.kernel_types.specs.Equal.{tag_eq}
-use Rattle.kernel_types.specs.Keys.{is_same_link}
-use Rattle.kernel_types.specs.Terms.{is_host_ns, is_host_or_ns, outside_namespace}
-use Rattle.kernel_types.specs.Sound.{HasDistinct, HasDistinctKeys, AllPassTest, is_unowned_kind}
-use Rattle.kernel_types.specs.declared.object.Host.{Host}
-use Rattle.kernel_types.specs.declared.object.Link.{Link}
-use Rattle.kernel_types.specs.declared.object.Tag.TheVariants.{Outside}
+use Rattle.std.specs.{Prelude.{ℕ, Bool, not, ◌&&◌, List, [], map, is_none}, Str.bytes_eq}
+use Rattle.kernel_types.specs.{Equal.tag_eq, Keys.is_same_link, Sound.{HasDistinct, HasDistinctKeys, AllPassTest}}
+use Rattle.kernel_types.specs.{Sound.is_unowned_kind, Terms.{is_host_ns, is_host_or_ns, outside_namespace}}
+use Rattle.kernel_types.specs.declared.object.{Host.Host, Link.Link, Tag.TheVariants.Outside}
 
 -- namespaces of these names, these links, and nothing else
 abbrev pub opening_with : List (List ℕ) → List Link → Host

@@ -1,9 +1,8 @@
 -- What a kernel may answer.
 use Rattle.std.specs.Prelude.{Bool, true, false}
-use Rattle.kernel_types.specs.declared.call.Call.{Call}
-use Rattle.kernel_types.specs.declared.call.Call.TheVariants.{LinkSet, LinkDel, RuleDel, SettingDel, LeaseDel, CacheDel, HasObj, PoolFree, NsChange, Outside}
-use Rattle.kernel_types.specs.declared.call.Reply.{Reply}
-use Rattle.kernel_types.specs.declared.call.Reply.TheVariants.{Taken, Owners, Entry, Fault}
+use Rattle.kernel_types.specs.declared.call.Call.{Call, TheVariants.{LinkSet, LinkDel, RuleDel, SettingDel, LeaseDel}}
+use Rattle.kernel_types.specs.declared.call.Call.TheVariants.{CacheDel, HasObj, PoolFree, NsChange, Outside}
+use Rattle.kernel_types.specs.declared.call.Reply.{Reply, TheVariants.{Taken, Owners, Entry, Fault}}
 
 -- a fault is named by a command, and never comes from a kernel
 abbrev pub is_fault : Reply → Bool

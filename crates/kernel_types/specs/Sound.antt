@@ -1,26 +1,16 @@
 -- What holds of every host that a kernel means: keys are distinct, and tags, places and peers fit.
-use Rattle.std.specs.Prelude.{◌≡◌, ℕ, Bool, true, false, not, ◌&&◌, ◌||◌, List, Option, Some, None, is_some}
-use Rattle.std.specs.List.{list_any, list_all}
-use Rattle.std.specs.Str.{bytes_eq}
+use Rattle.std.specs.{List.{list_any, list_all}, Prelude.{◌≡◌, ℕ, Bool, true, false, not, ◌&&◌, ◌||◌, List, Option}}
+use Rattle.std.specs.{Prelude.{Some, None, is_some}, Str.bytes_eq}
 use Rattle.cni_addr.specs.Lists.{distinct}
-use Rattle.kernel_types.specs.Equal.{addr_eq, tag_eq}
-use Rattle.kernel_types.specs.Keys.{is_same_addr, is_same_cached, is_same_last, is_same_lease, is_same_link, is_same_namespace, is_same_route, is_same_rule, is_same_setting}
-use Rattle.kernel_types.specs.Terms.{is_host_ns, is_host_or_ns, is_owned, is_bridge, has_bridge_in, is_veth, is_at, is_peer_at, has_link_in, leased_addresses, owner_in}
-use Rattle.kernel_types.specs.declared.object.LinkKey.{LinkKey}
-use Rattle.kernel_types.specs.declared.object.Tag.{Tag}
-use Rattle.kernel_types.specs.declared.object.Tag.TheVariants.{Outside, Base, Own}
-use Rattle.kernel_types.specs.declared.object.LinkKind.{LinkKind}
-use Rattle.kernel_types.specs.declared.object.LinkKind.TheVariants.{Device, Bridge, Veth, Macvlan, Dummy, Vlan}
-use Rattle.kernel_types.specs.declared.object.NsObj.{NsObj}
-use Rattle.kernel_types.specs.declared.object.Link.{Link}
-use Rattle.kernel_types.specs.declared.object.AddrObj.{AddrObj}
-use Rattle.kernel_types.specs.declared.object.RouteObj.{RouteObj}
-use Rattle.kernel_types.specs.declared.rule.Rule.{Rule}
-use Rattle.kernel_types.specs.declared.object.Setting.{Setting}
-use Rattle.kernel_types.specs.declared.object.Lease.{Lease}
-use Rattle.kernel_types.specs.declared.object.CachedObj.{CachedObj}
-use Rattle.kernel_types.specs.declared.object.Last.{Last}
-use Rattle.kernel_types.specs.declared.object.Host.{Host}
+use Rattle.kernel_types.specs.{Equal.{addr_eq, tag_eq}, Keys.{is_same_addr, is_same_cached, is_same_last}}
+use Rattle.kernel_types.specs.Keys.{is_same_lease, is_same_link, is_same_namespace, is_same_route, is_same_rule}
+use Rattle.kernel_types.specs.{Keys.is_same_setting, Terms.{is_host_ns, is_host_or_ns, is_owned, is_bridge}}
+use Rattle.kernel_types.specs.Terms.{has_bridge_in, is_veth, is_at, is_peer_at, has_link_in, leased_addresses, owner_in}
+use Rattle.kernel_types.specs.declared.object.{AddrObj.AddrObj, CachedObj.CachedObj, Host.Host, Last.Last, Lease.Lease}
+use Rattle.kernel_types.specs.declared.object.{Link.Link, LinkKey.LinkKey, LinkKind.{LinkKind, TheVariants.Device}}
+use Rattle.kernel_types.specs.declared.object.{LinkKind.TheVariants.{Bridge, Veth, Macvlan, Dummy, Vlan}, NsObj.NsObj}
+use Rattle.kernel_types.specs.declared.object.{RouteObj.RouteObj, Setting.Setting, Tag.{Tag, TheVariants.Outside}}
+use Rattle.kernel_types.specs.declared.{object.Tag.TheVariants.{Base, Own}, rule.Rule.Rule}
 
 -- no two elements are the same by the test
 abbrev pub HasDistinct : {X : Type 0} → (X → X → Bool) → List X → Type 0

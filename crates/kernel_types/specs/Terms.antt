@@ -1,22 +1,12 @@
 -- What is asked of a host.
-use Rattle.std.specs.Prelude.{ℕ, Bool, true, false, ◌&&◌, ◌||◌, ◌==◌, List, length, map, filter, Option, Some, None, is_none, is_some, find, option_map, if◌then◌else◌}
-use Rattle.std.specs.List.{list_any}
-use Rattle.std.specs.Str.{bytes_eq}
-use Rattle.cni_addr.specs.declared.address.Addr.{Addr}
-use Rattle.cni_addr.specs.declared.mac.Mac.{Mac}
+use Rattle.std.specs.{List.list_any, Prelude.{ℕ, Bool, true, false, ◌&&◌, ◌||◌, ◌==◌, List, length, map, filter}}
+use Rattle.std.specs.{Prelude.{Option, Some, None, is_none, is_some, find, option_map, if◌then◌else◌}, Str.bytes_eq}
+use Rattle.cni_addr.specs.declared.{address.Addr.Addr, mac.Mac.Mac}
 use Rattle.cni_result.specs.declared.cached.Cached.{Cached}
-use Rattle.kernel_types.specs.Equal.{att_eq, addr_eq, mac_eq, tag_eq}
-use Rattle.kernel_types.specs.declared.object.Att.{Att}
-use Rattle.kernel_types.specs.declared.object.LinkKey.{LinkKey}
-use Rattle.kernel_types.specs.declared.object.Tag.{Tag}
-use Rattle.kernel_types.specs.declared.object.Tag.TheVariants.{Outside, Base, Own}
-use Rattle.kernel_types.specs.declared.object.LinkKind.{LinkKind}
-use Rattle.kernel_types.specs.declared.object.LinkKind.TheVariants.{Bridge, Veth, Macvlan, Dummy, Vlan}
-use Rattle.kernel_types.specs.declared.object.Link.{Link}
-use Rattle.kernel_types.specs.declared.object.Lease.{Lease}
-use Rattle.kernel_types.specs.declared.object.Last.{Last}
-use Rattle.kernel_types.specs.declared.object.NsObj.{NsObj}
-use Rattle.kernel_types.specs.declared.object.Host.{Host}
+use Rattle.kernel_types.specs.{Equal.{att_eq, addr_eq, mac_eq, tag_eq}, declared.object.{Att.Att, Host.Host, Last.Last}}
+use Rattle.kernel_types.specs.declared.object.{Lease.Lease, Link.Link, LinkKey.LinkKey, LinkKind.LinkKind}
+use Rattle.kernel_types.specs.declared.object.{LinkKind.TheVariants.{Bridge, Veth, Macvlan, Dummy, Vlan}, NsObj.NsObj}
+use Rattle.kernel_types.specs.declared.object.Tag.{Tag, TheVariants.{Outside, Base, Own}}
 
 -- the host's own namespace has the empty name
 abbrev pub is_host_ns : List ℕ → Bool

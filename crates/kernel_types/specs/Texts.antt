@@ -1,11 +1,8 @@
 -- How kinds of links and tables are written in messages and dumps, and named in pod files.
-use Rattle.std.specs.Prelude.{ℕ, List, codes, Option, find}
-use Rattle.std.specs.Str.{bytes_eq}
-use Rattle.kernel_types.specs.declared.object.LinkKind.{LinkKind}
+use Rattle.std.specs.{Prelude.{ℕ, List, codes, Option, find}, Str.bytes_eq}
+use Rattle.kernel_types.specs.declared.{object.LinkKind.LinkKind, rule.{Table.Table, TheConstants.Table.ALL}}
 use Rattle.kernel_types.specs.declared.object.LinkKind.TheVariants as kinds
-use Rattle.kernel_types.specs.declared.rule.Table.{Table}
 use Rattle.kernel_types.specs.declared.rule.Table.TheVariants as tables
-use Rattle.kernel_types.specs.declared.rule.TheConstants.Table.{ALL}
 
 -- what a link is
 abbrev pub link_kind_text : LinkKind → List ℕ

@@ -1,17 +1,13 @@
 -- What a call may change.
-use Rattle.std.specs.Prelude.{◌≡◌, ℕ, Bool, true, false, not, List, [], ◌∷◌, ◌++◌, ◌⊎◌}
-use Rattle.std.specs.List.{list_all}
-use Rattle.kernel_types.specs.Terms.{is_of_pool, is_own}
-use Rattle.kernel_types.specs.declared.object.AddrObj.{AddrObj}
-use Rattle.kernel_types.specs.declared.object.Att.{Att}
-use Rattle.kernel_types.specs.declared.object.Host.{Host}
-use Rattle.kernel_types.specs.declared.object.Link.{Link}
-use Rattle.kernel_types.specs.declared.object.NsObj.{NsObj}
-use Rattle.kernel_types.specs.declared.object.Setting.{Setting}
-use Rattle.kernel_types.specs.declared.object.Tag.{Tag}
+use Rattle.std.specs.{List.list_all, Prelude.{◌≡◌, ℕ, Bool, true, false, not, List, [], ◌∷◌, ◌++◌, ◌⊎◌}}
+use Rattle.kernel_types.specs.{Terms.{is_of_pool, is_own}, declared.call.Call.{Call, TheVariants.{Begin, BridgeEnsure}}}
+use Rattle.kernel_types.specs.declared.call.Call.TheVariants.{GatewayEnsure, ForwardEnsure, VethAdd, MacvlanAdd}
+use Rattle.kernel_types.specs.declared.call.Call.TheVariants.{LinkSet, AddrAdd, RouteAdd, RuleAppend, SettingSet}
+use Rattle.kernel_types.specs.declared.call.Call.TheVariants.{LeaseNext, CachePut, LinkDel, RuleDel, SettingDel}
+use Rattle.kernel_types.specs.declared.call.Call.TheVariants.{LeaseDel, CacheDel, HasObj, CacheGet, OwnersOf, PoolFree}
+use Rattle.kernel_types.specs.declared.{call.Call.TheVariants.{NsChange, Outside}, object.{AddrObj.AddrObj, Att.Att}}
+use Rattle.kernel_types.specs.declared.object.{Host.Host, Link.Link, NsObj.NsObj, Setting.Setting, Tag.Tag}
 use Rattle.kernel_types.specs.declared.object.Tag.TheVariants as tags
-use Rattle.kernel_types.specs.declared.call.Call.{Call}
-use Rattle.kernel_types.specs.declared.call.Call.TheVariants.{Begin, BridgeEnsure, GatewayEnsure, ForwardEnsure, VethAdd, MacvlanAdd, LinkSet, AddrAdd, RouteAdd, RuleAppend, SettingSet, LeaseNext, CachePut, LinkDel, RuleDel, SettingDel, LeaseDel, CacheDel, HasObj, CacheGet, OwnersOf, PoolFree, NsChange, Outside}
 
 -- ---- one list
 

@@ -1,21 +1,15 @@
 -- `macvlan` keeps the laws of a first plugin.
-use Rattle.std.proofs.Common.{◌≡◌, ℕ, ◌+◌, ◌≤◌, true, false, ap, List, [], ◌∷◌, ◌++◌, map, length, None, refl, sym, ◌∙◌, arith}
-use Rattle.std.proofs.lemmas.List.{append-nil, length-append}
+use Rattle.std.proofs.Common.{◌≡◌, ℕ, ◌+◌, ◌≤◌, true, false, ap, List, [], ◌∷◌, ◌++◌, map, length, None, refl, sym, ◌∙◌}
+use Rattle.std.proofs.{Common.arith, lemmas.List.{append-nil, length-append}}
 use Rattle.net_conf.specs.declared.first.MacvlanConf.{MacvlanConf}
 use Rattle.kernel_types.proofs.Cases.{att_eq-refl}
-use Rattle.kernel_types.specs.declared.object.Att.{Att}
+use Rattle.kernel_types.specs.declared.{call.{Call.TheVariants.{AddrAdd, RouteAdd}, Given.Given}, object.Att.Att}
 use Rattle.kernel_types.specs.declared.object.Tag.TheVariants.{Own}
-use Rattle.kernel_types.specs.declared.call.Call.TheVariants.{AddrAdd, RouteAdd}
-use Rattle.kernel_types.specs.declared.call.Given.{Given}
-use Rattle.plugin_base.specs.PluginCalls.{has_inner}
-use Rattle.plugin_base.specs.PluginLaws.{AreCallsAfter, AreCallsBefore, FirstLaws}
-use Rattle.plugin_base.specs.Plugins.{added_after}
-use Rattle.plugin_base.specs.Shapes.{addresses_on, macvlan_link, routes_on}
-use Rattle.plugin_base.specs.Share.{Share, share_after_calls, share_plus}
-use Rattle.plugin_base.proofs.Appends.{share-laid_on}
-use Rattle.plugin_base.proofs.CallLists.{share_plus-laid_on, share_plus-links}
-use Rattle.plugin_base.proofs.Counts.{length-addresses, length-routes}
-use Rattle.plugin_base.proofs.KeyLists.{list_all-append}
+use Rattle.plugin_base.specs.{PluginCalls.has_inner, PluginLaws.{AreCallsAfter, AreCallsBefore, FirstLaws}}
+use Rattle.plugin_base.specs.{Plugins.added_after, Shapes.{addresses_on, macvlan_link, routes_on}, Share.Share}
+use Rattle.plugin_base.specs.Share.{share_after_calls, share_plus}
+use Rattle.plugin_base.proofs.{Appends.share-laid_on, CallLists.{share_plus-laid_on, share_plus-links}}
+use Rattle.plugin_base.proofs.{Counts.{length-addresses, length-routes}, KeyLists.list_all-append}
 use Rattle.plugin_base.proofs.PluginCalls.{calls-after, fit-addresses, fit-routes, fits, link-there}
 use Rattle.plugin_base.proofs.ResultLemmas.{addresses-at}
 use Rattle.host_local.specs.Conf.{routes_of}

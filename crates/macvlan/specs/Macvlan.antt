@@ -2,16 +2,11 @@
 use Rattle.std.specs.Prelude.{ℕ, ◌+◌, false, List, [], ◌∷◌, ◌++◌, length, map, Some, None}
 use Rattle.cni_result.specs.declared.result.AddResult.{AddResult}
 use Rattle.net_conf.specs.declared.first.MacvlanConf.{MacvlanConf}
-use Rattle.kernel_types.specs.declared.object.Att.{Att}
-use Rattle.kernel_types.specs.declared.call.Given.{Given}
-use Rattle.kernel_types.specs.declared.call.Kind.{Kind}
-use Rattle.kernel_types.specs.declared.call.Call.{Call}
-use Rattle.kernel_types.specs.declared.call.Call.TheVariants.{MacvlanAdd, AddrAdd, RouteAdd}
-use Rattle.plugin_base.specs.Plugins.{FirstPlugin}
-use Rattle.plugin_base.specs.Results.{inner_interface, completed}
-use Rattle.plugin_base.specs.Shapes.{macvlan_link, addresses_on, routes_on}
-use Rattle.host_local.specs.Conf.{routes_of}
-use Rattle.host_local.specs.Kinds.{interface_kinds}
+use Rattle.kernel_types.specs.declared.call.{Call.{Call, TheVariants.{MacvlanAdd, AddrAdd, RouteAdd}}, Given.Given}
+use Rattle.kernel_types.specs.declared.{call.Kind.Kind, object.Att.Att}
+use Rattle.plugin_base.specs.{Plugins.FirstPlugin, Results.{inner_interface, completed}, Shapes.macvlan_link}
+use Rattle.plugin_base.specs.Shapes.{addresses_on, routes_on}
+use Rattle.host_local.specs.{Conf.routes_of, Kinds.interface_kinds}
 
 abbrev pub macvlan_calls_before : MacvlanConf → Att → List ℕ → List Call
 macvlan_calls_before conf att netns = MacvlanAdd (macvlan_link att netns conf.master conf.mode conf.mtu) ∷ []

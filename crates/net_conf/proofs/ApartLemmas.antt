@@ -1,19 +1,13 @@
 -- Ranges in the order of their starts share no address exactly where each ends before the next starts.
-use Rattle.std.proofs.Common.{◌≡◌, ◌≢◌, ℕ, zero, suc, ◌<◌, ◌≤◌, ◌⊎◌, inl, inr, List, [], ◌∷◌, length, get_or, filter, swap, Bool, true, false, not, None, All, IsPermutation, refl, sym, ap, ap₂, ◌∙◌, arith}
-use Rattle.std.specs.Prelude.{◌&&◌, ◌||◌, ◌==◌, nat_lt, nat_le, min, max}
-use Rattle.std.specs.Cmp.{both_ways}
-use Rattle.std.specs.List.{list_all}
-use Rattle.std.specs.List.Sorted.{IsNonDecreasingBy}
-use Rattle.std.proofs.lemmas.Bool.{cases_eq, cases_Bool, and_parts, or_from, or_right}
-use Rattle.std.proofs.lemmas.Bool.Decides.{nat_tests}
-use Rattle.std.proofs.lemmas.List.Edits.{Swapped, swapped_from_swap, length-swap}
+use Rattle.std.proofs.Common.{◌≡◌, ◌≢◌, ℕ, zero, suc, ◌<◌, ◌≤◌, ◌⊎◌, inl, inr, List, [], ◌∷◌, length, get_or, filter}
+use Rattle.std.proofs.Common.{swap, Bool, true, false, not, None, All, IsPermutation, refl, sym, ap, ap₂, ◌∙◌, arith}
+use Rattle.std.proofs.lemmas.Bool.{cases_eq, cases_Bool, and_parts, or_from, or_right, Decides.nat_tests}
+use Rattle.std.proofs.lemmas.List.{Edits.{Swapped, swapped_from_swap, length-swap}, Elements.filter_passes}
+use Rattle.std.proofs.lemmas.List.{Kept.IsNonDecreasingBy-filter, Sorted.{IsPermutation-keeps, IsPermutation-sym}}
 use Rattle.std.proofs.lemmas.List.Sums.{AllPass-from_list_all, list_all-from_AllPass}
-use Rattle.std.proofs.lemmas.List.Elements.{filter_passes}
-use Rattle.std.proofs.lemmas.List.Kept.{IsNonDecreasingBy-filter}
-use Rattle.std.proofs.lemmas.List.Sorted.{IsPermutation-keeps, IsPermutation-sym}
-use Rattle.cni_addr.specs.Codes.{family_code, family_eq}
-use Rattle.cni_addr.specs.declared.address.Family.{Family}
-use Rattle.cni_addr.specs.declared.address.Family.TheVariants.{V4, V6}
+use Rattle.std.specs.{Cmp.both_ways, List.{list_all, Sorted.IsNonDecreasingBy}, Prelude.{◌&&◌, ◌||◌, ◌==◌, nat_lt}}
+use Rattle.std.specs.Prelude.{nat_le, min, max}
+use Rattle.cni_addr.specs.{Codes.{family_code, family_eq}, declared.address.Family.{Family, TheVariants.{V4, V6}}}
 use Rattle.cni_addr.specs.declared.range.Range.{Range}
 use Rattle.ip_pool.specs.Pool.{is_apart, are_apart}
 use Rattle.net_conf.specs.Apart.{has_address_of, ascend_after}

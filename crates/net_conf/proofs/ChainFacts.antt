@@ -1,28 +1,20 @@
 -- Each object of a list that is read is read, by itself, as its plugin.
-use Rattle.std.proofs.Common.{◌≡◌, ℕ, zero, suc, Bool, true, false, List, [], ◌∷◌, ◌++◌, Option, Some, None, Result, Ok, refl, sym, ap, ◌∙◌, subst, append_assoc, append-nil}
-use Rattle.std.specs.Prelude.{map, codes, option_and_then, slice_index_or}
-use Rattle.std.specs.List.{slice_get}
-use Rattle.serde_json.specs.Data.{Data, null, boolean, number, string, array, object, Items, no_items, item}
-use Rattle.serde_json.specs.Find.{get, as_bool}
-use Rattle.serde_json.specs.View.{items_of}
+use Rattle.std.proofs.Common.{◌≡◌, ℕ, zero, suc, Bool, true, false, List, [], ◌∷◌, ◌++◌, Option, Some, None, Result, Ok}
+use Rattle.std.proofs.Common.{refl, sym, ap, ◌∙◌, subst, append_assoc, append-nil}
+use Rattle.std.specs.{List.slice_get, Prelude.{map, codes, option_and_then, slice_index_or}}
+use Rattle.serde_json.specs.{Data.{Data, null, boolean, number, string, array, object, Items, no_items, item}, Find.get}
+use Rattle.serde_json.specs.{Find.as_bool, View.items_of}
 use Rattle.cni_json.proofs.Endings.{goes, ok_same}
-use Rattle.cni_json.specs.Each.{each, each_after}
-use Rattle.cni_json.specs.Fields.{field_of, object_of, object_or}
-use Rattle.cni_json.specs.Outcome.{◌>>=◌}
+use Rattle.cni_json.specs.{Each.{each, each_after}, Fields.{field_of, object_of, object_or}, Outcome.◌>>=◌}
 use Rattle.net_conf.proofs.PluginFacts.{plugin_at-by_type}
-use Rattle.net_conf.specs.Accepted.{all_supported}
-use Rattle.net_conf.specs.Capabilities.{is_true, asks_for_mappings}
-use Rattle.net_conf.specs.List.{header_at, switch_at, disable_check_key, disable_gc_key, network_list_at}
-use Rattle.net_conf.specs.Members.{with_default, flag_at}
-use Rattle.net_conf.specs.Plugin.{plugin_by_type_at, each_plugin_at, plugins_in}
-use Rattle.net_conf.specs.Plugins.{type_at, first_at, chained_at, not_repeated, later_at, plugins_at, chain_of, chain_at, wrong_plugins}
-use Rattle.net_conf.specs.Portmap.{portmap_rows, mappings_flag, takes_mappings_at, portmap_at}
-use Rattle.net_conf.specs.declared.chained.Chained.{Chained}
-use Rattle.net_conf.specs.declared.chained.PortmapConf.{PortmapConf}
-use Rattle.net_conf.specs.declared.first.First.{First}
-use Rattle.net_conf.specs.declared.list.NetList.{NetList}
+use Rattle.net_conf.specs.{Accepted.all_supported, Capabilities.{is_true, asks_for_mappings}, List.header_at}
+use Rattle.net_conf.specs.{List.{switch_at, disable_check_key, disable_gc_key, network_list_at}, Members.with_default}
+use Rattle.net_conf.specs.{Members.flag_at, Plugin.{plugin_by_type_at, each_plugin_at, plugins_in}, Plugins.type_at}
+use Rattle.net_conf.specs.Plugins.{first_at, chained_at, not_repeated, later_at, plugins_at, chain_of, chain_at}
+use Rattle.net_conf.specs.{Plugins.wrong_plugins, Portmap.{portmap_rows, mappings_flag, takes_mappings_at, portmap_at}}
+use Rattle.net_conf.specs.declared.{chained.{Chained.Chained, PortmapConf.PortmapConf}, first.First.First}
+use Rattle.net_conf.specs.declared.{list.NetList.NetList, plugins.PluginChain.PluginChain}
 use Rattle.net_conf.specs.declared.plugin.Plugin.TheVariants as plugins
-use Rattle.net_conf.specs.declared.plugins.PluginChain.{PluginChain}
 
 -- ---- a plugin
 

@@ -1,18 +1,12 @@
 -- What is read of lists whose items pass a test first, how many are read, what passes a test itself, and what holds of
 -- a value or its default.
-use Rattle.std.proofs.Common.{◌≡◌, ℕ, suc, List, [], ◌∷◌, length, Bool, true, Option, Some, None, Result, Ok, Err, refl, sym, ap, ◌∙◌, subst}
+use Rattle.std.proofs.Common.{◌≡◌, ℕ, suc, List, [], ◌∷◌, length, Bool, true, Option, Some, None, Result, Ok, Err, refl}
+use Rattle.std.proofs.{Common.{sym, ap, ◌∙◌, subst}, lemmas.{Bool.and_parts, List.Elements.{All-nil, All-cons}}}
 use Rattle.std.specs.Prelude.{All, IfSome, unwrap_or}
-use Rattle.std.proofs.lemmas.Bool.{and_parts}
-use Rattle.std.proofs.lemmas.List.Elements.{All-nil, All-cons}
-use Rattle.serde_json.specs.Data.{Data, Items, no_items, item}
-use Rattle.serde_json.specs.Events.{items_len}
+use Rattle.serde_json.specs.{Data.{Data, Items, no_items, item}, Events.items_len}
 use Rattle.cni_json.proofs.Endings.{Goes, goes, ok_same, passed}
-use Rattle.cni_json.specs.Each.{each}
-use Rattle.cni_json.specs.declared.fields.Field.{Field}
-use Rattle.cni_json.specs.declared.fields.Field.TheVariants.{Absent, WrongKind, Here}
-use Rattle.net_conf.specs.Members.{passing, needed_text, ok_map}
-use Rattle.net_conf.specs.Sets.{all_items}
-use Rattle.net_conf.specs.declared.error.ConfError.{ConfError}
+use Rattle.cni_json.specs.{Each.each, declared.fields.Field.{Field, TheVariants.{Absent, WrongKind, Here}}}
+use Rattle.net_conf.specs.{Members.{passing, needed_text, ok_map}, Sets.all_items, declared.error.ConfError.ConfError}
 
 -- what holds of each item that is read, where each item passes a test first
 pub each_tested : {A : Type 0} (test : Data → Bool) (read : Data → Result A ConfError) (P : A → Type 0) → ((d : Data) (x : A) → test d ≡ true → read d ≡ Ok x → P x)

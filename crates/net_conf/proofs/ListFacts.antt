@@ -1,22 +1,14 @@
 -- What a network list keeps that is read.
 use Rattle.std.proofs.Common.{◌≡◌, ℕ, true, List, codes, Result, Ok, Err, refl, subst}
 use Rattle.serde_json.specs.Data.{Data}
-use Rattle.cni_json.specs.Fields.{text_field, object_or}
-use Rattle.cni_json.specs.Json.{json_of}
+use Rattle.cni_json.specs.{Fields.{text_field, object_or}, Json.json_of, WellFormed.KeysAscend}
 use Rattle.cni_json.specs.declared.reading.ReadEnd.{ReadEnd}
 use Rattle.cni_json.specs.declared.reading.ReadEnd.TheVariants as ends
-use Rattle.cni_json.proofs.Ascending.{KeysAscend-json_of}
-use Rattle.cni_json.proofs.Endings.{goes, ok_same}
-use Rattle.cni_json.specs.WellFormed.{KeysAscend}
-use Rattle.net_conf.proofs.Endings.{needed_text-ok}
-use Rattle.net_conf.proofs.PluginFacts.{chain_at-ok}
-use Rattle.net_conf.specs.List.{read_or_refused, name_at, header_at, switch_at, disable_check_key, disable_gc_key, network_list_at, list_of}
-use Rattle.net_conf.specs.Names.{is_network_name}
-use Rattle.net_conf.specs.Plugins.{chain_at}
-use Rattle.net_conf.specs.Refusals.{invalid}
-use Rattle.net_conf.specs.Versions.{version_at}
-use Rattle.net_conf.specs.WellFormed.{IsWellFormedList}
-use Rattle.net_conf.specs.declared.list.ListHeader.{ListHeader}
+use Rattle.cni_json.proofs.{Ascending.KeysAscend-json_of, Endings.{goes, ok_same}}
+use Rattle.net_conf.proofs.{Endings.needed_text-ok, PluginFacts.chain_at-ok}
+use Rattle.net_conf.specs.List.{read_or_refused, name_at, header_at, switch_at, disable_check_key, disable_gc_key}
+use Rattle.net_conf.specs.{List.{network_list_at, list_of}, Names.is_network_name, Plugins.chain_at, Refusals.invalid}
+use Rattle.net_conf.specs.{Versions.version_at, WellFormed.IsWellFormedList, declared.list.ListHeader.ListHeader}
 use Rattle.net_conf.specs.declared.list.NetList.{NetList}
 
 name_at-ok : (d : Data) (name : List ℕ) → name_at d ≡ Ok name → is_network_name name ≡ true

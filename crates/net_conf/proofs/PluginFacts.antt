@@ -1,52 +1,34 @@
 -- What the plugins of a list keep that is read.
-use Rattle.std.proofs.Common.{◌≡◌, ℕ, Bool, true, false, List, [], ◌∷◌, ◌++◌, codes, Option, Some, None, Ok, refl, sym, ap, subst}
-use Rattle.std.specs.Prelude.{All, map, ok_or}
-use Rattle.std.specs.List.{AllByRecursion, IsDistinct, list_any}
-use Rattle.std.specs.Str.{chars}
-use Rattle.std.proofs.lemmas.Bool.{or_parts}
-use Rattle.std.proofs.lemmas.List.Elements.{All-nil, All-push}
-use Rattle.serde_json.specs.Data.{Data, null, boolean, number, string, array, object, Items, no_items, item}
-use Rattle.serde_json.specs.Find.{get, as_array}
-use Rattle.cni_json.specs.Fields.{member_at, text_field, field_of, object_or}
-use Rattle.cni_json.specs.declared.fields.Field.{Field}
-use Rattle.cni_json.specs.declared.fields.Field.TheVariants.{Absent, WrongKind, Here}
-use Rattle.cni_json.proofs.Ascending.{get-everywhere}
-use Rattle.cni_json.specs.WellFormed.{EverywhereInItems, HasAscendingKeys, KeysAscend}
-use Rattle.cni_json.proofs.Endings.{goes, ok_same, not_refused, each_after_keeps}
-use Rattle.net_conf.proofs.Endings.{mapped, needed_text-ok, or_default, passing-ok}
-use Rattle.net_conf.proofs.SetFacts.{sets_at-ok, routes_at-ok}
-use Rattle.net_conf.proofs.TuningFacts.{by_outcome, given_mtu_at-ok, tuning_at-ok}
+use Rattle.std.proofs.Common.{◌≡◌, ℕ, Bool, true, false, List, [], ◌∷◌, ◌++◌, codes, Option, Some, None, Ok, refl, sym}
+use Rattle.std.proofs.{Common.{ap, subst}, lemmas.{Bool.or_parts, List.Elements.{All-nil, All-push}}}
+use Rattle.std.specs.{List.{AllByRecursion, IsDistinct, list_any}, Prelude.{All, map, ok_or}, Str.chars}
+use Rattle.serde_json.specs.{Data.{Data, null, boolean, number, string, array, object, Items, no_items, item}, Find.get}
+use Rattle.serde_json.specs.Find.{as_array}
+use Rattle.cni_json.specs.{Fields.{member_at, text_field, field_of, object_or}, WellFormed.EverywhereInItems}
+use Rattle.cni_json.specs.{WellFormed.{HasAscendingKeys, KeysAscend}, declared.fields.Field.{Field, TheVariants.Absent}}
+use Rattle.cni_json.specs.declared.fields.Field.TheVariants.{WrongKind, Here}
+use Rattle.cni_json.proofs.{Ascending.get-everywhere, Endings.{goes, ok_same, not_refused, each_after_keeps}}
+use Rattle.net_conf.proofs.{Endings.{mapped, needed_text-ok, or_default, passing-ok}, SetFacts.sets_at-ok}
+use Rattle.net_conf.proofs.{SetFacts.routes_at-ok, TuningFacts.{by_outcome, given_mtu_at-ok, tuning_at-ok}}
 use Rattle.cni_result.specs.Dns.{dns_of_object}
-use Rattle.net_conf.specs.Accepted.{supported, all_supported}
-use Rattle.net_conf.specs.Bridge.{bridge_rows, bridge_name_of, bridge_name_at, gateway_role_at, bridge_mode_at, bridge_at}
-use Rattle.net_conf.specs.Firewall.{firewall_at}
-use Rattle.net_conf.specs.Ipam.{manager_at, host_local_at, is_empty, read_ipam_at, read_ipam_of, ipam_at, addressing_at}
-use Rattle.net_conf.specs.Macvlan.{macvlan_rows, master_at, mode_at, macvlan_at}
-use Rattle.net_conf.specs.Members.{flag_at, default_mtu, given_mtu_at, mtu_at}
-use Rattle.net_conf.specs.Names.{is_interface_name}
-use Rattle.net_conf.specs.Plugin.{plugin_at, plugin_by_type_at}
-use Rattle.net_conf.specs.PluginTypes.{HaveTypesOnce, makes_interface, type_eq, type_of_chained}
-use Rattle.net_conf.specs.Plugins.{type_at, first_of, first_at, first_plugin, later_of, is_of_type, not_repeated, later_at, chained_at, later_plugins, plugins_of, plugins_at, chain_of, chain_at, wrong_plugins}
-use Rattle.net_conf.specs.Portmap.{portmap_at}
-use Rattle.net_conf.specs.Ptp.{ptp_at}
-use Rattle.net_conf.specs.Refusals.{invalid}
-use Rattle.net_conf.specs.Routes.{routes_at}
-use Rattle.net_conf.specs.Sets.{sets_at}
-use Rattle.net_conf.specs.Tuning.{tuning_at}
-use Rattle.net_conf.specs.WellFormed.{IsMtu, IsWellFormedHostLocal, IsWellFormedIpam, IsWellFormedBridge, IsWellFormedPtp, IsWellFormedMacvlan, IsWellFormedFirst, IsWellFormedChained, IsWellFormedPlugin}
-use Rattle.net_conf.specs.declared.accepted.Accepted.TheVariants.{EmptyText}
-use Rattle.net_conf.specs.declared.chained.Chained.{Chained}
+use Rattle.net_conf.specs.{Accepted.{supported, all_supported}, Bridge.{bridge_rows, bridge_name_of, bridge_name_at}}
+use Rattle.net_conf.specs.{Bridge.{gateway_role_at, bridge_mode_at, bridge_at}, Firewall.firewall_at, Ipam.manager_at}
+use Rattle.net_conf.specs.Ipam.{host_local_at, is_empty, read_ipam_at, read_ipam_of, ipam_at, addressing_at}
+use Rattle.net_conf.specs.{Macvlan.{macvlan_rows, master_at, mode_at, macvlan_at}, Members.{flag_at, default_mtu}}
+use Rattle.net_conf.specs.{Members.{given_mtu_at, mtu_at}, Names.is_interface_name, Plugin.plugin_at}
+use Rattle.net_conf.specs.{Plugin.plugin_by_type_at, PluginTypes.{HaveTypesOnce, makes_interface, type_eq}}
+use Rattle.net_conf.specs.{PluginTypes.type_of_chained, Plugins.{type_at, first_of, first_at, first_plugin, later_of}}
+use Rattle.net_conf.specs.Plugins.{is_of_type, not_repeated, later_at, chained_at, later_plugins, plugins_of}
+use Rattle.net_conf.specs.{Plugins.{plugins_at, chain_of, chain_at, wrong_plugins}, Portmap.portmap_at, Ptp.ptp_at}
+use Rattle.net_conf.specs.{Refusals.invalid, Routes.routes_at, Sets.sets_at, Tuning.tuning_at, WellFormed.IsMtu}
+use Rattle.net_conf.specs.WellFormed.{IsWellFormedHostLocal, IsWellFormedIpam, IsWellFormedBridge, IsWellFormedPtp}
+use Rattle.net_conf.specs.WellFormed.{IsWellFormedMacvlan, IsWellFormedFirst, IsWellFormedChained, IsWellFormedPlugin}
+use Rattle.net_conf.specs.declared.{accepted.Accepted.TheVariants.EmptyText, chained.Chained.Chained}
+use Rattle.net_conf.specs.declared.first.{BridgeConf.BridgeConf, First.First, HostLocalConf.HostLocalConf}
+use Rattle.net_conf.specs.declared.{first.{MacvlanConf.MacvlanConf, PtpConf.PtpConf}, ipam.Addressing.Addressing}
+use Rattle.net_conf.specs.declared.{plugin.Plugin.Plugin, plugins.{PluginChain.PluginChain, PluginType.PluginType}}
 use Rattle.net_conf.specs.declared.error.ConfError.TheVariants as refusal
-use Rattle.net_conf.specs.declared.first.BridgeConf.{BridgeConf}
-use Rattle.net_conf.specs.declared.first.First.{First}
-use Rattle.net_conf.specs.declared.first.HostLocalConf.{HostLocalConf}
-use Rattle.net_conf.specs.declared.first.MacvlanConf.{MacvlanConf}
-use Rattle.net_conf.specs.declared.first.PtpConf.{PtpConf}
-use Rattle.net_conf.specs.declared.ipam.Addressing.{Addressing}
-use Rattle.net_conf.specs.declared.plugin.Plugin.{Plugin}
-use Rattle.net_conf.specs.declared.plugins.PluginType.{PluginType}
 use Rattle.net_conf.specs.declared.plugins.PluginType.TheVariants as plugin
-use Rattle.net_conf.specs.declared.plugins.PluginChain.{PluginChain}
 
 -- ---- members that several plugins have
 

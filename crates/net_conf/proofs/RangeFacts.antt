@@ -1,23 +1,18 @@
 -- What a range keeps that is read.
 use Rattle.std.proofs.Common.{◌≡◌, ℕ, ◌<◌, Bool, true, List, codes, Option, Some, Ok, refl, sym, ◌∙◌, subst, arith}
-use Rattle.std.specs.Prelude.{IfSome}
 use Rattle.std.proofs.lemmas.Bool.{eq-eqb}
+use Rattle.std.specs.Prelude.{IfSome}
 use Rattle.serde_json.specs.Data.{Data}
-use Rattle.cni_json.specs.declared.fields.Field.{Field}
-use Rattle.cni_json.specs.declared.fields.Field.TheVariants.{Absent, WrongKind, Here}
-use Rattle.cni_addr.proofs.AddrTexts.{read_is_spelled}
-use Rattle.cni_addr.proofs.CidrTexts.{network_read_is_spelled, spelled_is_cidr}
+use Rattle.cni_json.specs.declared.fields.Field.{Field, TheVariants.{Absent, WrongKind, Here}}
+use Rattle.cni_addr.proofs.{AddrTexts.read_is_spelled, CidrTexts.{network_read_is_spelled, spelled_is_cidr}}
 use Rattle.cni_addr.proofs.Networks.{contains_between, family_eq-true, last_family, IsAddr-last_of}
+use Rattle.cni_addr.specs.{AddrText.addr_of_text, CidrText.cidr_of_text, Network.{IsCidr, network_of, last_of}}
+use Rattle.cni_addr.specs.{Network.contains, Value.{AddrValue, CidrValue, IsAddr, IsOneFamily, bits_below}}
 use Rattle.cni_addr.specs.declared.range.Range.{Range}
-use Rattle.cni_addr.specs.AddrText.{addr_of_text}
-use Rattle.cni_addr.specs.CidrText.{cidr_of_text}
-use Rattle.cni_addr.specs.Network.{IsCidr, network_of, last_of, contains}
-use Rattle.cni_addr.specs.Value.{AddrValue, CidrValue, IsAddr, IsOneFamily, bits_below}
 use Rattle.cni_json.proofs.Endings.{goes, ok_same, passed}
-use Rattle.net_conf.proofs.Endings.{mapped, passing-ok, or_default}
-use Rattle.net_conf.proofs.RangeLemmas.{subnet_room}
-use Rattle.net_conf.specs.Members.{passing, addr_if_of, addr_if_at}
-use Rattle.net_conf.specs.Ranges.{is_subnet, subnet_of, subnet_at, addr_or_at, first_host, last_host, is_in_order, in_order, is_address_of, range_at}
+use Rattle.net_conf.proofs.{Endings.{mapped, passing-ok, or_default}, RangeLemmas.subnet_room}
+use Rattle.net_conf.specs.{Members.{passing, addr_if_of, addr_if_at}, Ranges.{is_subnet, subnet_of, subnet_at}}
+use Rattle.net_conf.specs.Ranges.{addr_or_at, first_host, last_host, is_in_order, in_order, is_address_of, range_at}
 use Rattle.net_conf.specs.WellFormed.{IsWellFormedRange}
 
 -- ---- what the readers of texts keep

@@ -1,12 +1,8 @@
 -- Subnets have room for their hosts.
 use Rattle.std.proofs.Common.{◌≡◌, ℕ, ◌+◌, ◌-◌, ◌^◌, ◌≤◌, ◌&&◌, Bool, true, nat_le, ◌==◌, sym, ap, ◌∙◌, arith}
-use Rattle.std.proofs.lemmas.Bool.Decides.{nat_tests}
-use Rattle.std.proofs.Math.Pow.{pow_mono}
-use Rattle.cni_addr.specs.declared.address.Family.{Family}
-use Rattle.cni_addr.specs.declared.address.Family.TheVariants.{V4, V6}
-use Rattle.cni_addr.specs.Value.{AddrValue, CidrValue, longest_prefix}
-use Rattle.cni_addr.specs.Codes.{family_eq}
-use Rattle.cni_addr.specs.Network.{network_size, network_bits, network_of, last_of}
+use Rattle.std.proofs.{Math.Pow.pow_mono, lemmas.Bool.Decides.nat_tests}
+use Rattle.cni_addr.specs.{Codes.family_eq, Network.{network_size, network_bits, network_of, last_of}, Value.AddrValue}
+use Rattle.cni_addr.specs.{Value.{CidrValue, longest_prefix}, declared.address.Family.{Family, TheVariants.{V4, V6}}}
 use Rattle.cni_addr.proofs.Networks.{last_family}
 use Rattle.net_conf.specs.Ranges.{longest_subnet, is_subnet, first_host}
 

@@ -1,28 +1,19 @@
 -- No reader of a plugin looks at a key that a runtime replaces.
 use Rattle.std.proofs.Common.{◌≡◌, ℕ, Bool, true, false, List, [], ◌∷◌, codes, Result, Ok, Err, refl, sym, ap, ◌∙◌}
-use Rattle.std.specs.Prelude.{⊤, if◌then◌else◌}
-use Rattle.std.specs.List.{AllByRecursion}
+use Rattle.std.specs.{List.AllByRecursion, Prelude.{⊤, if◌then◌else◌}}
 use Rattle.serde_json.specs.Data.{Data, null, boolean, number, string, array, object}
-use Rattle.cni_json.specs.Fields.{object_or}
-use Rattle.cni_json.specs.Outcome.{◌>>=◌}
+use Rattle.cni_json.specs.{Fields.object_or, Outcome.◌>>=◌}
 use Rattle.cni_result.specs.Dns.{dns_of_object}
-use Rattle.net_conf.specs.Accepted.{Row, supported, all_supported}
-use Rattle.net_conf.specs.Bridge.{bridge_rows, bridge_name_at, gateway_role_at, promisc_at, bridge_mode_at, bridge_at}
-use Rattle.net_conf.specs.Firewall.{firewall_rows, firewall_at}
-use Rattle.net_conf.specs.Ipam.{ipam_at, addressing_at}
-use Rattle.net_conf.specs.Macvlan.{macvlan_rows, master_at, mode_at, macvlan_at}
-use Rattle.net_conf.specs.Members.{flag_at, given_mtu_at, mtu_at}
-use Rattle.net_conf.specs.Plugin.{plugin_at, plugin_by_type_at}
-use Rattle.net_conf.specs.PluginTypes.{makes_interface}
-use Rattle.net_conf.specs.Plugins.{type_at, first_of, first_at, later_of, chained_at, wrong_plugins}
-use Rattle.net_conf.specs.Portmap.{portmap_rows, takes_mappings_at, portmap_at}
-use Rattle.net_conf.specs.Ptp.{ptp_at}
-use Rattle.net_conf.specs.RuntimeKeys.{is_runtime_key, HaveSameKeys}
-use Rattle.net_conf.specs.Sets.{is_object}
+use Rattle.net_conf.specs.{Accepted.{Row, supported, all_supported}, Bridge.{bridge_rows, bridge_name_at}}
+use Rattle.net_conf.specs.{Bridge.{gateway_role_at, promisc_at, bridge_mode_at, bridge_at}, Firewall.firewall_rows}
+use Rattle.net_conf.specs.{Firewall.firewall_at, Ipam.{ipam_at, addressing_at}, Macvlan.{macvlan_rows, master_at}}
+use Rattle.net_conf.specs.{Macvlan.{mode_at, macvlan_at}, Members.{flag_at, given_mtu_at, mtu_at}, Plugin.plugin_at}
+use Rattle.net_conf.specs.{Plugin.plugin_by_type_at, PluginTypes.makes_interface, Plugins.{type_at, first_of, first_at}}
+use Rattle.net_conf.specs.{Plugins.{later_of, chained_at, wrong_plugins}, Portmap.{portmap_rows, takes_mappings_at}}
+use Rattle.net_conf.specs.{Portmap.portmap_at, Ptp.ptp_at, RuntimeKeys.{is_runtime_key, HaveSameKeys}, Sets.is_object}
 use Rattle.net_conf.specs.Tuning.{sysctl_at, new_mac_at, queue_length_at, tuning_at}
-use Rattle.net_conf.specs.declared.error.ConfError.{ConfError}
+use Rattle.net_conf.specs.declared.{error.ConfError.ConfError, plugins.PluginType.PluginType}
 use Rattle.net_conf.specs.declared.error.ConfError.TheVariants as refusal
-use Rattle.net_conf.specs.declared.plugins.PluginType.{PluginType}
 use Rattle.net_conf.specs.declared.plugins.PluginType.TheVariants as plugin
 
 -- ---- members that several plugins have

@@ -1,31 +1,24 @@
 -- What sets of ranges and routes keep that are read.
-use Rattle.std.proofs.Common.{◌≡◌, ℕ, suc, ◌+◌, ◌<◌, Bool, true, false, List, [], ◌∷◌, ◌++◌, length, Option, Some, None, Ok, refl, sym, ap, ◌∙◌, subst, arith, length-append}
-use Rattle.std.specs.Prelude.{All, ok_or, option_map}
-use Rattle.std.specs.List.{list_all}
-use Rattle.std.proofs.lemmas.Bool.{and_parts}
-use Rattle.std.proofs.lemmas.Option.{IfSome_then}
-use Rattle.std.proofs.lemmas.List.Elements.{All-nil, All-cons, All-append}
+use Rattle.std.proofs.Common.{◌≡◌, ℕ, suc, ◌+◌, ◌<◌, Bool, true, false, List, [], ◌∷◌, ◌++◌, length, Option, Some, None}
+use Rattle.std.proofs.{Common.{Ok, refl, sym, ap, ◌∙◌, subst, arith, length-append}, lemmas.Bool.and_parts}
+use Rattle.std.proofs.lemmas.{List.Elements.{All-nil, All-cons, All-append}, Option.IfSome_then}
+use Rattle.std.specs.{List.list_all, Prelude.{All, ok_or, option_map}}
 use Rattle.serde_json.specs.Data.{Data, null, boolean, number, string, array, object, Items, no_items, item}
 use Rattle.serde_json.specs.Events.{items_len}
-use Rattle.cni_json.specs.declared.fields.Field.{Field}
-use Rattle.cni_json.specs.declared.fields.Field.TheVariants.{Absent, WrongKind, Here}
+use Rattle.cni_json.specs.{Each.{each, each_after, with_prefix}, declared.fields.Field.{Field, TheVariants.Absent}}
+use Rattle.cni_json.specs.declared.fields.Field.TheVariants.{WrongKind, Here}
 use Rattle.cni_addr.proofs.Networks.{IsCidr-network_of, network_of_network, family_eq-true}
+use Rattle.cni_addr.specs.{CidrText.cidr_of_text, Network.{IsCidr, network_of}, Value.CidrValue}
 use Rattle.cni_addr.specs.declared.range.RangeSet.{RangeSet}
-use Rattle.cni_addr.specs.CidrText.{cidr_of_text}
-use Rattle.cni_addr.specs.Network.{IsCidr, network_of}
-use Rattle.cni_addr.specs.Value.{CidrValue}
 use Rattle.cni_result.specs.declared.result.RouteEntry.{RouteEntry}
 use Rattle.ip_pool.proofs.InOrder.{all_pairs-left, all_pairs-right}
 use Rattle.ip_pool.specs.Pool.{is_apart, are_apart}
-use Rattle.net_conf.proofs.Endings.{each_tested, each_count}
-use Rattle.cni_json.proofs.Endings.{goes, ok_same, passed, each_all}
-use Rattle.cni_json.proofs.EachLemmas.{each_after-prefix}
-use Rattle.net_conf.proofs.RangeFacts.{addr_if_at-ok, range_at-ok, read_is_cidr}
-use Rattle.cni_json.specs.Each.{each, each_after, with_prefix}
-use Rattle.net_conf.specs.Ranges.{is_address_of, range_at}
-use Rattle.net_conf.specs.Routes.{destination_of, destination_at, route_at, read_routes_of, routes_at}
-use Rattle.net_conf.specs.Sets.{set_of, is_set, all_items, is_of_one_family, ranges_of, has_subnet, listed_at, is_set_count, one_if, well_formed, own_sets_of, separate, sets_at}
-use Rattle.net_conf.specs.WellFormed.{IsWellFormedRange, IsWellFormedSet, IsWellFormedRoute}
+use Rattle.net_conf.proofs.{Endings.{each_tested, each_count}, RangeFacts.{addr_if_at-ok, range_at-ok, read_is_cidr}}
+use Rattle.cni_json.proofs.{EachLemmas.each_after-prefix, Endings.{goes, ok_same, passed, each_all}}
+use Rattle.net_conf.specs.{Ranges.{is_address_of, range_at}, Routes.{destination_of, destination_at, route_at}}
+use Rattle.net_conf.specs.{Routes.{read_routes_of, routes_at}, Sets.{set_of, is_set, all_items, is_of_one_family}}
+use Rattle.net_conf.specs.Sets.{ranges_of, has_subnet, listed_at, is_set_count, one_if, well_formed, own_sets_of}
+use Rattle.net_conf.specs.{Sets.{separate, sets_at}, WellFormed.{IsWellFormedRange, IsWellFormedSet, IsWellFormedRoute}}
 use Rattle.net_conf.specs.declared.error.ConfError.{ConfError}
 
 -- ---- a set

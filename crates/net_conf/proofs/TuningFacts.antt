@@ -1,34 +1,24 @@
 -- What the configuration of `tuning` keeps that is read.
-use Rattle.std.proofs.Common.{◌≡◌, ℕ, Bool, true, false, List, [], codes, Option, Some, None, Result, Ok, Less, nat_cmp, nat_eq, refl, sym, ap, ◌∙◌, subst}
-use Rattle.std.specs.Option.{ForSome}
-use Rattle.std.specs.Prelude.{All, IfSome, not, map, if◌then◌else◌, ok_or, option_map}
-use Rattle.std.specs.Cmp.Lexicographic.{slice_cmp}
-use Rattle.std.specs.List.Sorted.{IsStrictlySortedBy}
-use Rattle.std.specs.List.{AllByRecursion, IsDistinct}
+use Rattle.std.proofs.Common.{◌≡◌, ℕ, Bool, true, false, List, [], codes, Option, Some, None, Result, Ok, Less, nat_cmp}
+use Rattle.std.proofs.{Common.{nat_eq, refl, sym, ap, ◌∙◌, subst}, lemmas.{Bool.not-false, List.Elements.All-nil}}
+use Rattle.std.proofs.lemmas.{List.Elements.All-cons, Map.Text.is_eq-slice_cmp}
+use Rattle.std.specs.{Cmp.Lexicographic.slice_cmp, List.{AllByRecursion, IsDistinct, Sorted.IsStrictlySortedBy}}
+use Rattle.std.specs.{Option.ForSome, Ordering.is_eq, Prelude.{All, IfSome, not, map, if◌then◌else◌, ok_or, option_map}}
 use Rattle.std.specs.Str.{bytes_eq}
-use Rattle.std.proofs.lemmas.Bool.{not-false}
-use Rattle.std.proofs.lemmas.Map.Text.{is_eq-slice_cmp}
-use Rattle.std.specs.Ordering.{is_eq}
-use Rattle.std.proofs.lemmas.List.Elements.{All-nil, All-cons}
 use Rattle.serde_json.specs.Data.{Data, null, boolean, number, string, array, object, Members, no_members, member}
 use Rattle.serde_json.specs.Find.{get}
-use Rattle.cni_json.specs.Fields.{member_at, u64_field, u32_field, has_32_bits}
-use Rattle.cni_json.specs.declared.fields.Field.{Field}
-use Rattle.cni_json.specs.declared.fields.Field.TheVariants.{Absent, WrongKind, Here}
-use Rattle.cni_addr.proofs.Cases.{by_test}
-use Rattle.cni_addr.proofs.MacTexts.{mac_read_is_spelled}
-use Rattle.cni_addr.specs.declared.mac.Mac.{Mac}
-use Rattle.cni_addr.specs.MacText.{IsMac, mac_of_text}
-use Rattle.cni_json.proofs.Ascending.{IsBelow, get-everywhere}
-use Rattle.cni_json.proofs.Endings.{goes, ok_same, passed}
+use Rattle.cni_json.specs.{Fields.{member_at, u64_field, u32_field, has_32_bits}, WellFormed.{keys, AreAscending}}
+use Rattle.cni_json.specs.{WellFormed.{HasAscendingKeys, KeysAscend}, declared.fields.Field.{Field, TheVariants.Absent}}
+use Rattle.cni_json.specs.declared.fields.Field.TheVariants.{WrongKind, Here}
+use Rattle.cni_addr.proofs.{Cases.by_test, MacTexts.mac_read_is_spelled}
+use Rattle.cni_addr.specs.{MacText.{IsMac, mac_of_text}, declared.mac.Mac.Mac}
+use Rattle.cni_json.proofs.{Ascending.{IsBelow, get-everywhere}, Endings.{goes, ok_same, passed}}
 use Rattle.cni_json.proofs.WholeNumbers.{member_at-found, u32_of-fits}
-use Rattle.cni_json.specs.WellFormed.{keys, AreAscending, HasAscendingKeys, KeysAscend}
-use Rattle.net_conf.specs.Members.{is_null, flag_at, is_mtu, given_mtu_of, given_mtu_at}
-use Rattle.net_conf.specs.Tuning.{has_part, is_network_setting, setting_or_refused, read_setting_of, settings_of, sysctl_of, sysctl_at, new_mac_of, new_mac_at, queue_length_of, queue_length_at, tuning_at}
-use Rattle.net_conf.specs.WellFormed.{IsMtu, IsNetworkSetting, IsWellFormedTuning}
-use Rattle.net_conf.specs.declared.chained.Sysctl.{Sysctl}
-use Rattle.net_conf.specs.declared.chained.TuningConf.{TuningConf}
-use Rattle.net_conf.specs.declared.error.ConfError.{ConfError}
+use Rattle.net_conf.specs.{Members.{is_null, flag_at, is_mtu, given_mtu_of, given_mtu_at}, Tuning.has_part}
+use Rattle.net_conf.specs.Tuning.{is_network_setting, setting_or_refused, read_setting_of, settings_of, sysctl_of}
+use Rattle.net_conf.specs.Tuning.{sysctl_at, new_mac_of, new_mac_at, queue_length_of, queue_length_at, tuning_at}
+use Rattle.net_conf.specs.{WellFormed.{IsMtu, IsNetworkSetting, IsWellFormedTuning}, declared.chained.Sysctl.Sysctl}
+use Rattle.net_conf.specs.declared.{chained.TuningConf.TuningConf, error.ConfError.ConfError}
 
 -- ---- settings
 

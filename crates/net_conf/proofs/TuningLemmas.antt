@@ -1,12 +1,11 @@
 -- One more step through a text, and through the members of an object.
-use Rattle.std.proofs.Common.{◌≡◌, ℕ, zero, suc, ◌+◌, ◌<◌, ◌||◌, false, List, [], ◌∷◌, ◌++◌, length, drop, nat_eq, Ok, refl, sym, arith, add-one}
-use Rattle.std.proofs.lemmas.List.{take_rest}
+use Rattle.std.proofs.Common.{◌≡◌, ℕ, zero, suc, ◌+◌, ◌<◌, ◌||◌, false, List, [], ◌∷◌, ◌++◌, length, drop, nat_eq, Ok}
+use Rattle.std.proofs.{Common.{refl, sym, arith, add-one}, lemmas.List.take_rest}
 use Rattle.std.specs.List.{starts_with}
 use Rattle.serde_json.specs.Data.{Data, Members, member}
 use Rattle.cni_json.proofs.EachLemmas.{with_prefix-more}
 use Rattle.cni_json.specs.Each.{with_prefix}
-use Rattle.net_conf.specs.Members.{is_null}
-use Rattle.net_conf.specs.Tuning.{has_part, settings_of, read_setting_of}
+use Rattle.net_conf.specs.{Members.is_null, Tuning.{has_part, settings_of, read_setting_of}}
 use Rattle.net_conf.specs.declared.chained.Sysctl.{Sysctl}
 
 has_part-suc : (part text : List ℕ) (i : ℕ) → i < length text → has_part part (drop i text) ≡ (starts_with nat_eq (drop i text) part || has_part part (drop (suc i) text))

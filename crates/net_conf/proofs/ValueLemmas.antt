@@ -1,17 +1,13 @@
 -- Lists of values and the data that they stand for.
 use Rattle.std.proofs.Common.{◌≡◌, ◌≤◌, ◌&&◌, Bool, List, [], ◌∷◌, length, drop, false, nat_eq, ap, refl, arith}
-use Rattle.std.proofs.lemmas.Bool.{or_parts}
-use Rattle.std.proofs.lemmas.Grind.{common_steps}
+use Rattle.std.proofs.lemmas.{Bool.or_parts, Grind.common_steps}
 use Rattle.std.specs.List.{list_all}
 use Rattle.serde_json.proofs.Views.{items_len-items_view}
-use Rattle.serde_json.specs.Data.{Data, array}
-use Rattle.serde_json.specs.View.{view, items_view}
-use Rattle.serde_json.specs.Written.{has_float, items_have_float}
+use Rattle.serde_json.specs.{Data.{Data, array}, View.{view, items_view}, Written.{has_float, items_have_float}}
 use Rattle.serde_json.specs.declared.value.Value.{Value}
 use Rattle.cni_json.specs.Each.{each_after}
-use Rattle.net_conf.specs.Accepted.{is_empty_list}
-use Rattle.net_conf.specs.Sets.{is_set, is_object, all_items}
-use Rattle.net_conf.specs.Plugins.{later_plugins, later_at}
+use Rattle.net_conf.specs.{Accepted.is_empty_list, Plugins.{later_plugins, later_at}, Sets.{is_set, is_object}}
+use Rattle.net_conf.specs.Sets.{all_items}
 
 pub empty_items : (xs : List Value) → is_empty_list (array (items_view xs)) ≡ nat_eq (length xs) 0
 empty_items [] = refl

@@ -1,14 +1,11 @@
 -- Keys that are not acted on: such a key is accepted at values that ask for nothing, and refused at every other.
-use Rattle.std.specs.Prelude.{◌==◌, ◌||◌, ℕ, List, [], ◌∷◌, codes, Bool, true, false, not, if◌then◌else◌, Result, Ok, Err, Option, Some, None, is_some, ⊤, map}
-use Rattle.std.specs.Str.{bytes_eq}
-use Rattle.std.specs.Borrow.{Bor}
-use Rattle.serde_json.specs.Data.{Data, boolean, number, string, array, no_items, unsigned}
-use Rattle.serde_json.specs.Find.{as_number, as_str}
+use Rattle.std.specs.{Borrow.Bor, Prelude.{◌==◌, ◌||◌, ℕ, List, [], ◌∷◌, codes, Bool, true, false, not, if◌then◌else◌}}
+use Rattle.std.specs.{Prelude.{Result, Ok, Err, Option, Some, None, is_some, ⊤, map}, Str.bytes_eq}
+use Rattle.serde_json.specs.{Data.{Data, boolean, number, string, array, no_items, unsigned}, Find.{as_number, as_str}}
 use Rattle.serde_json.specs.Written.{compact_text}
-use Rattle.cni_json.specs.Fields.{member_at}
-use Rattle.cni_json.specs.Outcome.{◌>>=◌}
-use Rattle.net_conf.specs.declared.accepted.Accepted.{Accepted}
-use Rattle.net_conf.specs.declared.accepted.Accepted.TheVariants.{Zero, AnyNumber, EmptyList, IsFlag, EmptyText, AnyText, Backend, OpenPolicy}
+use Rattle.cni_json.specs.{Fields.member_at, Outcome.◌>>=◌}
+use Rattle.net_conf.specs.declared.accepted.Accepted.{Accepted, TheVariants.{Zero, AnyNumber, EmptyList, IsFlag}}
+use Rattle.net_conf.specs.declared.accepted.Accepted.TheVariants.{EmptyText, AnyText, Backend, OpenPolicy}
 use Rattle.net_conf.specs.declared.error.ConfError.{ConfError}
 use Rattle.net_conf.specs.declared.error.ConfError.TheVariants as refusal
 

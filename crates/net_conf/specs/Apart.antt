@@ -1,8 +1,6 @@
 -- Ranges in the order of their starts.
 use Rattle.std.specs.Prelude.{ℕ, Bool, true, ◌&&◌, nat_le, nat_lt, List, [], ◌∷◌, Option, Some, None}
-use Rattle.cni_addr.specs.Codes.{family_eq}
-use Rattle.cni_addr.specs.declared.address.Family.{Family}
-use Rattle.cni_addr.specs.declared.range.Range.{Range}
+use Rattle.cni_addr.specs.{Codes.family_eq, declared.{address.Family.Family, range.Range.Range}}
 
 -- the range has an address of the family
 abbrev pub has_address_of : Family → Range → Bool

@@ -1,21 +1,14 @@
 -- The configuration of the `bridge` plugin, key by key in the order of its refusals.
 use Rattle.std.specs.Prelude.{ℕ, List, [], ◌∷◌, codes, Bool, true, false, Result, Ok}
 use Rattle.serde_json.specs.Data.{Data}
-use Rattle.cni_json.specs.Fields.{text_field, tested}
-use Rattle.cni_json.specs.Outcome.{◌>>=◌}
-use Rattle.cni_json.specs.declared.fields.Field.{Field}
-use Rattle.net_conf.specs.Accepted.{Row, all_supported}
-use Rattle.net_conf.specs.Ipam.{addressing_at}
-use Rattle.net_conf.specs.Members.{with_default, flag_at, mtu_at}
-use Rattle.net_conf.specs.Names.{is_interface_name}
-use Rattle.net_conf.specs.Refusals.{invalid}
-use Rattle.net_conf.specs.declared.accepted.Accepted.TheVariants.{Zero, EmptyList, IsFlag, Backend}
-use Rattle.net_conf.specs.declared.bridge_modes.BridgeMode.{BridgeMode}
+use Rattle.cni_json.specs.{Fields.{text_field, tested}, Outcome.◌>>=◌, declared.fields.Field.Field}
+use Rattle.net_conf.specs.{Accepted.{Row, all_supported}, Ipam.addressing_at, Members.{with_default, flag_at, mtu_at}}
+use Rattle.net_conf.specs.{Names.is_interface_name, Refusals.invalid, declared.accepted.Accepted.TheVariants.Zero}
+use Rattle.net_conf.specs.declared.accepted.Accepted.TheVariants.{EmptyList, IsFlag, Backend}
+use Rattle.net_conf.specs.declared.bridge_modes.{BridgeMode.BridgeMode, GatewayRole.GatewayRole}
+use Rattle.net_conf.specs.declared.{error.ConfError.ConfError, first.BridgeConf.BridgeConf}
 use Rattle.net_conf.specs.declared.bridge_modes.BridgeMode.TheVariants as modes
-use Rattle.net_conf.specs.declared.bridge_modes.GatewayRole.{GatewayRole}
 use Rattle.net_conf.specs.declared.bridge_modes.GatewayRole.TheVariants as roles
-use Rattle.net_conf.specs.declared.error.ConfError.{ConfError}
-use Rattle.net_conf.specs.declared.first.BridgeConf.{BridgeConf}
 
 -- keys that are not acted on
 abbrev pub bridge_rows : List Row

@@ -1,9 +1,8 @@
 -- What the roles and the modes of a bridge ask for (the keys `isGateway`, `isDefaultGateway`, `hairpinMode` and
 -- `promiscMode` of the reference plugin `bridge`).
 use Rattle.std.specs.Prelude.{Bool, true, false}
-use Rattle.net_conf.specs.declared.bridge_modes.BridgeMode.{BridgeMode}
+use Rattle.net_conf.specs.declared.bridge_modes.{BridgeMode.BridgeMode, GatewayRole.GatewayRole}
 use Rattle.net_conf.specs.declared.bridge_modes.BridgeMode.TheVariants as modes
-use Rattle.net_conf.specs.declared.bridge_modes.GatewayRole.{GatewayRole}
 use Rattle.net_conf.specs.declared.bridge_modes.GatewayRole.TheVariants as roles
 
 -- the bridge has the gateways' addresses, which a default gateway asks for too

@@ -2,9 +2,8 @@
 use Rattle.std.specs.Prelude.{List, [], ◌∷◌, codes, Result, Ok}
 use Rattle.serde_json.specs.Data.{Data}
 use Rattle.cni_json.specs.Outcome.{◌>>=◌}
-use Rattle.net_conf.specs.Accepted.{Row, all_supported}
-use Rattle.net_conf.specs.declared.accepted.Accepted.TheVariants.{AnyText, Backend, OpenPolicy}
-use Rattle.net_conf.specs.declared.chained.FirewallConf.{FirewallConf}
+use Rattle.net_conf.specs.{Accepted.{Row, all_supported}, declared.accepted.Accepted.TheVariants.{AnyText, Backend}}
+use Rattle.net_conf.specs.declared.{accepted.Accepted.TheVariants.OpenPolicy, chained.FirewallConf.FirewallConf}
 use Rattle.net_conf.specs.declared.error.ConfError.{ConfError}
 
 -- keys that are not acted on

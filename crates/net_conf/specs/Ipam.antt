@@ -1,22 +1,14 @@
 -- The configuration of address management (CNI specification 1.1.0, section 1, `ipam`; the `host-local` plugin).
 use Rattle.std.specs.Prelude.{◌&&◌, codes, Bool, true, false, if◌then◌else◌, Result, Ok, Err, Option, Some, None, ⊤}
 use Rattle.std.specs.Str.{bytes_eq}
-use Rattle.serde_json.specs.Data.{Data, null, string, object, Members, no_members, member}
-use Rattle.serde_json.specs.Find.{get}
+use Rattle.serde_json.specs.{Data.{Data, null, string, object, Members, no_members, member}, Find.get}
 use Rattle.serde_json.specs.Written.{compact_text}
-use Rattle.cni_json.specs.Fields.{member_at, object_or}
-use Rattle.cni_json.specs.Outcome.{◌>>=◌}
+use Rattle.cni_json.specs.{Fields.{member_at, object_or}, Outcome.◌>>=◌}
 use Rattle.cni_result.specs.Dns.{dns_of_object}
-use Rattle.net_conf.specs.Accepted.{supported}
-use Rattle.net_conf.specs.Members.{is_null, ok_map}
-use Rattle.net_conf.specs.Refusals.{invalid}
-use Rattle.net_conf.specs.Routes.{routes_at}
-use Rattle.net_conf.specs.Sets.{sets_at}
-use Rattle.net_conf.specs.declared.accepted.Accepted.TheVariants.{EmptyText}
-use Rattle.net_conf.specs.declared.error.ConfError.{ConfError}
+use Rattle.net_conf.specs.{Accepted.supported, Members.{is_null, ok_map}, Refusals.invalid, Routes.routes_at}
+use Rattle.net_conf.specs.{Sets.sets_at, declared.{accepted.Accepted.TheVariants.EmptyText, error.ConfError.ConfError}}
+use Rattle.net_conf.specs.declared.{first.HostLocalConf.HostLocalConf, ipam.Addressing.Addressing}
 use Rattle.net_conf.specs.declared.error.ConfError.TheVariants as refusal
-use Rattle.net_conf.specs.declared.first.HostLocalConf.{HostLocalConf}
-use Rattle.net_conf.specs.declared.ipam.Addressing.{Addressing}
 
 abbrev pub manager_of : Option Data → Result ⊤ ConfError
 manager_of (Some (string text)) =

@@ -2,20 +2,13 @@
 use Rattle.std.specs.Prelude.{ℕ, List, codes, Bool, true, false, if◌then◌else◌, Result, Ok, Err, Option, Some, None}
 use Rattle.std.specs.Str.{bytes_eq}
 use Rattle.serde_json.specs.Data.{Data, boolean, string}
-use Rattle.cni_json.specs.Json.{json_of}
-use Rattle.cni_json.specs.Fields.{member_at, text_field, object_or}
-use Rattle.cni_json.specs.Outcome.{◌>>=◌}
+use Rattle.cni_json.specs.{Fields.{member_at, text_field, object_or}, Json.json_of, Outcome.◌>>=◌}
 use Rattle.cni_json.specs.declared.reading.ReadEnd.{ReadEnd}
 use Rattle.cni_json.specs.declared.reading.ReadEnd.TheVariants as ends
-use Rattle.net_conf.specs.Members.{needed_text}
-use Rattle.net_conf.specs.Names.{is_network_name}
-use Rattle.net_conf.specs.Plugins.{chain_at}
-use Rattle.net_conf.specs.Refusals.{invalid}
-use Rattle.net_conf.specs.Versions.{version_at}
-use Rattle.net_conf.specs.declared.error.ConfError.{ConfError}
-use Rattle.net_conf.specs.declared.error.ConfError.TheVariants as refusal
-use Rattle.net_conf.specs.declared.list.ListHeader.{ListHeader}
+use Rattle.net_conf.specs.{Members.needed_text, Names.is_network_name, Plugins.chain_at, Refusals.invalid}
+use Rattle.net_conf.specs.{Versions.version_at, declared.{error.ConfError.ConfError, list.ListHeader.ListHeader}}
 use Rattle.net_conf.specs.declared.list.NetList.{NetList}
+use Rattle.net_conf.specs.declared.error.ConfError.TheVariants as refusal
 
 -- bytes that are no JSON, or have another number than whole ones of 64 bits
 abbrev pub read_or_refused : Result Data ReadEnd → Result Data ConfError

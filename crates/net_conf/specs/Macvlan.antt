@@ -1,20 +1,12 @@
 -- The configuration of the `macvlan` plugin, key by key in the order of its refusals.
 use Rattle.std.specs.Prelude.{ℕ, List, [], ◌∷◌, codes, false, Result, Ok, ok_or}
 use Rattle.serde_json.specs.Data.{Data}
-use Rattle.cni_json.specs.Fields.{text_field}
-use Rattle.cni_json.specs.Outcome.{◌>>=◌}
-use Rattle.cni_json.specs.declared.fields.Field.{Field}
-use Rattle.cni_addr.specs.declared.macvlan.MacvlanMode.{MacvlanMode}
-use Rattle.cni_addr.specs.Modes.{mode_named}
-use Rattle.cni_addr.specs.declared.macvlan.MacvlanMode.TheVariants.{Bridge}
-use Rattle.net_conf.specs.Accepted.{Row, all_supported}
-use Rattle.net_conf.specs.Ipam.{addressing_at}
-use Rattle.net_conf.specs.Members.{with_default, needed_text, mtu_at}
-use Rattle.net_conf.specs.Names.{is_interface_name}
-use Rattle.net_conf.specs.declared.accepted.Accepted.TheVariants.{IsFlag}
-use Rattle.net_conf.specs.declared.error.ConfError.{ConfError}
+use Rattle.cni_json.specs.{Fields.text_field, Outcome.◌>>=◌, declared.fields.Field.Field}
+use Rattle.cni_addr.specs.{Modes.mode_named, declared.macvlan.MacvlanMode.{MacvlanMode, TheVariants.Bridge}}
+use Rattle.net_conf.specs.{Accepted.{Row, all_supported}, Ipam.addressing_at, Members.{with_default, needed_text}}
+use Rattle.net_conf.specs.{Members.mtu_at, Names.is_interface_name, declared.accepted.Accepted.TheVariants.IsFlag}
+use Rattle.net_conf.specs.declared.{error.ConfError.ConfError, first.MacvlanConf.MacvlanConf}
 use Rattle.net_conf.specs.declared.error.ConfError.TheVariants as refusal
-use Rattle.net_conf.specs.declared.first.MacvlanConf.{MacvlanConf}
 
 -- keys that are not acted on
 abbrev pub macvlan_rows : List Row

@@ -1,16 +1,11 @@
 -- Members of a plugin's object, each with its refusal.
-use Rattle.std.specs.Prelude.{◌≡◌, ◌==◌, ◌&&◌, ℕ, List, codes, Bool, nat_le, if◌then◌else◌, Result, Ok, Option, Some, None, unwrap_or, is_some}
-use Rattle.std.specs.Result.{result_map_both}
-use Rattle.serde_json.specs.Data.{Data}
-use Rattle.serde_json.specs.Find.{as_null}
-use Rattle.cni_addr.specs.AddrText.{addr_of_text}
-use Rattle.cni_addr.specs.declared.address.Addr.{Addr}
-use Rattle.cni_json.specs.Fields.{bool_field, text_field, u64_field, member_or, needed, tested}
-use Rattle.cni_json.specs.Outcome.{◌>>=◌}
+use Rattle.std.specs.{Fn.Shared, Prelude.{◌≡◌, ◌==◌, ◌&&◌, ℕ, List, codes, Bool, nat_le, if◌then◌else◌, Result, Ok}}
+use Rattle.std.specs.{Prelude.{Option, Some, None, unwrap_or, is_some}, Result.result_map_both}
+use Rattle.serde_json.specs.{Data.Data, Find.as_null}
+use Rattle.cni_addr.specs.{AddrText.addr_of_text, declared.address.Addr.Addr}
+use Rattle.cni_json.specs.{Fields.{bool_field, text_field, u64_field, member_or, needed, tested}, Outcome.◌>>=◌}
 use Rattle.cni_json.specs.declared.fields.Field.{Field}
-use Rattle.net_conf.specs.Refusals.{invalid}
-use Rattle.net_conf.specs.declared.error.ConfError.{ConfError}
-use Rattle.std.specs.Fn.{Shared}
+use Rattle.net_conf.specs.{Refusals.invalid, declared.error.ConfError.ConfError}
 use denote.Ref.{Bor}
 
 abbrev pub is_null : Data → Bool

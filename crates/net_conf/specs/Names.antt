@@ -1,8 +1,6 @@
 -- The grammars of names, as tests.
-use Rattle.std.specs.Prelude.{◌==◌, ◌&&◌, ◌||◌, ℕ, List, length, codes, Bool, not, nat_le, slice_index}
-use Rattle.std.specs.List.{list_all}
-use Rattle.std.specs.Char.{is_ascii_alphanumeric, is_whitespace}
-use Rattle.std.specs.Str.{byte, bytes_eq, chars}
+use Rattle.std.specs.{Char.{is_ascii_alphanumeric, is_whitespace}, List.list_all, Prelude.{◌==◌, ◌&&◌, ◌||◌, ℕ, List}}
+use Rattle.std.specs.{Prelude.{length, codes, Bool, not, nat_le, slice_index}, Str.{byte, bytes_eq, chars}}
 
 -- a letter or digit of ASCII, `_`, `.` or `-`
 abbrev pub is_name_byte : ℕ → Bool

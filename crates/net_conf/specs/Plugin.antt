@@ -1,15 +1,10 @@
 -- A plugin by itself, whatever list it stands in.
 use Rattle.std.specs.Prelude.{List, ◌∷◌, Bool, true, false, Result, map}
 use Rattle.serde_json.specs.Data.{Data}
-use Rattle.cni_json.specs.Each.{each}
-use Rattle.cni_json.specs.Outcome.{◌>>=◌}
-use Rattle.net_conf.specs.Members.{ok_map}
-use Rattle.net_conf.specs.PluginTypes.{makes_interface}
-use Rattle.net_conf.specs.Plugins.{type_at, first_at, chained_at, plugins_at}
-use Rattle.net_conf.specs.declared.chained.Chained.{Chained}
-use Rattle.net_conf.specs.declared.error.ConfError.{ConfError}
-use Rattle.net_conf.specs.declared.first.First.{First}
-use Rattle.net_conf.specs.declared.plugin.Plugin.{Plugin}
+use Rattle.cni_json.specs.{Each.each, Outcome.◌>>=◌}
+use Rattle.net_conf.specs.{Members.ok_map, PluginTypes.makes_interface, Plugins.{type_at, first_at, chained_at}}
+use Rattle.net_conf.specs.{Plugins.plugins_at, declared.{chained.Chained.Chained, error.ConfError.ConfError}}
+use Rattle.net_conf.specs.declared.{first.First.First, plugin.Plugin.Plugin}
 use Rattle.net_conf.specs.declared.plugin.Plugin.TheVariants as plugins
 
 -- a plugin in the first place, or in a later one

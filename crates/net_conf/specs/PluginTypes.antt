@@ -1,12 +1,10 @@
 -- The types of plugins, by their names (the `type` of the reference plugins) and by number, and the type of a later
 -- plugin.
-use Rattle.std.specs.Prelude.{ℕ, Bool, true, false, ◌==◌, List, codes, Option, find, map}
-use Rattle.std.specs.List.{IsDistinct}
+use Rattle.std.specs.{List.IsDistinct, Prelude.{ℕ, Bool, true, false, ◌==◌, List, codes, Option, find, map}}
 use Rattle.std.specs.Str.{bytes_eq}
-use Rattle.net_conf.specs.declared.chained.Chained.{Chained}
-use Rattle.net_conf.specs.declared.chained.Chained.TheVariants as later
+use Rattle.net_conf.specs.declared.{chained.Chained.Chained, plugins.PluginType.PluginType}
 use Rattle.net_conf.specs.declared.plugins.TheConstants.PluginType.{ALL}
-use Rattle.net_conf.specs.declared.plugins.PluginType.{PluginType}
+use Rattle.net_conf.specs.declared.chained.Chained.TheVariants as later
 use Rattle.net_conf.specs.declared.plugins.PluginType.TheVariants as plugin
 
 -- a type as a plugin's object names it

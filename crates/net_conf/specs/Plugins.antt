@@ -1,28 +1,16 @@
 -- The plugins of a list, and which may stand where.
-use Rattle.std.specs.Prelude.{ℕ, List, [], codes, Bool, if◌then◌else◌, Result, Ok, ok_or, ⊤}
-use Rattle.std.specs.List.{list_any}
+use Rattle.std.specs.{List.list_any, Prelude.{ℕ, List, [], codes, Bool, if◌then◌else◌, Result, Ok, ok_or, ⊤}}
 use Rattle.serde_json.specs.Data.{Data, Items, no_items, item}
-use Rattle.cni_json.specs.Each.{each_after}
-use Rattle.cni_json.specs.Fields.{text_field, list_field, needed, object_or}
-use Rattle.cni_json.specs.Outcome.{◌>>=◌}
+use Rattle.cni_json.specs.{Each.each_after, Fields.{text_field, list_field, needed, object_or}, Outcome.◌>>=◌}
 use Rattle.cni_json.specs.declared.fields.Field.{Field}
-use Rattle.net_conf.specs.Bridge.{bridge_at}
-use Rattle.net_conf.specs.Firewall.{firewall_at}
-use Rattle.net_conf.specs.Macvlan.{macvlan_at}
-use Rattle.net_conf.specs.Members.{ok_map}
-use Rattle.net_conf.specs.PluginTypes.{type_named, type_eq, type_of_chained}
-use Rattle.net_conf.specs.Portmap.{portmap_at}
-use Rattle.net_conf.specs.Ptp.{ptp_at}
-use Rattle.net_conf.specs.Refusals.{invalid}
-use Rattle.net_conf.specs.Tuning.{tuning_at}
-use Rattle.net_conf.specs.declared.chained.Chained.{Chained}
-use Rattle.net_conf.specs.declared.chained.Chained.TheVariants as later
-use Rattle.net_conf.specs.declared.error.ConfError.{ConfError}
-use Rattle.net_conf.specs.declared.error.ConfError.TheVariants as refusal
-use Rattle.net_conf.specs.declared.first.First.{First}
-use Rattle.net_conf.specs.declared.first.First.TheVariants as first
-use Rattle.net_conf.specs.declared.plugins.PluginChain.{PluginChain}
+use Rattle.net_conf.specs.{Bridge.bridge_at, Firewall.firewall_at, Macvlan.macvlan_at, Members.ok_map}
+use Rattle.net_conf.specs.{PluginTypes.{type_named, type_eq, type_of_chained}, Portmap.portmap_at, Ptp.ptp_at}
+use Rattle.net_conf.specs.{Refusals.invalid, Tuning.tuning_at, declared.chained.Chained.Chained}
+use Rattle.net_conf.specs.declared.{error.ConfError.ConfError, first.First.First, plugins.PluginChain.PluginChain}
 use Rattle.net_conf.specs.declared.plugins.PluginType.{PluginType}
+use Rattle.net_conf.specs.declared.chained.Chained.TheVariants as later
+use Rattle.net_conf.specs.declared.error.ConfError.TheVariants as refusal
+use Rattle.net_conf.specs.declared.first.First.TheVariants as first
 use Rattle.net_conf.specs.declared.plugins.PluginType.TheVariants as plugin
 
 abbrev pub wrong_plugins : {A : Type 0} → Result A ConfError

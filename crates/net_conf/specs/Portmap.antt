@@ -1,14 +1,10 @@
 -- The configuration of the `portmap` plugin, key by key in the order of its refusals.
 use Rattle.std.specs.Prelude.{List, [], ◌∷◌, codes, Bool, true, false, Result, Ok}
 use Rattle.serde_json.specs.Data.{Data}
-use Rattle.cni_json.specs.Fields.{object_field}
-use Rattle.cni_json.specs.Outcome.{◌>>=◌}
-use Rattle.cni_json.specs.declared.fields.Field.{Field}
-use Rattle.net_conf.specs.Accepted.{Row, all_supported}
-use Rattle.net_conf.specs.Members.{with_default, flag_at, flag_within}
+use Rattle.cni_json.specs.{Fields.object_field, Outcome.◌>>=◌, declared.fields.Field.Field}
+use Rattle.net_conf.specs.{Accepted.{Row, all_supported}, Members.{with_default, flag_at, flag_within}}
 use Rattle.net_conf.specs.declared.accepted.Accepted.TheVariants.{AnyNumber, EmptyList, EmptyText, Backend}
-use Rattle.net_conf.specs.declared.chained.PortmapConf.{PortmapConf}
-use Rattle.net_conf.specs.declared.error.ConfError.{ConfError}
+use Rattle.net_conf.specs.declared.{chained.PortmapConf.PortmapConf, error.ConfError.ConfError}
 
 -- keys that are not acted on
 abbrev pub portmap_rows : List Row

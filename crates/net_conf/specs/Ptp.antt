@@ -2,11 +2,9 @@
 use Rattle.std.specs.Prelude.{codes, false, Result, Ok, ok_or}
 use Rattle.serde_json.specs.Data.{Data}
 use Rattle.cni_json.specs.Outcome.{◌>>=◌}
-use Rattle.net_conf.specs.Ipam.{addressing_at}
-use Rattle.net_conf.specs.Members.{flag_at, mtu_at}
-use Rattle.net_conf.specs.declared.error.ConfError.{ConfError}
-use Rattle.net_conf.specs.declared.error.ConfError.TheVariants as refusal
+use Rattle.net_conf.specs.{Ipam.addressing_at, Members.{flag_at, mtu_at}, declared.error.ConfError.ConfError}
 use Rattle.net_conf.specs.declared.first.PtpConf.{PtpConf}
+use Rattle.net_conf.specs.declared.error.ConfError.TheVariants as refusal
 
 -- the configuration that a `ptp` plugin's object gives; a pair of ends without addresses would lead nowhere
 unfoldable pub ptp_at : Data → Result PtpConf ConfError

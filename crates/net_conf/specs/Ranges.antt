@@ -1,21 +1,11 @@
 -- A range of addresses (the `host-local` plugin, `subnet`, `rangeStart`, `rangeEnd` and `gateway`).
 use Rattle.std.specs.Prelude.{◌+◌, ◌-◌, ◌&&◌, ℕ, List, codes, Bool, nat_le, if◌then◌else◌, Result, Ok, unwrap_or, ⊤}
 use Rattle.serde_json.specs.Data.{Data}
-use Rattle.cni_json.specs.Fields.{text_field, needed}
-use Rattle.cni_json.specs.Outcome.{◌>>=◌}
-use Rattle.cni_json.specs.declared.fields.Field.{Field}
-use Rattle.cni_addr.specs.declared.address.Family.{Family}
-use Rattle.cni_addr.specs.declared.address.Family.TheVariants.{V4, V6}
-use Rattle.cni_addr.specs.declared.address.Addr.{Addr}
-use Rattle.cni_addr.specs.declared.address.Cidr.{Cidr}
-use Rattle.cni_addr.specs.declared.range.Range.{Range}
-use Rattle.cni_addr.specs.CidrText.{cidr_of_text}
-use Rattle.cni_addr.specs.Codes.{family_eq}
-use Rattle.cni_addr.specs.Equal.{cidr_eq}
-use Rattle.cni_addr.specs.Network.{network_of, last_of, contains}
-use Rattle.net_conf.specs.Members.{addr_if_at, passing}
-use Rattle.net_conf.specs.Refusals.{invalid}
-use Rattle.net_conf.specs.declared.error.ConfError.{ConfError}
+use Rattle.cni_json.specs.{Fields.{text_field, needed}, Outcome.◌>>=◌, declared.fields.Field.Field}
+use Rattle.cni_addr.specs.{CidrText.cidr_of_text, Codes.family_eq, Equal.cidr_eq, Network.{network_of, last_of}}
+use Rattle.cni_addr.specs.{Network.contains, declared.address.{Addr.Addr, Cidr.Cidr, Family.{Family, TheVariants.V4}}}
+use Rattle.cni_addr.specs.declared.{address.Family.TheVariants.V6, range.Range.Range}
+use Rattle.net_conf.specs.{Members.{addr_if_at, passing}, Refusals.invalid, declared.error.ConfError.ConfError}
 
 -- the longest prefix of a subnet, which has room for four addresses: of IPv4 the network's own, a gateway, one to
 -- lease, and the broadcast address

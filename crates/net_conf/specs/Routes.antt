@@ -1,19 +1,12 @@
 -- Configured routes (the `host-local` plugin, `routes`).
 use Rattle.std.specs.Prelude.{ℕ, List, codes, Result, Ok, Option, ok_or, option_map}
 use Rattle.serde_json.specs.Data.{Data, Items}
-use Rattle.cni_json.specs.Fields.{text_field, list_field, needed}
-use Rattle.cni_json.specs.Outcome.{◌>>=◌}
+use Rattle.cni_json.specs.{Each.list_or, Fields.{text_field, list_field, needed}, Outcome.◌>>=◌}
 use Rattle.cni_json.specs.declared.fields.Field.{Field}
+use Rattle.cni_addr.specs.{CidrText.cidr_of_text, Network.network_of, declared.address.{Addr.Addr, Cidr.Cidr}}
 use Rattle.cni_addr.specs.declared.address.Family.{Family}
-use Rattle.cni_addr.specs.declared.address.Addr.{Addr}
-use Rattle.cni_addr.specs.declared.address.Cidr.{Cidr}
-use Rattle.cni_addr.specs.CidrText.{cidr_of_text}
-use Rattle.cni_addr.specs.Network.{network_of}
 use Rattle.cni_result.specs.declared.result.RouteEntry.{RouteEntry}
-use Rattle.cni_json.specs.Each.{list_or}
-use Rattle.net_conf.specs.Members.{addr_if_at}
-use Rattle.net_conf.specs.Ranges.{is_address_of}
-use Rattle.net_conf.specs.Refusals.{invalid}
+use Rattle.net_conf.specs.{Members.addr_if_at, Ranges.is_address_of, Refusals.invalid}
 use Rattle.net_conf.specs.declared.error.ConfError.{ConfError}
 use Rattle.net_conf.specs.declared.error.ConfError.TheVariants as refusal
 

@@ -1,10 +1,8 @@
 -- The keys of a plugin's object that a runtime replaces in a request (CNI specification 1.1.0, section 3, "Deriving
 -- execution configuration from plugin configuration").
-use Rattle.std.specs.Prelude.{◌≡◌, ◌||◌, ℕ, List, [], ◌∷◌, codes, Bool, false, nat_eq}
-use Rattle.std.specs.List.{list_any, starts_with}
+use Rattle.std.specs.{List.{list_any, starts_with}, Prelude.{◌≡◌, ◌||◌, ℕ, List, [], ◌∷◌, codes, Bool, false, nat_eq}}
 use Rattle.std.specs.Str.{bytes_eq}
-use Rattle.serde_json.specs.Data.{Data}
-use Rattle.serde_json.specs.Find.{get}
+use Rattle.serde_json.specs.{Data.Data, Find.get}
 use Rattle.net_conf.specs.Sets.{is_object}
 
 -- the keys that a runtime replaces, but for those that begin alike

@@ -1,20 +1,12 @@
 -- The sets of ranges (the `host-local` plugin, `ranges`, and the older form `subnet`).
-use Rattle.std.specs.Prelude.{◌+◌, ◌≤◌, ◌&&◌, ℕ, length, IsTrue, List, [], ◌∷◌, codes, Bool, true, false, nat_le, if◌then◌else◌, Result, Ok, is_some, ⊤}
-use Rattle.std.specs.List.{list_all, flat_map}
-use Rattle.serde_json.specs.Data.{Data, array, Items, no_items, item}
-use Rattle.serde_json.specs.Events.{items_len}
-use Rattle.serde_json.specs.Find.{as_object}
-use Rattle.cni_json.specs.Fields.{member_at, list_field}
-use Rattle.cni_json.specs.Outcome.{◌>>=◌}
+use Rattle.std.specs.{List.{list_all, flat_map}, Prelude.{◌+◌, ◌≤◌, ◌&&◌, ℕ, length, IsTrue, List, [], ◌∷◌, codes}}
+use Rattle.std.specs.Prelude.{Bool, true, false, nat_le, if◌then◌else◌, Result, Ok, is_some, ⊤}
+use Rattle.serde_json.specs.{Data.{Data, array, Items, no_items, item}, Events.items_len, Find.as_object}
+use Rattle.cni_json.specs.{Each.{each, each_after}, Fields.{member_at, list_field}, Outcome.◌>>=◌}
 use Rattle.cni_json.specs.declared.fields.Field.{Field}
-use Rattle.cni_addr.specs.declared.address.Family.{Family}
-use Rattle.cni_addr.specs.declared.range.Range.{Range}
-use Rattle.cni_addr.specs.declared.range.RangeSet.{RangeSet}
+use Rattle.cni_addr.specs.declared.{address.Family.Family, range.{Range.Range, RangeSet.RangeSet}}
 use Rattle.ip_pool.specs.Pool.{are_apart}
-use Rattle.cni_json.specs.Each.{each, each_after}
-use Rattle.net_conf.specs.Members.{with_default}
-use Rattle.net_conf.specs.Ranges.{is_address_of, range_at}
-use Rattle.net_conf.specs.Refusals.{invalid}
+use Rattle.net_conf.specs.{Members.with_default, Ranges.{is_address_of, range_at}, Refusals.invalid}
 use Rattle.net_conf.specs.declared.error.ConfError.{ConfError}
 
 abbrev pub wrong_ranges : {A : Type 0} → Result A ConfError

@@ -1,19 +1,11 @@
 -- The configuration of the `tuning` plugin, key by key in the order of its refusals.
-use Rattle.std.specs.Prelude.{◌||◌, ℕ, List, [], ◌∷◌, codes, Bool, false, nat_eq, not, if◌then◌else◌, Result, Ok, Err, Option, Some, None, ok_or, option_map}
-use Rattle.std.specs.List.{starts_with}
-use Rattle.std.specs.Str.{bytes_eq}
-use Rattle.serde_json.specs.Data.{Data, string, object, Members, no_members, member}
-use Rattle.serde_json.specs.Written.{compact_text}
-use Rattle.cni_json.specs.Fields.{member_at, text_field, u32_field}
-use Rattle.cni_json.specs.Outcome.{◌>>=◌}
-use Rattle.cni_json.specs.declared.fields.Field.{Field}
-use Rattle.cni_addr.specs.declared.mac.Mac.{Mac}
-use Rattle.cni_addr.specs.MacText.{mac_of_text}
-use Rattle.net_conf.specs.Members.{is_null, with_default, flag_at, given_mtu_at}
-use Rattle.net_conf.specs.Refusals.{invalid}
-use Rattle.net_conf.specs.declared.chained.Sysctl.{Sysctl}
-use Rattle.net_conf.specs.declared.chained.TuningConf.{TuningConf}
-use Rattle.net_conf.specs.declared.error.ConfError.{ConfError}
+use Rattle.std.specs.{List.starts_with, Prelude.{◌||◌, ℕ, List, [], ◌∷◌, codes, Bool, false, nat_eq, not}}
+use Rattle.std.specs.{Prelude.{if◌then◌else◌, Result, Ok, Err, Option, Some, None, ok_or, option_map}, Str.bytes_eq}
+use Rattle.serde_json.specs.{Data.{Data, string, object, Members, no_members, member}, Written.compact_text}
+use Rattle.cni_json.specs.{Fields.{member_at, text_field, u32_field}, Outcome.◌>>=◌, declared.fields.Field.Field}
+use Rattle.cni_addr.specs.{MacText.mac_of_text, declared.mac.Mac.Mac}
+use Rattle.net_conf.specs.{Members.{is_null, with_default, flag_at, given_mtu_at}, Refusals.invalid}
+use Rattle.net_conf.specs.declared.{chained.{Sysctl.Sysctl, TuningConf.TuningConf}, error.ConfError.ConfError}
 use Rattle.net_conf.specs.declared.error.ConfError.TheVariants as refusal
 
 -- the part stands somewhere in the text; it is not empty

@@ -1,17 +1,11 @@
 -- The version of a network list, which two keys name (CNI specification 1.1.0, section 1, `cniVersion` and
 -- `cniVersions`).
-use Rattle.std.specs.Prelude.{ℕ, List, [], ◌∷◌, ◌++◌, codes, reverse, Bool, Option, find, Result, Ok, ok_or}
-use Rattle.std.specs.List.{list_any}
-use Rattle.std.specs.Str.{bytes_eq}
+use Rattle.std.specs.{List.list_any, Prelude.{ℕ, List, [], ◌∷◌, ◌++◌, codes, reverse, Bool, Option, find, Result, Ok}}
+use Rattle.std.specs.{Prelude.ok_or, Str.bytes_eq}
 use Rattle.serde_json.specs.Data.{Data}
-use Rattle.cni_json.specs.Fields.{text_field, member_or}
-use Rattle.cni_json.specs.Outcome.{◌>>=◌}
-use Rattle.cni_json.specs.declared.fields.Field.{Field}
-use Rattle.cni_result.specs.Dns.{texts_at}
-use Rattle.cni_result.specs.Versions.{known_versions, version_text}
-use Rattle.cni_result.specs.declared.version.Version.{Version}
-use Rattle.net_conf.specs.Refusals.{invalid}
-use Rattle.net_conf.specs.declared.error.ConfError.{ConfError}
+use Rattle.cni_json.specs.{Fields.{text_field, member_or}, Outcome.◌>>=◌, declared.fields.Field.Field}
+use Rattle.cni_result.specs.{Dns.texts_at, Versions.{known_versions, version_text}, declared.version.Version.Version}
+use Rattle.net_conf.specs.{Refusals.invalid, declared.error.ConfError.ConfError}
 use Rattle.net_conf.specs.declared.error.ConfError.TheVariants as refusal
 
 abbrev pub single_version_of : Field (List ℕ) → Result (List (List ℕ)) ConfError

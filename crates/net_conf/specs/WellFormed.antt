@@ -1,33 +1,18 @@
 -- What every network list that is read keeps.
-use Rattle.std.specs.Prelude.{◌≡◌, ℕ, ◌<◌, length, IsTrue, All, Option, IfSome, map, ⊤}
-use Rattle.std.specs.List.{IsDistinct}
-use Rattle.std.specs.Str.{bytes_eq}
-use Rattle.cni_addr.specs.declared.range.Range.{Range}
-use Rattle.cni_addr.specs.declared.range.RangeSet.{RangeSet}
-use Rattle.cni_addr.specs.MacText.{IsMac}
-use Rattle.cni_addr.specs.Network.{IsCidr, network_of, contains}
-use Rattle.cni_addr.specs.Value.{IsAddr}
+use Rattle.std.specs.{List.IsDistinct, Prelude.{◌≡◌, ℕ, ◌<◌, length, IsTrue, All, Option, IfSome, map, ⊤}, Str.bytes_eq}
+use Rattle.cni_addr.specs.{MacText.IsMac, Network.{IsCidr, network_of, contains}, Value.IsAddr}
+use Rattle.cni_addr.specs.declared.range.{Range.Range, RangeSet.RangeSet}
 use Rattle.cni_json.specs.Fields.{has_32_bits}
 use Rattle.cni_result.specs.declared.result.RouteEntry.{RouteEntry}
 use Rattle.ip_pool.specs.Pool.{are_apart}
-use Rattle.net_conf.specs.Members.{is_mtu}
-use Rattle.net_conf.specs.Names.{is_network_name, is_interface_name}
-use Rattle.net_conf.specs.PluginTypes.{HaveTypesOnce}
-use Rattle.net_conf.specs.Ranges.{is_subnet, is_in_order}
-use Rattle.net_conf.specs.Sets.{ranges_of, is_of_one_family, is_set_count}
-use Rattle.net_conf.specs.Tuning.{is_network_setting}
-use Rattle.net_conf.specs.declared.chained.Chained.{Chained}
+use Rattle.net_conf.specs.{Members.is_mtu, Names.{is_network_name, is_interface_name}, PluginTypes.HaveTypesOnce}
+use Rattle.net_conf.specs.{Ranges.{is_subnet, is_in_order}, Sets.{ranges_of, is_of_one_family, is_set_count}}
+use Rattle.net_conf.specs.{Tuning.is_network_setting, declared.chained.{Chained.Chained, Sysctl.Sysctl}}
+use Rattle.net_conf.specs.declared.{chained.TuningConf.TuningConf, first.{BridgeConf.BridgeConf, First.First}}
+use Rattle.net_conf.specs.declared.first.{HostLocalConf.HostLocalConf, MacvlanConf.MacvlanConf, PtpConf.PtpConf}
+use Rattle.net_conf.specs.declared.{list.NetList.NetList, plugin.Plugin.Plugin}
 use Rattle.net_conf.specs.declared.chained.Chained.TheVariants as later
-use Rattle.net_conf.specs.declared.chained.Sysctl.{Sysctl}
-use Rattle.net_conf.specs.declared.chained.TuningConf.{TuningConf}
-use Rattle.net_conf.specs.declared.first.BridgeConf.{BridgeConf}
-use Rattle.net_conf.specs.declared.first.First.{First}
 use Rattle.net_conf.specs.declared.first.First.TheVariants as first
-use Rattle.net_conf.specs.declared.first.HostLocalConf.{HostLocalConf}
-use Rattle.net_conf.specs.declared.first.MacvlanConf.{MacvlanConf}
-use Rattle.net_conf.specs.declared.first.PtpConf.{PtpConf}
-use Rattle.net_conf.specs.declared.list.NetList.{NetList}
-use Rattle.net_conf.specs.declared.plugin.Plugin.{Plugin}
 use Rattle.net_conf.specs.declared.plugin.Plugin.TheVariants as plugins
 
 -- ---- addresses

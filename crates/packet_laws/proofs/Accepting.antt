@@ -1,38 +1,26 @@
 -- A packet is let through as the attachments with `firewall` say.
 use Rattle.std.proofs.Common.{◌≡◌, Bool, true, false, Option, Some, None, refl, sym, ◌∙◌, ap, subst, inl, inr, ◌⊎◌}
-use Rattle.std.proofs.lemmas.Bool.{and_from, and_parts, or_left, or_right}
-use Rattle.std.proofs.lemmas.Option.{same_Some}
-use Rattle.std.specs.Prelude.{◌&&◌, ◌||◌}
-use Rattle.std.specs.List.{list_any}
-use Rattle.std.specs.Option.{option_map_or}
-use Rattle.cni_addr.specs.Lists.{IsAmong}
-use Rattle.cni_addr.specs.declared.address.Addr.{Addr}
-use Rattle.cni_result.specs.declared.cached.Cached.{Cached}
-use Rattle.cni_result.specs.declared.result.IpEntry.{IpEntry}
+use Rattle.std.proofs.lemmas.{Bool.{and_from, and_parts, or_left, or_right}, Option.same_Some}
+use Rattle.std.specs.{List.list_any, Option.option_map_or, Prelude.{◌&&◌, ◌||◌}}
+use Rattle.cni_addr.specs.{Lists.IsAmong, declared.address.Addr.Addr}
+use Rattle.cni_result.specs.declared.{cached.Cached.Cached, result.IpEntry.IpEntry}
 use Rattle.cni_verbs.specs.Questions.{addresses_of_result}
 use Rattle.firewall_tuning.specs.Firewall.{accept_from, accept_replies_to}
-use Rattle.kernel_types.specs.Equal.{addr_eq, chain_eq}
-use Rattle.kernel_types.specs.declared.object.Att.{Att}
-use Rattle.kernel_types.specs.declared.object.Host.{Host}
-use Rattle.kernel_types.specs.declared.object.Tag.{Tag}
-use Rattle.kernel_types.specs.declared.object.Tag.TheVariants.{Outside, Base, Own}
+use Rattle.kernel_types.specs.{Equal.{addr_eq, chain_eq}, declared.object.{Att.Att, Host.Host, Tag.Tag}}
+use Rattle.kernel_types.specs.declared.{object.Tag.TheVariants.{Outside, Base, Own}, rule.Rule.Rule}
 use Rattle.kernel_types.specs.declared.rule.Chain.TheVariants as chains
-use Rattle.kernel_types.specs.declared.rule.Rule.{Rule}
 use Rattle.net_conf.specs.declared.list.NetList.{NetList}
-use Rattle.packet_probe.specs.Fate.{any_match, fate_of, matches, matches_in}
-use Rattle.packet_probe.specs.Value.{IsPacket}
+use Rattle.packet_probe.specs.{Fate.{any_match, fate_of, matches, matches_in}, Value.IsPacket}
 use Rattle.packet_probe.specs.declared.packet.Packet.{Packet}
-use Rattle.pod_workers.specs.Plans.{list_named}
-use Rattle.pod_workers.specs.declared.plan.Plan.{Plan}
+use Rattle.pod_workers.specs.{Plans.list_named, declared.plan.Plan.Plan}
 use Rattle.plugin_chain.specs.Wanted.{given_by_list}
-use Rattle.packet_laws.specs.Complete.{IsAttached}
-use Rattle.packet_laws.specs.Packets.{has_address, has_firewall, has_ip_masq, is_firewall, lets_through}
-use Rattle.packet_laws.proofs.Equal.{addr-same, chain-same, equal-addr}
-use Rattle.packet_laws.proofs.Lists.{among-any, among-map, any-among, map-among, same_answer}
-use Rattle.packet_laws.proofs.Matching.{from-matches, replies-matches}
-use Rattle.packet_laws.proofs.Settled.{IsSettled, cached-object, keeper, rule-of}
-use Rattle.packet_laws.proofs.WantedRules.{forward-wanted, wanted-forward}
-use Rattle.packet_laws.proofs.Ways.{IsOnItsWay, accepted-moved, moved, on_its_way, one-moved}
+use Rattle.packet_laws.specs.{Complete.IsAttached, Packets.{has_address, has_firewall, has_ip_masq, is_firewall}}
+use Rattle.packet_laws.specs.Packets.{lets_through}
+use Rattle.packet_laws.proofs.{Equal.{addr-same, chain-same, equal-addr}, Lists.{among-any, among-map, any-among}}
+use Rattle.packet_laws.proofs.{Lists.{map-among, same_answer}, Matching.{from-matches, replies-matches}}
+use Rattle.packet_laws.proofs.{Settled.{IsSettled, cached-object, keeper, rule-of}, WantedRules.forward-wanted}
+use Rattle.packet_laws.proofs.{WantedRules.wanted-forward, Ways.{IsOnItsWay, accepted-moved, moved, on_its_way}}
+use Rattle.packet_laws.proofs.Ways.{one-moved}
 
 -- ---- an accepted packet has an attachment that lets it through
 

@@ -1,11 +1,9 @@
 -- A host where CHECK finds all is complete.
-use Rattle.std.proofs.Common.{◌≡◌, Bool, true, false, refl, ap, sym, ◌∙◌}
-use Rattle.std.proofs.lemmas.Bool.{and_parts}
+use Rattle.std.proofs.{Common.{◌≡◌, Bool, true, false, refl, ap, sym, ◌∙◌}, lemmas.Bool.and_parts}
 use Rattle.std.specs.Prelude.{◌&&◌}
 use Rattle.cni_result.specs.declared.cached.Cached.{Cached}
 use Rattle.kernel_types.specs.Equal.{addr_obj_eq, lease_eq, link_eq, route_eq, rule_eq, setting_eq}
-use Rattle.kernel_types.specs.declared.object.Att.{Att}
-use Rattle.kernel_types.specs.declared.object.Host.{Host}
+use Rattle.kernel_types.specs.declared.object.{Att.Att, Host.Host}
 use Rattle.net_conf.specs.declared.list.NetList.{NetList}
 use Rattle.plugin_base.specs.Share.{Share}
 use Rattle.pod_laws.specs.Checked.{are_in, has_objects_of}

@@ -1,28 +1,18 @@
 -- Rules and leases are the same by the test only where they are equal.
 use Rattle.std.proofs.Common.{◌≡◌, ℕ, Bool, true, List, Option, Some, None, refl, sym, ◌∙◌, ap, eqb-true, nat_eq, arith}
-use Rattle.std.proofs.lemmas.Bool.{and_parts}
-use Rattle.std.specs.Cmp.{booleans_Decides, partial_equiv_from_equiv}
-use Rattle.std.specs.Option.{option_eq}
-use Rattle.std.proofs.lemmas.Slice.Eq.{bytes_eq-Decides}
-use Rattle.cni_addr.specs.KeyLaws.{HasFirstOfEachKey}
-use Rattle.cni_addr.specs.Lists.{each_key_once}
-use Rattle.cni_addr.specs.declared.address.Addr.{Addr}
-use Rattle.cni_addr.specs.declared.address.Cidr.{Cidr}
+use Rattle.std.proofs.lemmas.{Bool.and_parts, Slice.Eq.bytes_eq-Decides}
+use Rattle.std.specs.{Cmp.{booleans_Decides, partial_equiv_from_equiv}, Option.option_eq}
+use Rattle.cni_addr.specs.{KeyLaws.HasFirstOfEachKey, Lists.each_key_once, declared.address.{Addr.Addr, Cidr.Cidr}}
 use Rattle.cni_addr.specs.declared.address.Family.{Family}
 use Rattle.cni_addr.specs.declared.address.Family.TheVariants as families
-use Rattle.cni_addr.proofs.KeyLists.{each_key_once-first_of_each}
-use Rattle.cni_addr.proofs.Networks.{family_eq-true}
+use Rattle.cni_addr.proofs.{KeyLists.each_key_once-first_of_each, Networks.family_eq-true}
 use Rattle.cni_result.specs.declared.cached.Proto.{Proto}
 use Rattle.cni_result.specs.declared.cached.Proto.TheVariants as protos
-use Rattle.kernel_types.specs.Equal.{addr_eq, chain_eq, cidr_eq, family_eq, lease_eq, proto_eq, rule_eq, table_eq, target_eq}
-use Rattle.kernel_types.specs.declared.object.Lease.{Lease}
-use Rattle.kernel_types.specs.declared.object.Tag.{Tag}
-use Rattle.kernel_types.specs.declared.rule.Chain.{Chain}
+use Rattle.kernel_types.specs.Equal.{addr_eq, chain_eq, cidr_eq, family_eq, lease_eq, proto_eq, rule_eq, table_eq}
+use Rattle.kernel_types.specs.{Equal.target_eq, declared.{object.{Lease.Lease, Tag.Tag}, rule.{Chain.Chain, Rule.Rule}}}
+use Rattle.kernel_types.specs.declared.rule.{Table.Table, Target.Target}
 use Rattle.kernel_types.specs.declared.rule.Chain.TheVariants as chains
-use Rattle.kernel_types.specs.declared.rule.Rule.{Rule}
-use Rattle.kernel_types.specs.declared.rule.Table.{Table}
 use Rattle.kernel_types.specs.declared.rule.Table.TheVariants as tables
-use Rattle.kernel_types.specs.declared.rule.Target.{Target}
 use Rattle.kernel_types.specs.declared.rule.Target.TheVariants as targets
 use Rattle.kernel_types.proofs.Isolation.{tag_eq-same}
 use Rattle.plugin_base.specs.KeyLaws.{rule_key-laws}

@@ -1,49 +1,31 @@
 -- A complete host of a legal history is settled.
-use Rattle.std.proofs.Common.{◌≡◌, ℕ, Bool, true, false, List, [], ◌∷◌, ◌++◌, Option, Some, None, refl, sym, ◌∙◌, ap, subst, inl, inr}
-use Rattle.std.proofs.lemmas.List.{append-nil}
-use Rattle.std.proofs.lemmas.Option.{same_Some}
-use Rattle.std.specs.Prelude.{is_some, if◌then◌else◌}
-use Rattle.std.specs.List.{list_any}
-use Rattle.cni_addr.specs.Lists.{IsAmong}
-use Rattle.cni_addr.specs.declared.address.Addr.{Addr}
-use Rattle.cni_result.specs.declared.cached.Cached.{Cached}
-use Rattle.cni_result.specs.declared.cached.PortMapping.{PortMapping}
-use Rattle.cni_result.specs.declared.result.AddResult.{AddResult}
+use Rattle.std.proofs.Common.{◌≡◌, ℕ, Bool, true, false, List, [], ◌∷◌, ◌++◌, Option, Some, None, refl, sym, ◌∙◌, ap}
+use Rattle.std.proofs.{Common.{subst, inl, inr}, lemmas.{List.append-nil, Option.same_Some}}
+use Rattle.std.specs.{List.list_any, Prelude.{is_some, if◌then◌else◌}}
+use Rattle.cni_addr.specs.{Lists.IsAmong, declared.address.Addr.Addr}
+use Rattle.cni_result.specs.declared.{cached.{Cached.Cached, PortMapping.PortMapping}, result.AddResult.AddResult}
 use Rattle.cni_errors.specs.CommandFields.{att_of}
-use Rattle.cni_verbs.specs.Mappings.{mappings_of, takes_mappings}
-use Rattle.cni_verbs.specs.Questions.{addresses_of_result}
-use Rattle.cni_verbs.specs.Script.{leases_in}
+use Rattle.cni_verbs.specs.{Mappings.{mappings_of, takes_mappings}, Questions.addresses_of_result, Script.leases_in}
 use Rattle.host_local.specs.Laws.{AreCandidates}
-use Rattle.kernel_types.specs.Equal.{lease_eq, rule_eq}
-use Rattle.kernel_types.specs.Terms.{cached_in, is_own}
-use Rattle.kernel_types.specs.declared.object.Att.{Att}
-use Rattle.kernel_types.specs.declared.object.CachedObj.{CachedObj}
-use Rattle.kernel_types.specs.declared.object.Tag.TheVariants.{Own}
+use Rattle.kernel_types.specs.{Equal.{lease_eq, rule_eq}, Terms.{cached_in, is_own}, declared.object.Att.Att}
+use Rattle.kernel_types.specs.declared.object.{CachedObj.CachedObj, Tag.TheVariants.Own}
 use Rattle.kernel_types.proofs.Cases.{own-own}
-use Rattle.net_conf.specs.declared.chained.Chained.{Chained}
-use Rattle.net_conf.specs.declared.list.NetList.{NetList}
+use Rattle.net_conf.specs.declared.{chained.Chained.Chained, list.NetList.NetList}
 use Rattle.plugin_base.specs.Share.{share_of}
-use Rattle.plugin_chain.specs.Wanted.{all_chained_results, cached_of, chained_result, first_plugin_result, given_by_list, result_of_add, sets_of, wanted}
+use Rattle.plugin_chain.specs.Wanted.{all_chained_results, cached_of, chained_result, first_plugin_result}
+use Rattle.plugin_chain.specs.Wanted.{given_by_list, result_of_add, sets_of, wanted}
 use Rattle.plugin_chain.proofs.GivenAddresses.{chained-ips}
-use Rattle.pod_file.specs.Commands.{is_of_network}
-use Rattle.pod_file.specs.declared.command.Command.{Command}
-use Rattle.pod_workers.specs.Legal.{Legal}
-use Rattle.pod_workers.specs.Plans.{list_for, list_named}
-use Rattle.pod_workers.specs.World.{World, after, host_of, replies_of}
-use Rattle.pod_workers.specs.declared.plan.Entry.{Entry}
-use Rattle.pod_workers.specs.declared.plan.Plan.{Plan}
+use Rattle.pod_file.specs.{Commands.is_of_network, declared.command.Command.Command}
+use Rattle.pod_workers.specs.{Legal.Legal, Plans.{list_for, list_named}, World.{World, after, host_of, replies_of}}
+use Rattle.pod_workers.specs.declared.plan.{Entry.Entry, Plan.Plan}
 use Rattle.pod_workers.proofs.Sound.{if-listed}
-use Rattle.pod_laws.specs.AskedFor.{IsPart}
-use Rattle.pod_laws.specs.CachedResults.{IsResultOfItsAdd}
-use Rattle.pod_laws.specs.Checked.{are_in}
+use Rattle.pod_laws.specs.{AskedFor.IsPart, CachedResults.IsResultOfItsAdd, Checked.are_in}
 use Rattle.pod_laws.specs.Guaranteed.{EveryLegalHistoryIsGuaranteed, IsWellKept}
 use Rattle.pod_laws.proofs.Parts.{among-part}
-use Rattle.packet_laws.specs.Complete.{IsAttached, IsComplete, wanted_of}
-use Rattle.packet_laws.specs.Packets.{has_ip_masq}
-use Rattle.packet_laws.proofs.Equal.{lease-equal, rule-equal}
-use Rattle.packet_laws.proofs.Lists.{all-among, any-among, filter-among}
-use Rattle.packet_laws.proofs.WantedRules.{chained_rules, first-rules, rules_by}
-use Rattle.packet_laws.proofs.Settled.{IsSettled, IsSettledFor, rules_for}
+use Rattle.packet_laws.specs.{Complete.{IsAttached, IsComplete, wanted_of}, Packets.has_ip_masq}
+use Rattle.packet_laws.proofs.{Equal.{lease-equal, rule-equal}, Lists.{all-among, any-among, filter-among}}
+use Rattle.packet_laws.proofs.{Settled.{IsSettled, IsSettledFor, rules_for}, WantedRules.{chained_rules, first-rules}}
+use Rattle.packet_laws.proofs.WantedRules.{rules_by}
 
 -- ---- what is asked for is what the cached result wants
 

@@ -2,41 +2,31 @@
 use Rattle.std.proofs.Common.{◌≡◌, Bool, true, false, not, List, map, Some, refl, sym, ◌∙◌, ap, subst, inl, inr, ◌⊎◌}
 use Rattle.std.proofs.lemmas.Bool.{and_parts}
 use Rattle.std.specs.Prelude.{◌&&◌, ◌||◌, filter, find, flat_map}
-use Rattle.cni_addr.specs.Lists.{IsAmong, distinct}
-use Rattle.cni_addr.specs.declared.address.Addr.{Addr}
+use Rattle.cni_addr.specs.{Lists.{IsAmong, distinct}, declared.address.Addr.Addr}
 use Rattle.cni_result.specs.declared.cached.Cached.{Cached}
 use Rattle.cni_verbs.specs.Questions.{addresses_of_result}
 use Rattle.host_local.specs.Laws.{CandidatesAreGiven}
-use Rattle.kernel_types.specs.Equal.{addr_eq, chain_eq, rule_eq}
-use Rattle.kernel_types.specs.Terms.{is_own, lease_of}
-use Rattle.kernel_types.specs.declared.call.Given.{Given}
-use Rattle.kernel_types.specs.declared.object.Att.{Att}
-use Rattle.kernel_types.specs.declared.object.Host.{Host}
-use Rattle.kernel_types.specs.declared.object.Lease.{Lease}
-use Rattle.kernel_types.specs.declared.object.Tag.TheVariants.{Own}
+use Rattle.kernel_types.specs.{Equal.{addr_eq, chain_eq, rule_eq}, Terms.{is_own, lease_of}, declared.call.Given.Given}
+use Rattle.kernel_types.specs.declared.{object.{Att.Att, Host.Host, Lease.Lease, Tag.TheVariants.Own}, rule.Rule.Rule}
 use Rattle.kernel_types.specs.declared.rule.Chain.TheVariants as chains
-use Rattle.kernel_types.specs.declared.rule.Rule.{Rule}
 use Rattle.kernel_types.proofs.Cases.{own-own}
 use Rattle.net_conf.specs.declared.list.NetList.{NetList}
 use Rattle.packet_probe.specs.Fate.{any_match, fate_of, first_match, is_masqueraded, matches, matches_in}
-use Rattle.packet_probe.specs.Value.{IsPacket}
-use Rattle.packet_probe.specs.declared.packet.Fate.{Fate}
-use Rattle.packet_probe.specs.declared.packet.Packet.{Packet}
+use Rattle.packet_probe.specs.{Value.IsPacket, declared.packet.{Fate.Fate, Packet.Packet}}
 use Rattle.plugin_base.specs.Shapes.{masquerade_of, masquerade_out, masquerade_rules, no_masquerade_in_subnet}
 use Rattle.plugin_base.specs.Share.{share_of}
 use Rattle.plugin_chain.specs.Wanted.{given_by_list, sets_of}
 use Rattle.pod_workers.specs.declared.plan.Plan.{Plan}
 use Rattle.pod_laws.specs.AskedFor.{IsPart}
 use Rattle.pod_laws.proofs.Parts.{among-part, part-drops}
-use Rattle.packet_laws.specs.Complete.{IsAttached}
-use Rattle.packet_laws.specs.Packets.{IsMasqueradedAsListed, IsOnlyLessee, has_ip_masq, is_outward}
-use Rattle.packet_laws.proofs.Equal.{addr-itself, rule-same, rules_once}
-use Rattle.packet_laws.proofs.Lists.{among-any, among-filter, among-map, any-found, filter-among, find-filter, map-among, part-whole}
-use Rattle.packet_laws.proofs.MasqRules.{inner-from, outer-from, says, says-masq, source_in}
-use Rattle.packet_laws.proofs.PluginRules.{IsMasqRule, is_in, masq-rule}
-use Rattle.packet_laws.proofs.Settled.{IsRuleOf, IsSettled, IsSettledFor, lessee, rule-of, rules_for}
-use Rattle.packet_laws.proofs.WantedRules.{masq-wanted}
-use Rattle.packet_laws.proofs.Ways.{IsOnItsWay, dst-moved, masqueraded-moved, moved, on_its_way, one-moved}
+use Rattle.packet_laws.specs.{Complete.IsAttached, Packets.{IsMasqueradedAsListed, IsOnlyLessee, has_ip_masq}}
+use Rattle.packet_laws.specs.Packets.{is_outward}
+use Rattle.packet_laws.proofs.{Equal.{addr-itself, rule-same, rules_once}, Lists.{among-any, among-filter, among-map}}
+use Rattle.packet_laws.proofs.Lists.{any-found, filter-among, find-filter, map-among, part-whole}
+use Rattle.packet_laws.proofs.{MasqRules.{inner-from, outer-from, says, says-masq, source_in}, PluginRules.IsMasqRule}
+use Rattle.packet_laws.proofs.{PluginRules.{is_in, masq-rule}, Settled.{IsRuleOf, IsSettled, IsSettledFor, lessee}}
+use Rattle.packet_laws.proofs.{Settled.{rule-of, rules_for}, WantedRules.masq-wanted, Ways.{IsOnItsWay, dst-moved}}
+use Rattle.packet_laws.proofs.Ways.{masqueraded-moved, moved, on_its_way, one-moved}
 
 -- ---- leases
 

@@ -1,17 +1,12 @@
 -- In a complete host of a legal history each packet goes as the cached results say.
 use Rattle.host_local.specs.Laws.{CandidatesAreGiven}
 use Rattle.kernel_types.specs.declared.object.Host.{Host}
-use Rattle.packet_probe.specs.Value.{IsPacket}
-use Rattle.packet_probe.specs.declared.packet.Packet.{Packet}
+use Rattle.packet_probe.specs.{Value.IsPacket, declared.packet.Packet.Packet}
 use Rattle.pod_laws.specs.Guaranteed.{EveryLegalHistoryIsGuaranteed}
-use Rattle.pod_workers.specs.World.{host_of}
-use Rattle.pod_workers.specs.declared.plan.Plan.{Plan}
+use Rattle.pod_workers.specs.{World.host_of, declared.plan.Plan.Plan}
 use Rattle.packet_laws.specs.Packets.{EveryPacketGoesAsCached, GoesAsCached}
-use Rattle.packet_laws.proofs.Accepting.{accepted-as_cached}
-use Rattle.packet_laws.proofs.LegalHosts.{settled}
-use Rattle.packet_laws.proofs.Masquerading.{masqueraded-as_listed}
-use Rattle.packet_laws.proofs.Rewriting.{rewritten-as_published}
-use Rattle.packet_laws.proofs.Settled.{IsSettled}
+use Rattle.packet_laws.proofs.{Accepting.accepted-as_cached, LegalHosts.settled, Masquerading.masqueraded-as_listed}
+use Rattle.packet_laws.proofs.{Rewriting.rewritten-as_published, Settled.IsSettled}
 
 goes : CandidatesAreGiven → (p : Plan) (host : Host) → IsSettled p host → (packet : Packet) → IsPacket packet → GoesAsCached p host packet
 goes law p host s packet one = record {

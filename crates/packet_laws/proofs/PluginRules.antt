@@ -1,27 +1,22 @@
 -- The rules of the plugins: in which chains they stand, and which there are.
-use Rattle.std.proofs.Common.{◌≡◌, ◌⊎◌, Bool, true, false, List, [], ◌∷◌, Option, Some, None, refl, sym, ◌∙◌, subst, inl, inr}
-use Rattle.std.specs.Prelude.{◌||◌, flat_map, if◌then◌else◌}
-use Rattle.std.specs.List.{list_all}
-use Rattle.cni_addr.specs.Lists.{IsAmong, each_key_once}
-use Rattle.cni_addr.specs.declared.address.Addr.{Addr}
-use Rattle.cni_addr.specs.declared.address.Family.{Family}
+use Rattle.std.proofs.Common.{◌≡◌, ◌⊎◌, Bool, true, false, List, [], ◌∷◌, Option, Some, None, refl, sym, ◌∙◌, subst}
+use Rattle.std.proofs.Common.{inl, inr}
+use Rattle.std.specs.{List.list_all, Prelude.{◌||◌, flat_map, if◌then◌else◌}}
+use Rattle.cni_addr.specs.{Lists.{IsAmong, each_key_once}, declared.address.{Addr.Addr, Family.Family}}
 use Rattle.cni_addr.specs.declared.address.Family.TheVariants.{V4, V6}
-use Rattle.cni_result.specs.declared.cached.PortMapping.{PortMapping}
-use Rattle.cni_result.specs.declared.result.IpEntry.{IpEntry}
+use Rattle.cni_result.specs.declared.{cached.PortMapping.PortMapping, result.IpEntry.IpEntry}
 use Rattle.firewall_tuning.specs.Firewall.{accept_from, accept_replies_to, firewall_rules, forward_of}
-use Rattle.kernel_types.specs.Equal.{chain_eq, rule_eq}
-use Rattle.kernel_types.specs.declared.call.Given.{Given}
-use Rattle.kernel_types.specs.declared.object.Att.{Att}
-use Rattle.kernel_types.specs.declared.rule.Chain.{Chain}
-use Rattle.kernel_types.specs.declared.rule.Chain.TheVariants as chains
+use Rattle.kernel_types.specs.{Equal.{chain_eq, rule_eq}, declared.{call.Given.Given, object.Att.Att, rule.Chain.Chain}}
 use Rattle.kernel_types.specs.declared.rule.Rule.{Rule}
+use Rattle.kernel_types.specs.declared.rule.Chain.TheVariants as chains
 use Rattle.net_conf.specs.declared.chained.PortmapConf.{PortmapConf}
-use Rattle.plugin_base.specs.Families.{first_of_family}
-use Rattle.plugin_base.specs.Shapes.{masquerade_of, masquerade_out, masquerade_rules, no_masquerade_in_subnet}
+use Rattle.plugin_base.specs.{Families.first_of_family, Shapes.{masquerade_of, masquerade_out, masquerade_rules}}
+use Rattle.plugin_base.specs.Shapes.{no_masquerade_in_subnet}
 use Rattle.plugin_base.proofs.KeyLists.{list_all-append, list_all-each_key_once, list_all-flat, list_all-if}
-use Rattle.portmap.specs.Portmap.{dnat_of, from_host, host_ip_allows, mapping_rules, masquerades_of, portmap_rules, rules_for}
-use Rattle.packet_laws.proofs.Equal.{rule-same, rules_once}
-use Rattle.packet_laws.proofs.Lists.{among-either, among-flat, among-left, among-right, any-same, flat-among, same-any}
+use Rattle.portmap.specs.Portmap.{dnat_of, from_host, host_ip_allows, mapping_rules, masquerades_of, portmap_rules}
+use Rattle.portmap.specs.Portmap.{rules_for}
+use Rattle.packet_laws.proofs.{Equal.{rule-same, rules_once}, Lists.{among-either, among-flat, among-left, among-right}}
+use Rattle.packet_laws.proofs.Lists.{any-same, flat-among, same-any}
 
 abbrev pub is_in : Chain → Rule → Bool
 is_in chain r = chain_eq r.chain chain

@@ -1,32 +1,23 @@
 -- A packet is sent on as its port is published.
 use Rattle.std.proofs.Common.{◌≡◌, Bool, true, false, List, ◌∷◌, ◌++◌, Option, Some, None, refl, sym, ◌∙◌, ap, subst}
-use Rattle.std.proofs.lemmas.Bool.{and_from, and_parts, both_ways}
-use Rattle.std.proofs.lemmas.Option.{none-some, same_Some}
-use Rattle.std.specs.Prelude.{if◌then◌else◌}
-use Rattle.std.specs.List.{list_any}
-use Rattle.std.specs.Option.{option_and_then, option_map, option_map_or}
-use Rattle.cni_addr.specs.Lists.{IsAmong}
-use Rattle.cni_addr.specs.declared.address.Addr.{Addr}
-use Rattle.cni_addr.specs.declared.address.Family.{Family}
+use Rattle.std.proofs.lemmas.{Bool.{and_from, and_parts, both_ways}, Option.{none-some, same_Some}}
+use Rattle.std.specs.{List.list_any, Option.{option_and_then, option_map, option_map_or}, Prelude.if◌then◌else◌}
+use Rattle.cni_addr.specs.{Lists.IsAmong, declared.address.{Addr.Addr, Family.Family}}
 use Rattle.cni_addr.proofs.Networks.{family_eq-true}
 use Rattle.cni_result.specs.declared.result.IpEntry.{IpEntry}
 use Rattle.cni_verbs.specs.Questions.{addresses_of_result}
-use Rattle.kernel_types.specs.Equal.{addr_eq, chain_eq, family_eq}
-use Rattle.kernel_types.specs.declared.object.Host.{Host}
+use Rattle.kernel_types.specs.{Equal.{addr_eq, chain_eq, family_eq}, declared.{object.Host.Host, rule.Rule.Rule}}
 use Rattle.kernel_types.specs.declared.rule.Chain.TheVariants as chains
-use Rattle.kernel_types.specs.declared.rule.Rule.{Rule}
 use Rattle.packet_probe.specs.Fate.{asks, fate_at, fate_of, first_match, matches, matches_in, sent_by}
-use Rattle.packet_probe.specs.declared.packet.Fate.{Fate}
-use Rattle.packet_probe.specs.declared.packet.Packet.{Packet}
+use Rattle.packet_probe.specs.declared.packet.{Fate.Fate, Packet.Packet}
 use Rattle.plugin_base.specs.Families.{first_of_family, is_of_family}
 use Rattle.plugin_chain.specs.Wanted.{given_by_list}
 use Rattle.pod_workers.specs.declared.plan.Plan.{Plan}
 use Rattle.portmap.specs.Portmap.{dnat_of, host_ip_allows}
-use Rattle.packet_laws.specs.Packets.{IsPublished, IsRewrittenAsPublished, PublishedPort, has_ip_masq, is_for, left, rule_by, sent}
-use Rattle.packet_laws.proofs.Equal.{addr-same, chain-same, family-itself}
-use Rattle.packet_laws.proofs.Lists.{among-any, any-found, first-among, first-found}
-use Rattle.packet_laws.proofs.Matching.{dnat-matches}
-use Rattle.packet_laws.proofs.Settled.{IsSettled, rule-of}
+use Rattle.packet_laws.specs.Packets.{IsPublished, IsRewrittenAsPublished, PublishedPort, has_ip_masq, is_for, left}
+use Rattle.packet_laws.specs.Packets.{rule_by, sent}
+use Rattle.packet_laws.proofs.{Equal.{addr-same, chain-same, family-itself}, Lists.{among-any, any-found, first-among}}
+use Rattle.packet_laws.proofs.{Lists.first-found, Matching.dnat-matches, Settled.{IsSettled, rule-of}}
 use Rattle.packet_laws.proofs.WantedRules.{dnat-wanted, wanted-dnat}
 
 -- ---- the first address of a family

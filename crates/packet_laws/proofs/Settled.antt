@@ -2,36 +2,23 @@
 -- follows from that alone.
 use Rattle.std.proofs.Common.{◌≡◌, Bool, true, false, List, [], ◌∷◌, Some, refl, ap, inl, inr, arith}
 use Rattle.std.proofs.lemmas.Option.{none-some, same_Some}
-use Rattle.std.specs.Prelude.{find, if◌then◌else◌}
-use Rattle.std.specs.List.{list_any}
-use Rattle.std.specs.Option.{option_map}
+use Rattle.std.specs.{List.list_any, Option.option_map, Prelude.{find, if◌then◌else◌}}
 use Rattle.cni_addr.specs.Lists.{IsAmong}
-use Rattle.cni_result.specs.declared.cached.Cached.{Cached}
-use Rattle.cni_result.specs.declared.cached.PortMapping.{PortMapping}
-use Rattle.cni_verbs.specs.Mappings.{takes_mappings}
-use Rattle.cni_verbs.specs.Questions.{addresses_of_result}
+use Rattle.cni_result.specs.declared.cached.{Cached.Cached, PortMapping.PortMapping}
+use Rattle.cni_verbs.specs.{Mappings.takes_mappings, Questions.addresses_of_result}
 use Rattle.host_local.specs.Laws.{AreCandidates}
-use Rattle.kernel_types.specs.Sound.{IsSound}
-use Rattle.kernel_types.specs.Terms.{cached_in, has_objects, is_own, is_owned}
-use Rattle.kernel_types.specs.declared.object.Att.{Att}
-use Rattle.kernel_types.specs.declared.object.CachedObj.{CachedObj}
-use Rattle.kernel_types.specs.declared.object.Host.{Host}
-use Rattle.kernel_types.specs.declared.object.Lease.{Lease}
-use Rattle.kernel_types.specs.declared.object.Tag.{Tag}
-use Rattle.kernel_types.specs.declared.object.Tag.TheVariants.{Outside, Base, Own}
-use Rattle.kernel_types.specs.declared.rule.Rule.{Rule}
-use Rattle.kernel_types.proofs.Cases.{own-own}
-use Rattle.kernel_types.proofs.Isolation.{att_eq-same}
+use Rattle.kernel_types.specs.{Sound.IsSound, Terms.{cached_in, has_objects, is_own, is_owned}, declared.object.Att.Att}
+use Rattle.kernel_types.specs.declared.object.{CachedObj.CachedObj, Host.Host, Lease.Lease, Tag.Tag}
+use Rattle.kernel_types.specs.declared.{object.Tag.TheVariants.{Outside, Base, Own}, rule.Rule.Rule}
+use Rattle.kernel_types.proofs.{Cases.own-own, Isolation.att_eq-same}
 use Rattle.net_conf.specs.declared.list.NetList.{NetList}
 use Rattle.plugin_base.specs.Share.{share_of}
 use Rattle.plugin_chain.specs.Wanted.{given_by_list, sets_of}
 use Rattle.pod_workers.specs.declared.plan.Plan.{Plan}
 use Rattle.pod_laws.specs.AskedFor.{IsPart}
 use Rattle.pod_laws.proofs.Parts.{among-part}
-use Rattle.packet_laws.specs.Complete.{IsAttached, wanted_of}
-use Rattle.packet_laws.specs.Packets.{has_ip_masq}
-use Rattle.packet_laws.proofs.Lists.{all-among, among-any, filter-among}
-use Rattle.packet_laws.proofs.WantedRules.{rules_by}
+use Rattle.packet_laws.specs.{Complete.{IsAttached, wanted_of}, Packets.has_ip_masq}
+use Rattle.packet_laws.proofs.{Lists.{all-among, among-any, filter-among}, WantedRules.rules_by}
 
 -- ---- a settled host
 

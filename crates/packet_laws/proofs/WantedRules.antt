@@ -1,36 +1,26 @@
 -- The rules that the plugins of a list want, by their chains.
 use Rattle.std.proofs.Common.{◌≡◌, Bool, true, false, List, ◌++◌, Some, refl, ◌∙◌, ap, ap₂, inl, inr, arith}
-use Rattle.std.proofs.lemmas.Bool.{both_ways}
-use Rattle.std.proofs.lemmas.List.{append-nil}
-use Rattle.std.proofs.lemmas.List.Elements.{filter-append}
-use Rattle.std.specs.Prelude.{◌||◌, filter, flat_map}
-use Rattle.std.specs.List.{list_all, list_any}
-use Rattle.cni_addr.specs.Lists.{IsAmong}
-use Rattle.cni_addr.specs.declared.address.Family.{Family}
-use Rattle.cni_result.specs.declared.cached.PortMapping.{PortMapping}
-use Rattle.cni_result.specs.declared.result.IpEntry.{IpEntry}
+use Rattle.std.proofs.lemmas.{Bool.both_ways, List.{append-nil, Elements.filter-append}}
+use Rattle.std.specs.{List.{list_all, list_any}, Prelude.{◌||◌, filter, flat_map}}
+use Rattle.cni_addr.specs.{Lists.IsAmong, declared.address.Family.Family}
+use Rattle.cni_result.specs.declared.{cached.PortMapping.PortMapping, result.IpEntry.IpEntry}
 use Rattle.cni_verbs.specs.Mappings.{takes_mappings}
 use Rattle.firewall_tuning.specs.Firewall.{accept_from, accept_replies_to, firewall_rules}
-use Rattle.kernel_types.specs.Equal.{chain_eq}
-use Rattle.kernel_types.specs.declared.call.Given.{Given}
-use Rattle.kernel_types.specs.declared.object.Att.{Att}
-use Rattle.kernel_types.specs.declared.rule.Chain.{Chain}
-use Rattle.kernel_types.specs.declared.rule.Chain.TheVariants as chains
+use Rattle.kernel_types.specs.{Equal.chain_eq, declared.{call.Given.Given, object.Att.Att, rule.Chain.Chain}}
 use Rattle.kernel_types.specs.declared.rule.Rule.{Rule}
+use Rattle.kernel_types.specs.declared.rule.Chain.TheVariants as chains
 use Rattle.kernel_types.proofs.ListLemmas.{filter_never, list_all-weaker}
-use Rattle.net_conf.specs.declared.chained.Chained.{Chained}
-use Rattle.net_conf.specs.declared.chained.Chained.TheVariants.{Portmap, Firewall, Tuning}
-use Rattle.net_conf.specs.declared.first.First.{First}
-use Rattle.net_conf.specs.declared.first.First.TheVariants.{Bridge, Ptp, Macvlan}
-use Rattle.plugin_base.specs.Families.{first_of_family}
-use Rattle.plugin_base.specs.Shapes.{masquerade_rules}
+use Rattle.net_conf.specs.declared.chained.Chained.{Chained, TheVariants.{Portmap, Firewall, Tuning}}
+use Rattle.net_conf.specs.declared.first.First.{First, TheVariants.{Bridge, Ptp, Macvlan}}
+use Rattle.plugin_base.specs.{Families.first_of_family, Shapes.masquerade_rules}
 use Rattle.plugin_base.proofs.KeyLists.{list_all-flat}
-use Rattle.plugin_chain.specs.Plugins.{chained_plugin_of, plugin_of}
-use Rattle.plugin_chain.specs.Wanted.{rules_of}
+use Rattle.plugin_chain.specs.{Plugins.{chained_plugin_of, plugin_of}, Wanted.rules_of}
 use Rattle.portmap.specs.Portmap.{dnat_of, host_ip_allows, portmap_rules}
 use Rattle.packet_laws.specs.Packets.{has_ip_masq, is_firewall}
-use Rattle.packet_laws.proofs.Lists.{all-among, among-any, among-either, among-flat, among-right, any-among, filter-all, flat-among}
-use Rattle.packet_laws.proofs.PluginRules.{IsDnatRule, IsForwardRule, dnat-rule, dnat-there, firewall-chains, forward-rule, from-there, is_in, is_of_port, masquerade-chains, portmap-chains, replies-there}
+use Rattle.packet_laws.proofs.Lists.{all-among, among-any, among-either, among-flat, among-right, any-among, filter-all}
+use Rattle.packet_laws.proofs.{Lists.flat-among, PluginRules.{IsDnatRule, IsForwardRule, dnat-rule, dnat-there}}
+use Rattle.packet_laws.proofs.PluginRules.{firewall-chains, forward-rule, from-there, is_in, is_of_port}
+use Rattle.packet_laws.proofs.PluginRules.{masquerade-chains, portmap-chains, replies-there}
 
 -- ---- all rules of an attachment
 

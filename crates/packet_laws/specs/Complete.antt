@@ -3,17 +3,14 @@ use Rattle.std.specs.Prelude.{◌≡◌, true, Some, is_some}
 use Rattle.cni_result.specs.declared.cached.Cached.{Cached}
 use Rattle.cni_errors.specs.CommandFields.{att_of}
 use Rattle.cni_verbs.specs.Questions.{addresses_of_result}
-use Rattle.kernel_types.specs.Equal.{lease_eq, rule_eq}
-use Rattle.kernel_types.specs.Terms.{cached_in, has_objects}
-use Rattle.kernel_types.specs.declared.object.Att.{Att}
+use Rattle.kernel_types.specs.{Equal.{lease_eq, rule_eq}, Terms.{cached_in, has_objects}, declared.object.Att.Att}
 use Rattle.kernel_types.specs.declared.object.Host.{Host}
 use Rattle.net_conf.specs.declared.list.NetList.{NetList}
 use Rattle.plugin_base.specs.Share.{Share}
 use Rattle.plugin_chain.specs.Wanted.{wanted}
 use Rattle.pod_file.specs.declared.command.Command.{Command}
 use Rattle.pod_laws.specs.Checked.{are_in, holds_cached}
-use Rattle.pod_workers.specs.Plans.{list_named}
-use Rattle.pod_workers.specs.declared.plan.Plan.{Plan}
+use Rattle.pod_workers.specs.{Plans.list_named, declared.plan.Plan.Plan}
 
 -- ---- cached results
 

@@ -1,41 +1,21 @@
 -- Packets go as the cached results say: to published ports, out of networks that masquerade, and through to containers
 -- with `firewall`.
-use Rattle.std.specs.Prelude.{◌≡◌, ◌==◌, Bool, true, false, not, ◌&&◌, ◌||◌, List, [], ◌∷◌, ◌++◌, find, filter, Some, unwrap_or, option_map}
-use Rattle.std.specs.List.{list_any}
-use Rattle.std.specs.Option.{option_map_or}
-use Rattle.cni_addr.specs.Lists.{IsAmong}
-use Rattle.cni_addr.specs.Network.{contains}
-use Rattle.cni_addr.specs.declared.address.Addr.{Addr}
-use Rattle.cni_result.specs.declared.cached.Cached.{Cached}
-use Rattle.cni_result.specs.declared.cached.PortMapping.{PortMapping}
-use Rattle.cni_verbs.specs.Mappings.{takes_mappings}
-use Rattle.cni_verbs.specs.Questions.{addresses_of_result}
-use Rattle.kernel_types.specs.Equal.{addr_eq, proto_eq}
-use Rattle.kernel_types.specs.Terms.{lease_of}
-use Rattle.kernel_types.specs.declared.call.Given.{Given}
-use Rattle.kernel_types.specs.declared.object.Att.{Att}
-use Rattle.kernel_types.specs.declared.object.CachedObj.{CachedObj}
-use Rattle.kernel_types.specs.declared.object.Host.{Host}
-use Rattle.kernel_types.specs.declared.object.Tag.{Tag}
-use Rattle.kernel_types.specs.declared.object.Tag.TheVariants.{Outside, Base, Own}
+use Rattle.std.specs.{List.list_any, Option.option_map_or, Prelude.{◌≡◌, ◌==◌, Bool, true, false, not, ◌&&◌, ◌||◌}}
+use Rattle.std.specs.Prelude.{List, [], ◌∷◌, ◌++◌, find, filter, Some, unwrap_or, option_map}
+use Rattle.cni_addr.specs.{Lists.IsAmong, Network.contains, declared.address.Addr.Addr}
+use Rattle.cni_result.specs.declared.cached.{Cached.Cached, PortMapping.PortMapping}
+use Rattle.cni_verbs.specs.{Mappings.takes_mappings, Questions.addresses_of_result}
+use Rattle.kernel_types.specs.{Equal.{addr_eq, proto_eq}, Terms.lease_of, declared.{call.Given.Given, object.Att.Att}}
+use Rattle.kernel_types.specs.declared.object.{CachedObj.CachedObj, Host.Host, Tag.{Tag, TheVariants.{Outside, Base}}}
+use Rattle.kernel_types.specs.declared.{object.Tag.TheVariants.Own, rule.Rule.Rule}
 use Rattle.kernel_types.specs.declared.rule.Chain.TheVariants as chains
-use Rattle.kernel_types.specs.declared.rule.Rule.{Rule}
-use Rattle.net_conf.specs.declared.chained.Chained.{Chained}
-use Rattle.net_conf.specs.declared.chained.Chained.TheVariants.{Portmap, Firewall, Tuning}
-use Rattle.net_conf.specs.declared.first.First.{First}
-use Rattle.net_conf.specs.declared.first.First.TheVariants.{Bridge, Ptp, Macvlan}
-use Rattle.net_conf.specs.declared.list.NetList.{NetList}
-use Rattle.packet_probe.specs.Fate.{any_match, asks, fate_of, rewriting}
-use Rattle.packet_probe.specs.Value.{IsPacket}
-use Rattle.packet_probe.specs.declared.packet.Fate.{Fate}
+use Rattle.net_conf.specs.declared.chained.Chained.{Chained, TheVariants.{Portmap, Firewall, Tuning}}
+use Rattle.net_conf.specs.declared.{first.First.{First, TheVariants.{Bridge, Ptp, Macvlan}}, list.NetList.NetList}
+use Rattle.packet_probe.specs.{Fate.{any_match, asks, fate_of, rewriting}, Value.IsPacket, declared.packet.Fate.Fate}
 use Rattle.packet_probe.specs.declared.packet.Packet.{Packet}
-use Rattle.plugin_base.specs.Families.{first_of_family}
-use Rattle.plugin_base.specs.Shapes.{multicast}
+use Rattle.plugin_base.specs.{Families.first_of_family, Shapes.multicast}
 use Rattle.plugin_chain.specs.Wanted.{given_by_list}
-use Rattle.pod_workers.specs.Legal.{Legal}
-use Rattle.pod_workers.specs.Plans.{list_named}
-use Rattle.pod_workers.specs.World.{World, host_of}
-use Rattle.pod_workers.specs.declared.plan.Plan.{Plan}
+use Rattle.pod_workers.specs.{Legal.Legal, Plans.list_named, World.{World, host_of}, declared.plan.Plan.Plan}
 use Rattle.portmap.specs.Portmap.{dnat_of}
 use Rattle.packet_laws.specs.Complete.{IsAttached, IsComplete}
 

@@ -1,22 +1,17 @@
 -- What rules that are filed by their keys tell.
-use Rattle.std.proofs.Common.{◌≡◌, ℕ, ◌+◌, ◌≤◌, Bool, true, false, cond, List, [], ◌∷◌, ◌++◌, length, Option, Some, None, refl, sym, ap, ◌∙◌, subst, arith}
+use Rattle.std.proofs.Common.{◌≡◌, ℕ, ◌+◌, ◌≤◌, Bool, true, false, cond, List, [], ◌∷◌, ◌++◌, length, Option, Some}
+use Rattle.std.proofs.{Common.{None, refl, sym, ap, ◌∙◌, subst, arith}, lemmas.Bool.{and_right, cond-true, or_parts}}
+use Rattle.std.specs.{Cmp.{Equal-is, tied_then}, List.{list_all, list_any, position_or_len}, Ordering.is_eq}
 use Rattle.std.specs.Prelude.{◌&&◌, ◌||◌, min, is_some, unwrap_or, position, if◌then◌else◌}
-use Rattle.std.specs.Cmp.{Equal-is, tied_then}
-use Rattle.std.specs.List.{list_all, list_any, position_or_len}
-use Rattle.std.specs.Ordering.{is_eq}
 use Rattle.std.specs.declared.cmp.Ordering.TheVariants.{Equal}
-use Rattle.std.proofs.lemmas.Bool.{and_right, cond-true, or_parts}
 use Rattle.kernel_types.proofs.ListLemmas.{list_all-push, list_all-weaker}
-use Rattle.kernel_types.specs.declared.rule.Chain.{Chain}
-use Rattle.kernel_types.specs.declared.rule.Rule.{Rule}
-use Rattle.packet_probe.proofs.KindMatches.{matches_in-kind}
-use Rattle.packet_probe.proofs.KindOrder.{exact_key, exact_kind, kind-itself}
-use Rattle.packet_probe.proofs.Places.{place-alike, place-among, place-either, place-none, position-push, unwrap_or-position}
-use Rattle.packet_probe.specs.Fate.{matches_in}
-use Rattle.packet_probe.specs.Filed.{HasFirsts, HasKinds, IsFiled, first_with, is_found_at}
-use Rattle.packet_probe.specs.Kinds.{Key, admits, has_key, key_cmp, key_of, kind_cmp, kind_of, values_at, values_cmp, values_of}
-use Rattle.packet_probe.specs.declared.kinds.Kind.{Kind}
-use Rattle.packet_probe.specs.declared.packet.Packet.{Packet}
+use Rattle.kernel_types.specs.declared.rule.{Chain.Chain, Rule.Rule}
+use Rattle.packet_probe.proofs.{KindMatches.matches_in-kind, KindOrder.{exact_key, exact_kind, kind-itself}}
+use Rattle.packet_probe.proofs.Places.{place-alike, place-among, place-either, place-none, position-push}
+use Rattle.packet_probe.proofs.Places.{unwrap_or-position}
+use Rattle.packet_probe.specs.{Fate.matches_in, Filed.{HasFirsts, HasKinds, IsFiled, first_with, is_found_at}}
+use Rattle.packet_probe.specs.Kinds.{Key, admits, has_key, key_cmp, key_of, kind_cmp, kind_of, values_at, values_cmp}
+use Rattle.packet_probe.specs.{Kinds.values_of, declared.{kinds.Kind.Kind, packet.Packet.Packet}}
 
 -- ---- one rule more
 

@@ -1,13 +1,9 @@
 -- What the first rule that matches says.
 use Rattle.std.proofs.Common.{◌≡◌, Bool, true, List, [], ◌∷◌, Option, Some, None, refl, sym, ap, ◌∙◌, arith}
-use Rattle.std.specs.Prelude.{◌&&◌, find, is_some}
-use Rattle.std.specs.List.{list_any}
-use Rattle.std.specs.Option.{option_copied}
 use Rattle.std.proofs.lemmas.Bool.{and_parts}
+use Rattle.std.specs.{List.list_any, Option.option_copied, Prelude.{◌&&◌, find, is_some}}
 use Rattle.kernel_types.proofs.ListLemmas.{passes-find}
-use Rattle.kernel_types.specs.Equal.{chain_eq}
-use Rattle.kernel_types.specs.declared.rule.Chain.{Chain}
-use Rattle.kernel_types.specs.declared.rule.Rule.{Rule}
+use Rattle.kernel_types.specs.{Equal.chain_eq, declared.rule.{Chain.Chain, Rule.Rule}}
 use Rattle.packet_probe.specs.Fate.{fits_use, fits_way, first_match, leads_into, matches, matches_in, speaks_of}
 use Rattle.packet_probe.specs.declared.packet.Packet.{Packet}
 use denote.Ref.{Bor}

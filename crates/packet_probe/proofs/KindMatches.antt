@@ -1,30 +1,19 @@
 -- A packet matches a rule where the rule's kind admits it and it has the rule's values at that kind.
 use Rattle.std.proofs.Common.{◌≡◌, ◌==◌, ◌&&◌, ◌||◌, ℕ, Bool, true, false, not, Option, Some, None, refl, sym, ap, ◌∙◌}
-use Rattle.std.specs.Prelude.{is_some, unwrap_or, if◌then◌else◌}
-use Rattle.std.specs.Cmp.{nat_eq_equiv}
-use Rattle.std.specs.Option.{option_map_or}
-use Rattle.std.specs.Ordering.{is_eq}
 use Rattle.std.proofs.lemmas.Bool.{and_right}
+use Rattle.std.specs.{Cmp.nat_eq_equiv, Option.option_map_or, Ordering.is_eq, Prelude.{is_some, unwrap_or}}
+use Rattle.std.specs.Prelude.{if◌then◌else◌}
 use Rattle.cni_addr.proofs.Networks.{family_eq-true}
-use Rattle.cni_addr.specs.Codes.{family_code, family_eq}
-use Rattle.cni_addr.specs.Network.{contains, network_bits}
-use Rattle.cni_addr.specs.declared.address.Addr.{Addr}
-use Rattle.cni_addr.specs.declared.address.Cidr.{Cidr}
-use Rattle.cni_addr.specs.declared.address.Family.{Family}
-use Rattle.cni_result.specs.Codes.{proto_code, proto_eq}
-use Rattle.cni_result.specs.declared.cached.Proto.{Proto}
-use Rattle.kernel_types.specs.Codes.{chain_code}
-use Rattle.kernel_types.specs.declared.rule.Chain.{Chain}
-use Rattle.kernel_types.specs.declared.rule.Rule.{Rule}
-use Rattle.kernel_types.specs.declared.rule.Target.{Target}
+use Rattle.cni_addr.specs.{Codes.{family_code, family_eq}, Network.{contains, network_bits}, declared.address.Addr.Addr}
+use Rattle.cni_addr.specs.declared.address.{Cidr.Cidr, Family.Family}
+use Rattle.cni_result.specs.{Codes.{proto_code, proto_eq}, declared.cached.Proto.Proto}
+use Rattle.kernel_types.specs.{Codes.chain_code, declared.rule.{Chain.Chain, Rule.Rule, Target.Target}}
 use Rattle.kernel_types.specs.declared.rule.Target.TheVariants as targets
-use Rattle.packet_probe.proofs.KindOrder.{values-tied}
-use Rattle.packet_probe.proofs.Networks.{contains-first_bits}
-use Rattle.packet_probe.specs.Fate.{asks, is_from, is_of_family, is_to, leads_into, matches_in}
-use Rattle.packet_probe.specs.Kinds.{admits, bits_at, bits_of, first_bits, inside, is_past, kind_of, network_in_numbers, outside, prefix_of, target_family, values_at, values_cmp, values_of}
-use Rattle.packet_probe.specs.declared.kinds.Network.{Network}
-use Rattle.packet_probe.specs.declared.kinds.Prefix.{Prefix}
-use Rattle.packet_probe.specs.declared.packet.Packet.{Packet}
+use Rattle.packet_probe.proofs.{KindOrder.values-tied, Networks.contains-first_bits}
+use Rattle.packet_probe.specs.{Fate.{asks, is_from, is_of_family, is_to, leads_into, matches_in}, Kinds.admits}
+use Rattle.packet_probe.specs.Kinds.{bits_at, bits_of, first_bits, inside, is_past, kind_of, network_in_numbers}
+use Rattle.packet_probe.specs.Kinds.{outside, prefix_of, target_family, values_at, values_cmp, values_of}
+use Rattle.packet_probe.specs.declared.{kinds.{Network.Network, Prefix.Prefix}, packet.Packet.Packet}
 
 -- ---- tests in another order
 

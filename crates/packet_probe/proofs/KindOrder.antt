@@ -1,17 +1,11 @@
 -- The order of kinds and values tells all apart.
 use Rattle.std.proofs.Common.{◌≡◌, ◌==◌, ◌&&◌, ℕ, Bool, true, false, Option, Some, None, refl, sym, ap, ◌∙◌}
-use Rattle.std.specs.Cmp.{both_tied, nat_cmp_total, unsigned_ties}
-use Rattle.std.specs.Option.{option_cmp}
-use Rattle.std.specs.Ordering.{bool_cmp, is_eq, nat_cmp, ordering_then}
-use Rattle.std.specs.declared.cmp.Ordering.{Ordering}
-use Rattle.std.specs.declared.cmp.Ordering.TheVariants.{Less, Equal, Greater}
-use Rattle.std.proofs.lemmas.Cmp.{tied_itself}
-use Rattle.std.proofs.lemmas.Map.Lookups.{CmpEqualImpliesEq, exact_unsigned}
+use Rattle.std.proofs.lemmas.{Cmp.tied_itself, Map.Lookups.{CmpEqualImpliesEq, exact_unsigned}}
+use Rattle.std.specs.{Cmp.{both_tied, nat_cmp_total, unsigned_ties}, Option.option_cmp, Ordering.{bool_cmp, is_eq}}
+use Rattle.std.specs.{Ordering.{nat_cmp, ordering_then}, declared.cmp.Ordering.{Ordering, TheVariants.{Less, Equal}}}
+use Rattle.std.specs.declared.cmp.Ordering.TheVariants.{Greater}
 use Rattle.packet_probe.specs.Kinds.{Key, key_cmp, kind_cmp, network_cmp, prefix_cmp, values_cmp}
-use Rattle.packet_probe.specs.declared.kinds.Kind.{Kind}
-use Rattle.packet_probe.specs.declared.kinds.Network.{Network}
-use Rattle.packet_probe.specs.declared.kinds.Prefix.{Prefix}
-use Rattle.packet_probe.specs.declared.kinds.Values.{Values}
+use Rattle.packet_probe.specs.declared.kinds.{Kind.Kind, Network.Network, Prefix.Prefix, Values.Values}
 
 -- ---- what compares as equal is equal
 

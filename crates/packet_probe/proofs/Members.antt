@@ -1,7 +1,6 @@
 -- How many members a list has.
 use Rattle.std.proofs.Common.{◌≡◌, List, [], ◌∷◌, length, refl, arith}
-use Rattle.serde_json.specs.View.{items_view}
-use Rattle.serde_json.specs.declared.value.Value.{Value}
+use Rattle.serde_json.specs.{View.items_view, declared.value.Value.Value}
 use Rattle.packet_probe.specs.PacketFile.{member_count}
 
 -- as many as the list of their values

@@ -1,15 +1,10 @@
 -- Networks by their first addresses.
-use Rattle.std.proofs.Common.{◌≡◌, ◌==◌, ◌&&◌, Bool, true, false, ℕ, ◌+◌, ◌-◌, ◌*◌, ◌/◌, ◌%◌, ◌^◌, ◌<◌, ◌≤◌, refl, sym, ap, ◌∙◌, arith}
+use Rattle.std.proofs.Common.{◌≡◌, ◌==◌, ◌&&◌, Bool, true, false, ℕ, ◌+◌, ◌-◌, ◌*◌, ◌/◌, ◌%◌, ◌^◌, ◌<◌, ◌≤◌, refl, sym}
+use Rattle.std.proofs.{Common.{ap, ◌∙◌, arith}, lemmas.{Bool.{and_parts, eq-eqb, eqb-true}, Nat.pow_pos}}
 use Rattle.std.specs.Prelude.{min}
-use Rattle.std.proofs.lemmas.Bool.{and_parts, eq-eqb, eqb-true}
-use Rattle.std.proofs.lemmas.Nat.{pow_pos}
 use Rattle.cni_addr.proofs.Networks.{contains_between}
-use Rattle.cni_addr.specs.Codes.{family_eq}
-use Rattle.cni_addr.specs.Network.{contains, last_of, network_bits, network_of, network_size}
-use Rattle.cni_addr.specs.Value.{longest_prefix}
-use Rattle.cni_addr.specs.declared.address.Addr.{Addr}
-use Rattle.cni_addr.specs.declared.address.Cidr.{Cidr}
-use Rattle.cni_addr.specs.declared.address.Family.{Family}
+use Rattle.cni_addr.specs.{Codes.family_eq, Network.{contains, last_of, network_bits, network_of, network_size}}
+use Rattle.cni_addr.specs.{Value.longest_prefix, declared.address.{Addr.Addr, Cidr.Cidr, Family.Family}}
 use Rattle.packet_probe.specs.Kinds.{first_bits}
 
 -- a prefix that is longer than the family's longest leaves no host bits either

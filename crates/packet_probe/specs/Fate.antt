@@ -1,21 +1,13 @@
 -- What becomes of a packet, by the rules of a host. This is this project's own, after iptables: a packet goes by the
 -- chains in the order of its way, and in a chain the first rule that matches decides.
-use Rattle.std.specs.Prelude.{ℕ, Bool, true, false, not, ◌&&◌, ◌||◌, ◌==◌, List, find, Option, Some, None, option_and_then, if◌then◌else◌}
-use Rattle.std.specs.List.{list_any}
-use Rattle.std.specs.Option.{option_map_or}
-use Rattle.cni_addr.specs.Network.{contains}
-use Rattle.cni_addr.specs.declared.address.Addr.{Addr}
-use Rattle.cni_addr.specs.declared.address.Cidr.{Cidr}
-use Rattle.cni_addr.specs.declared.address.Family.{Family}
-use Rattle.kernel_types.specs.Equal.{chain_eq, family_eq, proto_eq}
-use Rattle.kernel_types.specs.declared.object.Host.{Host}
-use Rattle.kernel_types.specs.declared.rule.Chain.{Chain}
+use Rattle.std.specs.{List.list_any, Option.option_map_or, Prelude.{ℕ, Bool, true, false, not, ◌&&◌, ◌||◌, ◌==◌, List}}
+use Rattle.std.specs.Prelude.{find, Option, Some, None, option_and_then, if◌then◌else◌}
+use Rattle.cni_addr.specs.{Network.contains, declared.address.{Addr.Addr, Cidr.Cidr, Family.Family}}
+use Rattle.kernel_types.specs.{Equal.{chain_eq, family_eq, proto_eq}, declared.{object.Host.Host, rule.Chain.Chain}}
+use Rattle.kernel_types.specs.declared.rule.{Rule.Rule, Target.Target}
 use Rattle.kernel_types.specs.declared.rule.Chain.TheVariants as chains
-use Rattle.kernel_types.specs.declared.rule.Rule.{Rule}
-use Rattle.kernel_types.specs.declared.rule.Target.{Target}
 use Rattle.kernel_types.specs.declared.rule.Target.TheVariants as targets
-use Rattle.packet_probe.specs.declared.packet.Fate.{Fate}
-use Rattle.packet_probe.specs.declared.packet.Packet.{Packet}
+use Rattle.packet_probe.specs.declared.packet.{Fate.Fate, Packet.Packet}
 
 -- ---- one rule
 

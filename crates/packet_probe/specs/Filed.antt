@@ -1,11 +1,8 @@
 -- Rules that are filed by their keys: for each key the place of the first rule that has it, and each kind.
-use Rattle.std.specs.Prelude.{◌≡◌, ℕ, ◌&&◌, Bool, true, List, Option, Some, is_some, position, if◌then◌else◌}
-use Rattle.std.specs.List.{list_all}
-use Rattle.std.specs.Ordering.{is_eq}
-use Rattle.kernel_types.specs.declared.rule.Chain.{Chain}
-use Rattle.kernel_types.specs.declared.rule.Rule.{Rule}
-use Rattle.packet_probe.specs.Kinds.{Key, admits, has_key, key_cmp, kind_of, values_at}
-use Rattle.packet_probe.specs.declared.kinds.Kind.{Kind}
+use Rattle.std.specs.{List.list_all, Ordering.is_eq, Prelude.{◌≡◌, ℕ, ◌&&◌, Bool, true, List, Option, Some, is_some}}
+use Rattle.std.specs.Prelude.{position, if◌then◌else◌}
+use Rattle.kernel_types.specs.declared.rule.{Chain.Chain, Rule.Rule}
+use Rattle.packet_probe.specs.{Kinds.{Key, admits, has_key, key_cmp, kind_of, values_at}, declared.kinds.Kind.Kind}
 use Rattle.packet_probe.specs.declared.packet.Packet.{Packet}
 
 -- the place is that of the first rule with the key

@@ -1,21 +1,15 @@
 -- A packet file, which is this project's own: a list of packets. A packet is wrong as a whole, whatever in it is.
-use Rattle.std.specs.Prelude.{ℕ, ◌+◌, ◌&&◌, List, [], length, codes, Bool, true, false, nat_le, nat_lt, if◌then◌else◌, Result, Ok, Err, ok_or}
+use Rattle.std.specs.Prelude.{ℕ, ◌+◌, ◌&&◌, List, [], length, codes, Bool, true, false, nat_le, nat_lt, if◌then◌else◌}
+use Rattle.std.specs.Prelude.{Result, Ok, Err, ok_or}
 use Rattle.serde_json.specs.Data.{Data, array, Items, no_items, item}
-use Rattle.cni_addr.specs.AddrText.{addr_of_text}
-use Rattle.cni_addr.specs.declared.address.Addr.{Addr}
-use Rattle.cni_json.specs.Each.{each_after}
-use Rattle.cni_json.specs.Fields.{text_field, bool_field, u64_field, member_or, object_or, needed, tested}
-use Rattle.cni_json.specs.Json.{json_of}
-use Rattle.cni_json.specs.Outcome.{◌>>=◌}
-use Rattle.cni_json.specs.declared.reading.ReadEnd.{ReadEnd}
+use Rattle.cni_addr.specs.{AddrText.addr_of_text, declared.address.Addr.Addr}
+use Rattle.cni_json.specs.{Each.each_after, Fields.{text_field, bool_field, u64_field, member_or, object_or, needed}}
+use Rattle.cni_json.specs.{Fields.tested, Json.json_of, Outcome.◌>>=◌, declared.reading.ReadEnd.ReadEnd}
 use Rattle.cni_json.specs.declared.reading.ReadEnd.TheVariants as ends
-use Rattle.cni_result.specs.Mappings.{proto_named}
-use Rattle.cni_result.specs.declared.cached.Proto.{Proto}
+use Rattle.cni_result.specs.{Mappings.proto_named, declared.cached.Proto.Proto}
 use Rattle.kernel_types.specs.Equal.{family_eq}
-use Rattle.packet_probe.specs.Refusals.{wrong}
-use Rattle.packet_probe.specs.declared.error.PacketsError.{PacketsError}
+use Rattle.packet_probe.specs.{Refusals.wrong, declared.{error.PacketsError.PacketsError, packet.Packet.Packet}}
 use Rattle.packet_probe.specs.declared.error.PacketsError.TheVariants as refusal
-use Rattle.packet_probe.specs.declared.packet.Packet.{Packet}
 
 -- ---- one packet, whose place is told where it is wrong; a member that is null is as an absent one
 

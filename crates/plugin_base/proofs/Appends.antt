@@ -1,28 +1,17 @@
 -- Calls of plugins append a share where each is the attachment's, and where they add it to every share.
-use Rattle.std.proofs.Common.{◌≡◌, Bool, true, ap, List, [], ◌∷◌, ◌++◌, map, refl, ◌∙◌, arith}
-use Rattle.std.specs.Prelude.{flat_map}
-use Rattle.std.specs.List.{list_all}
-use Rattle.std.proofs.lemmas.Bool.{and_parts}
-use Rattle.kernel_types.specs.Apply.{apply}
-use Rattle.kernel_types.specs.Equal.{rule_eq}
-use Rattle.kernel_types.specs.Terms.{is_own}
+use Rattle.std.proofs.{Common.{◌≡◌, Bool, true, ap, List, [], ◌∷◌, ◌++◌, map, refl, ◌∙◌, arith}, lemmas.Bool.and_parts}
+use Rattle.std.specs.{List.list_all, Prelude.flat_map}
+use Rattle.kernel_types.specs.{Apply.apply, Equal.rule_eq, Terms.is_own, declared.call.Call.{Call, TheVariants.AddrAdd}}
+use Rattle.kernel_types.specs.declared.call.{Call.TheVariants.{RouteAdd, RuleAppend}, Given.Given}
+use Rattle.kernel_types.specs.declared.{object.{AddrObj.AddrObj, Att.Att, Host.Host, RouteObj.RouteObj}, rule.Rule.Rule}
 use Rattle.kernel_types.proofs.Cases.{att_eq-refl}
-use Rattle.kernel_types.specs.declared.object.Att.{Att}
-use Rattle.kernel_types.specs.declared.object.AddrObj.{AddrObj}
-use Rattle.kernel_types.specs.declared.object.RouteObj.{RouteObj}
-use Rattle.kernel_types.specs.declared.rule.Rule.{Rule}
-use Rattle.kernel_types.specs.declared.object.Host.{Host}
-use Rattle.kernel_types.specs.declared.call.Call.{Call}
-use Rattle.kernel_types.specs.declared.call.Call.TheVariants.{AddrAdd, RouteAdd, RuleAppend}
-use Rattle.kernel_types.specs.declared.call.Given.{Given}
 use Rattle.plugin_base.specs.Calls.{is_plugin_call_of, AllDone, applied, AppendsShare}
-use Rattle.plugin_base.specs.Shapes.{masquerade_of, masquerade_rules}
-use Rattle.plugin_base.specs.PluginLaws.{ChainedChangeTheirShares, FirstsAppendTheirShares}
-use Rattle.plugin_base.specs.Plugins.{added_after, added_before}
-use Rattle.plugin_base.specs.Share.{Share, share_of, share_plus, share_after_calls}
-use Rattle.plugin_base.proofs.CallLists.{share_after_calls-then, share_after_calls-addresses, share_after_calls-routes, share_after_calls-shared_rules}
-use Rattle.plugin_base.proofs.KeyLists.{list_all-flat, list_all-if, list_all-each_key_once}
-use Rattle.plugin_base.proofs.OwnCalls.{share-own}
+use Rattle.plugin_base.specs.{PluginLaws.{ChainedChangeTheirShares, FirstsAppendTheirShares}, Plugins.added_after}
+use Rattle.plugin_base.specs.{Plugins.added_before, Shapes.{masquerade_of, masquerade_rules}, Share.{Share, share_of}}
+use Rattle.plugin_base.specs.Share.{share_plus, share_after_calls}
+use Rattle.plugin_base.proofs.CallLists.{share_after_calls-then, share_after_calls-addresses, share_after_calls-routes}
+use Rattle.plugin_base.proofs.{CallLists.share_after_calls-shared_rules, KeyLists.{list_all-flat, list_all-if}}
+use Rattle.plugin_base.proofs.{KeyLists.list_all-each_key_once, OwnCalls.share-own}
 
 -- ---- from the calls to the host
 

@@ -1,20 +1,13 @@
 -- What lists of calls add to a share.
 use Rattle.std.proofs.Common.{◌≡◌, Bool, true, false, ap, List, [], ◌∷◌, ◌++◌, map, refl, sym, ◌∙◌, append_assoc}
-use Rattle.std.proofs.lemmas.List.{append-nil}
-use Rattle.std.proofs.lemmas.List.Sums.{fold-append}
+use Rattle.std.proofs.lemmas.List.{append-nil, Sums.fold-append}
 use Rattle.std.specs.Prelude.{if◌then◌else◌}
 use Rattle.cni_addr.specs.declared.address.Family.TheVariants.{V4, V6}
-use Rattle.kernel_types.specs.declared.object.Link.{Link}
-use Rattle.kernel_types.specs.declared.object.AddrObj.{AddrObj}
-use Rattle.kernel_types.specs.declared.object.RouteObj.{RouteObj}
-use Rattle.kernel_types.specs.declared.rule.Rule.{Rule}
-use Rattle.kernel_types.specs.declared.object.Setting.{Setting}
-use Rattle.kernel_types.specs.declared.call.Call.{Call}
-use Rattle.kernel_types.specs.declared.call.Call.TheVariants.{ForwardEnsure, AddrAdd, RouteAdd, RuleAppend, SettingSet}
-use Rattle.kernel_types.specs.declared.call.Given.{Given}
-use Rattle.plugin_base.specs.Families.{has_family}
-use Rattle.plugin_base.specs.Shapes.{forward_for, forward_calls}
-use Rattle.plugin_base.specs.Share.{Share, no_objects, share_plus, share_after_call, share_after_calls}
+use Rattle.kernel_types.specs.declared.call.Call.{Call, TheVariants.{ForwardEnsure, AddrAdd, RouteAdd, RuleAppend}}
+use Rattle.kernel_types.specs.declared.{call.{Call.TheVariants.SettingSet, Given.Given}, object.AddrObj.AddrObj}
+use Rattle.kernel_types.specs.declared.{object.{Link.Link, RouteObj.RouteObj, Setting.Setting}, rule.Rule.Rule}
+use Rattle.plugin_base.specs.{Families.has_family, Shapes.{forward_for, forward_calls}, Share.{Share, no_objects}}
+use Rattle.plugin_base.specs.Share.{share_plus, share_after_call, share_after_calls}
 
 pub share_after_calls-append : (s : Share) (xs ys : List Call) → share_after_calls s (xs ++ ys) ≡ share_after_calls (share_after_calls s xs) ys
 share_after_calls-append s xs ys = fold-append share_after_call s xs ys

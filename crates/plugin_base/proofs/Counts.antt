@@ -1,17 +1,14 @@
 -- How many calls there are of a kind.
 use Rattle.std.proofs.Common.{ℕ, ◌*◌, ◌≤◌, Bool, true, false, List, [], ◌∷◌, map, length, arith, mul-suc}
-use Rattle.std.specs.Prelude.{flat_map, if◌then◌else◌}
 use Rattle.std.proofs.lemmas.List.{length-append, length-map}
-use Rattle.cni_addr.specs.Lists.{each_key_once}
-use Rattle.cni_addr.specs.declared.address.Family.TheVariants.{V4, V6}
+use Rattle.std.specs.Prelude.{flat_map, if◌then◌else◌}
+use Rattle.cni_addr.specs.{Lists.each_key_once, declared.address.Family.TheVariants.{V4, V6}}
 use Rattle.cni_result.specs.declared.result.RouteEntry.{RouteEntry}
-use Rattle.kernel_types.specs.Apply.Calls.{is_same_addr, is_same_route}
-use Rattle.kernel_types.specs.Equal.{rule_eq}
-use Rattle.kernel_types.specs.declared.object.Att.{Att}
+use Rattle.kernel_types.specs.{Apply.Calls.{is_same_addr, is_same_route}, Equal.rule_eq}
 use Rattle.kernel_types.specs.declared.call.Call.TheVariants.{AddrAdd, ForwardEnsure, RouteAdd, RuleAppend}
-use Rattle.kernel_types.specs.declared.call.Given.{Given}
-use Rattle.plugin_base.specs.Families.{has_family}
-use Rattle.plugin_base.specs.Shapes.{address_on, addresses_on, forward_calls, forward_for, masquerade_of, masquerade_rules, route_on, routes_on}
+use Rattle.kernel_types.specs.declared.{call.Given.Given, object.Att.Att}
+use Rattle.plugin_base.specs.{Families.has_family, Shapes.{address_on, addresses_on, forward_calls, forward_for}}
+use Rattle.plugin_base.specs.Shapes.{masquerade_of, masquerade_rules, route_on, routes_on}
 use Rattle.plugin_base.proofs.KeyLists.{length-each_key_once}
 
 -- so many for each

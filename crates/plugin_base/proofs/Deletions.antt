@@ -1,23 +1,13 @@
 -- What a deletion that finds nothing says, and what lies where an attachment has no link.
 use Rattle.std.proofs.Common.{◌≡◌, ℕ, Bool, true, false, cond, List, [], ◌∷◌, Option, Some, None, refl, arith}
-use Rattle.std.specs.Prelude.{filter, find, ◌||◌}
-use Rattle.std.specs.List.{list_any}
 use Rattle.std.proofs.lemmas.Bool.{true≢false, both_ways}
+use Rattle.std.specs.{List.list_any, Prelude.{filter, find, ◌||◌}}
 use Rattle.cni_addr.specs.Lists.{without_first}
-use Rattle.kernel_types.specs.Terms.{is_own, is_link_of}
-use Rattle.kernel_types.specs.Apply.Calls.{without_link}
-use Rattle.kernel_types.specs.Sound.{IsSound, address_fits_tag}
-use Rattle.kernel_types.proofs.Isolation.{is_own-one}
-use Rattle.kernel_types.proofs.ListLemmas.{filter_never, list_any-find_none, without_first-none}
+use Rattle.kernel_types.specs.{Apply.Calls.without_link, Sound.{IsSound, address_fits_tag}, Terms.{is_own, is_link_of}}
+use Rattle.kernel_types.specs.declared.{call.Reply.TheVariants.Gone, object.{AddrObj.AddrObj, Att.Att, Host.Host}}
+use Rattle.kernel_types.specs.declared.object.{Link.Link, RouteObj.RouteObj, Tag.{Tag, TheVariants.Own}}
+use Rattle.kernel_types.proofs.{Isolation.is_own-one, ListLemmas.{filter_never, list_any-find_none, without_first-none}}
 use Rattle.kernel_types.proofs.TouchRemoval.{by_bool}
-use Rattle.kernel_types.specs.declared.object.Att.{Att}
-use Rattle.kernel_types.specs.declared.object.Tag.{Tag}
-use Rattle.kernel_types.specs.declared.object.Tag.TheVariants.{Own}
-use Rattle.kernel_types.specs.declared.object.Link.{Link}
-use Rattle.kernel_types.specs.declared.object.AddrObj.{AddrObj}
-use Rattle.kernel_types.specs.declared.object.RouteObj.{RouteObj}
-use Rattle.kernel_types.specs.declared.object.Host.{Host}
-use Rattle.kernel_types.specs.declared.call.Reply.TheVariants.{Gone}
 use Rattle.plugin_base.specs.Share.{share_of}
 use Rattle.plugin_base.proofs.KeyLists.{filter-none}
 

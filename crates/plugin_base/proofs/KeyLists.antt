@@ -1,9 +1,7 @@
 -- Lists that are filtered, appended to, mapped and cut to one of each key.
 use Rattle.std.proofs.Common.{◌≡◌, Bool, true, false, List, [], ◌∷◌, ◌++◌, map, refl, ◌∙◌, arith}
-use Rattle.std.specs.Prelude.{filter, flat_map, if◌then◌else◌}
-use Rattle.std.specs.List.{list_any, list_all}
-use Rattle.std.proofs.lemmas.Bool.{and_parts}
-use Rattle.std.proofs.lemmas.List.Elements.{filter-append}
+use Rattle.std.proofs.lemmas.{Bool.and_parts, List.Elements.filter-append}
+use Rattle.std.specs.{List.{list_any, list_all}, Prelude.{filter, flat_map, if◌then◌else◌}}
 pub use Rattle.cni_addr.proofs.Lists.{filter-push_dropped, list_all-append}
 pub use Rattle.cni_addr.proofs.KeyLists.{distinct-each_key_once, length-each_key_once, list_all-each_key_once, list_any-each_key_once}
 

@@ -1,20 +1,14 @@
 -- A call of one attachment leaves the share of every other.
-use Rattle.std.proofs.Common.{◌≡◌, true, false, not, ◌&&◌, refl, ◌∙◌, ap}
-use Rattle.std.proofs.lemmas.Bool.{and_parts}
-use Rattle.kernel_types.specs.Allowed.{IsAllowed}
-use Rattle.kernel_types.specs.Apply.{apply}
-use Rattle.kernel_types.specs.Equal.{att_eq}
-use Rattle.kernel_types.specs.Isolation.{KeepsPart, names_att, is_from_outside}
-use Rattle.kernel_types.specs.Sound.{IsSound}
-use Rattle.kernel_types.specs.Terms.{is_own}
-use Rattle.kernel_types.proofs.EveryCall.{Touches-apply}
-use Rattle.kernel_types.proofs.Isolation.{KeepsPart-Touches, att_eq-same, own_apart}
-use Rattle.kernel_types.specs.declared.object.Att.{Att}
-use Rattle.kernel_types.specs.declared.object.Host.{Host}
-use Rattle.kernel_types.specs.declared.call.Call.{Call}
-use Rattle.kernel_types.specs.declared.call.Call.TheVariants.{Begin, BridgeEnsure, GatewayEnsure, ForwardEnsure, VethAdd, MacvlanAdd, LinkSet, AddrAdd, RouteAdd, RuleAppend, SettingSet, LeaseNext, CachePut, LinkDel, RuleDel, SettingDel, LeaseDel, CacheDel, CacheGet}
-use Rattle.plugin_base.specs.Calls.{is_beside_plugins, is_plugin_call_of, is_call_of}
-use Rattle.plugin_base.specs.Share.{share_of}
+use Rattle.std.proofs.{Common.{◌≡◌, true, false, not, ◌&&◌, refl, ◌∙◌, ap}, lemmas.Bool.and_parts}
+use Rattle.kernel_types.specs.{Allowed.IsAllowed, Apply.apply, Equal.att_eq, Isolation.{KeepsPart, names_att}}
+use Rattle.kernel_types.specs.{Isolation.is_from_outside, Sound.IsSound, Terms.is_own, declared.call.Call.Call}
+use Rattle.kernel_types.specs.declared.call.Call.TheVariants.{Begin, BridgeEnsure, GatewayEnsure, ForwardEnsure}
+use Rattle.kernel_types.specs.declared.call.Call.TheVariants.{VethAdd, MacvlanAdd, LinkSet, AddrAdd, RouteAdd}
+use Rattle.kernel_types.specs.declared.call.Call.TheVariants.{RuleAppend, SettingSet, LeaseNext, CachePut, LinkDel}
+use Rattle.kernel_types.specs.declared.call.Call.TheVariants.{RuleDel, SettingDel, LeaseDel, CacheDel, CacheGet}
+use Rattle.kernel_types.specs.declared.object.{Att.Att, Host.Host}
+use Rattle.kernel_types.proofs.{EveryCall.Touches-apply, Isolation.{KeepsPart-Touches, att_eq-same, own_apart}}
+use Rattle.plugin_base.specs.{Calls.{is_beside_plugins, is_plugin_call_of, is_call_of}, Share.share_of}
 
 -- the same objects of the attachment are the same share
 pub share-KeepsPart : (att : Att) (old new : Host) → KeepsPart att old new → share_of att new ≡ share_of att old

@@ -1,41 +1,30 @@
 -- What an attachment's own calls make of its share: a plugin's call that was done what `share_after_call` says, a Begin
 -- that was done had nothing to find, and a lease stands at the end.
 use Rattle.std.proofs.Common.{◌≡◌, ℕ, Bool, true, false, List, [], ◌∷◌, ◌++◌, Option, Some, None, refl, ◌∙◌, ap, arith}
-use Rattle.std.specs.Prelude.{find, if◌then◌else◌}
-use Rattle.std.specs.List.{list_any}
-use Rattle.std.specs.Option.{option_map, option_or}
 use Rattle.std.proofs.lemmas.Bool.{and_parts}
-use Rattle.cni_addr.specs.declared.address.Addr.{Addr}
-use Rattle.cni_addr.specs.declared.address.Cidr.{Cidr}
-use Rattle.cni_addr.specs.declared.address.Family.{Family}
-use Rattle.cni_addr.specs.declared.mac.Mac.{Mac}
-use Rattle.cni_addr.specs.declared.range.RangeSet.{RangeSet}
+use Rattle.std.specs.{List.list_any, Option.{option_map, option_or}, Prelude.{find, if◌then◌else◌}}
+use Rattle.cni_addr.specs.declared.{address.{Addr.Addr, Cidr.Cidr, Family.Family}, mac.Mac.Mac, range.RangeSet.RangeSet}
 use Rattle.cni_result.specs.declared.cached.Cached.{Cached}
 use Rattle.ip_pool.specs.Pool.{pick_of}
-use Rattle.kernel_types.specs.Equal.{att_eq, rule_eq}
-use Rattle.kernel_types.specs.Terms.{is_own, is_host_or_ns, has_named_ns, link_at, is_host_link, has_host_bridge, has_objects, lease_of}
-use Rattle.kernel_types.specs.Apply.{apply}
-use Rattle.kernel_types.specs.Apply.Calls.{append_unless_taken, unless_there, begin_of, bridge_or_new, new_bridge, gateway_ensure_of, forward_ensure_of, master_is_bridge_or_none, veth_add_of, has_master, macvlan_add_of, with_values, set_link, is_own_at, link_set_of, has_link_of, is_same_addr, addr_add_of, is_same_route, route_add_of, rule_append_of, is_same_setting, setting_set_of, leased_addresses, last_leased, is_of_pool, with_last, lease_taken, lease_next_of, cache_put_of}
+use Rattle.kernel_types.specs.Apply.{apply, Calls.{append_unless_taken, unless_there, begin_of, bridge_or_new}}
+use Rattle.kernel_types.specs.Apply.Calls.{new_bridge, gateway_ensure_of, forward_ensure_of, master_is_bridge_or_none}
+use Rattle.kernel_types.specs.Apply.Calls.{veth_add_of, has_master, macvlan_add_of, with_values, set_link, is_own_at}
+use Rattle.kernel_types.specs.Apply.Calls.{link_set_of, has_link_of, is_same_addr, addr_add_of, is_same_route}
+use Rattle.kernel_types.specs.Apply.Calls.{route_add_of, rule_append_of, is_same_setting, setting_set_of}
+use Rattle.kernel_types.specs.Apply.Calls.{leased_addresses, last_leased, is_of_pool, with_last, lease_taken}
+use Rattle.kernel_types.specs.{Apply.Calls.{lease_next_of, cache_put_of}, Equal.{att_eq, rule_eq}, Terms.is_own}
+use Rattle.kernel_types.specs.Terms.{is_host_or_ns, has_named_ns, link_at, is_host_link, has_host_bridge, has_objects}
+use Rattle.kernel_types.specs.{Terms.lease_of, declared.call.Call.{Call, TheVariants.{BridgeEnsure, GatewayEnsure}}}
+use Rattle.kernel_types.specs.declared.call.Call.TheVariants.{ForwardEnsure, VethAdd, MacvlanAdd, LinkSet, AddrAdd}
+use Rattle.kernel_types.specs.declared.call.{Call.TheVariants.{RouteAdd, RuleAppend, SettingSet, CachePut}, Reply.Reply}
+use Rattle.kernel_types.specs.declared.{call.Reply.TheVariants.{Done, Leased}, object.{AddrObj.AddrObj, Att.Att}}
+use Rattle.kernel_types.specs.declared.object.{Host.Host, Link.Link, LinkKey.LinkKey, RouteObj.RouteObj}
+use Rattle.kernel_types.specs.declared.{object.{Setting.Setting, Tag.{Tag, TheVariants.Base}}, rule.Rule.Rule}
 use Rattle.cni_addr.proofs.Cases.{by_test}
-use Rattle.kernel_types.proofs.Cases.{att_eq-refl}
-use Rattle.kernel_types.proofs.LeasedAddress.{same_leased}
-use Rattle.kernel_types.specs.declared.object.Att.{Att}
-use Rattle.kernel_types.specs.declared.object.LinkKey.{LinkKey}
-use Rattle.kernel_types.specs.declared.object.Tag.{Tag}
-use Rattle.kernel_types.specs.declared.object.Tag.TheVariants.{Base}
-use Rattle.kernel_types.specs.declared.object.Link.{Link}
-use Rattle.kernel_types.specs.declared.object.AddrObj.{AddrObj}
-use Rattle.kernel_types.specs.declared.object.RouteObj.{RouteObj}
-use Rattle.kernel_types.specs.declared.rule.Rule.{Rule}
-use Rattle.kernel_types.specs.declared.object.Setting.{Setting}
-use Rattle.kernel_types.specs.declared.object.Host.{Host}
-use Rattle.kernel_types.specs.declared.call.Call.{Call}
-use Rattle.kernel_types.specs.declared.call.Call.TheVariants.{BridgeEnsure, GatewayEnsure, ForwardEnsure, VethAdd, MacvlanAdd, LinkSet, AddrAdd, RouteAdd, RuleAppend, SettingSet, CachePut}
-use Rattle.kernel_types.specs.declared.call.Reply.{Reply}
-use Rattle.kernel_types.specs.declared.call.Reply.TheVariants.{Done, Leased}
-use Rattle.plugin_base.specs.Share.{Share, share_of, no_objects, share_after_call}
-use Rattle.plugin_base.specs.Calls.{is_plugin_call_of}
-use Rattle.plugin_base.proofs.KeyLists.{filter-push_kept, filter-push_dropped, filter-two_kept, filter-none, filter-map_kept}
+use Rattle.kernel_types.proofs.{Cases.att_eq-refl, LeasedAddress.same_leased}
+use Rattle.plugin_base.specs.{Calls.is_plugin_call_of, Share.{Share, share_of, no_objects, share_after_call}}
+use Rattle.plugin_base.proofs.KeyLists.{filter-push_kept, filter-push_dropped, filter-two_kept, filter-none}
+use Rattle.plugin_base.proofs.KeyLists.{filter-map_kept}
 
 -- ---- what an attachment's own call was that was done
 

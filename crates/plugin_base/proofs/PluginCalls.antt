@@ -1,42 +1,28 @@
 -- Of each call that a plugin makes after the leases one test says all that it owes. Here are the shapes of calls that
 -- pass it, and what follows of all calls.
-use Rattle.std.proofs.Common.{◌≡◌, ℕ, Bool, true, false, not, ◌&&◌, List, [], ◌∷◌, map, length, Option, Some, None, refl, sym, ◌∙◌, subst, arith}
-use Rattle.std.specs.Prelude.{if◌then◌else◌}
-use Rattle.std.specs.List.{list_any, list_all}
-use Rattle.std.specs.Cmp.Lexicographic.{nat_list_eq_equiv}
-use Rattle.std.proofs.lemmas.Bool.{and_parts, not-true}
-use Rattle.std.proofs.lemmas.List.{length-map}
-use Rattle.cni_addr.specs.Lists.{each_key_once}
-use Rattle.cni_addr.specs.declared.address.Addr.{Addr}
-use Rattle.cni_addr.specs.declared.address.Cidr.{Cidr}
-use Rattle.cni_addr.specs.declared.address.Family.TheVariants.{V4, V6}
-use Rattle.cni_result.specs.declared.cached.PortMapping.{PortMapping}
-use Rattle.cni_result.specs.declared.result.IpEntry.{IpEntry}
-use Rattle.cni_result.specs.declared.result.RouteEntry.{RouteEntry}
-use Rattle.kernel_types.specs.Apply.Calls.{is_own_at, is_same_addr, is_same_route, set_link}
-use Rattle.kernel_types.specs.Terms.{is_link_of, is_own}
-use Rattle.kernel_types.proofs.Cases.{att_eq-refl, tag_eq-own, tag_eq-refl}
-use Rattle.kernel_types.proofs.ListLemmas.{list_all-weaker, list_any-weaker}
-use Rattle.kernel_types.specs.declared.object.Att.{Att}
-use Rattle.kernel_types.specs.declared.object.Link.{Link}
-use Rattle.kernel_types.specs.declared.object.LinkKey.{LinkKey}
-use Rattle.kernel_types.specs.declared.object.Tag.{Tag}
-use Rattle.kernel_types.specs.declared.object.Tag.TheVariants.{Own}
+use Rattle.std.proofs.Common.{◌≡◌, ℕ, Bool, true, false, not, ◌&&◌, List, [], ◌∷◌, map, length, Option, Some, None}
+use Rattle.std.proofs.{Common.{refl, sym, ◌∙◌, subst, arith}, lemmas.{Bool.{and_parts, not-true}, List.length-map}}
+use Rattle.std.specs.{Cmp.Lexicographic.nat_list_eq_equiv, List.{list_any, list_all}, Prelude.if◌then◌else◌}
+use Rattle.cni_addr.specs.{Lists.each_key_once, declared.address.{Addr.Addr, Cidr.Cidr, Family.TheVariants.{V4, V6}}}
+use Rattle.cni_result.specs.declared.{cached.PortMapping.PortMapping, result.{IpEntry.IpEntry, RouteEntry.RouteEntry}}
+use Rattle.kernel_types.specs.{Apply.Calls.{is_own_at, is_same_addr, is_same_route, set_link}, Terms.is_link_of}
+use Rattle.kernel_types.specs.{Terms.is_own, declared.call.Call.{Call, TheVariants.{BridgeEnsure, GatewayEnsure}}}
+use Rattle.kernel_types.specs.declared.call.Call.TheVariants.{ForwardEnsure, VethAdd, MacvlanAdd, LinkSet, AddrAdd}
+use Rattle.kernel_types.specs.declared.call.{Call.TheVariants.{RouteAdd, RuleAppend}, Given.Given, Kind.Kind}
+use Rattle.kernel_types.specs.declared.object.{Att.Att, Link.Link, LinkKey.LinkKey, Tag.{Tag, TheVariants.Own}}
 use Rattle.kernel_types.specs.declared.rule.Rule.{Rule}
-use Rattle.kernel_types.specs.declared.call.Given.{Given}
-use Rattle.kernel_types.specs.declared.call.Kind.{Kind}
+use Rattle.kernel_types.proofs.{Cases.{att_eq-refl, tag_eq-own, tag_eq-refl}, ListLemmas.list_all-weaker}
+use Rattle.kernel_types.proofs.ListLemmas.{list_any-weaker}
 use Rattle.kernel_types.specs.declared.call.Kind.TheVariants as kinds
-use Rattle.kernel_types.specs.declared.call.Call.{Call}
-use Rattle.kernel_types.specs.declared.call.Call.TheVariants.{BridgeEnsure, GatewayEnsure, ForwardEnsure, VethAdd, MacvlanAdd, LinkSet, AddrAdd, RouteAdd, RuleAppend}
-use Rattle.plugin_base.specs.Families.{has_family}
-use Rattle.plugin_base.specs.Calls.{has_kind, is_of_kinds, is_plugin_call_of}
-use Rattle.plugin_base.specs.PluginCalls.{at_most_one, changes_links, has_inner, is_later_call, is_none_or, lies_on, makes_interface, set_links_once, stands_on}
-use Rattle.plugin_base.specs.PluginLaws.{AreCallsAfter, AreChainedCalls}
-use Rattle.plugin_base.specs.Plugins.{ChainedPlugin, FirstPlugin}
-use Rattle.plugin_base.specs.Shapes.{address_at, address_on, addresses_on, forward_calls, forward_for, gateway_for, inner_key, masquerade_rules, route_at, route_on, routes_on}
-use Rattle.plugin_base.specs.Share.{Share, share_after_call, share_after_calls}
-use Rattle.plugin_base.proofs.Appends.{own-masquerades}
-use Rattle.plugin_base.proofs.KeyLists.{list_all-append, list_all-each_key_once, list_all-every, list_all-if, list_all-mapped, none-by}
+use Rattle.plugin_base.specs.{Calls.{has_kind, is_of_kinds, is_plugin_call_of}, Families.has_family}
+use Rattle.plugin_base.specs.PluginCalls.{at_most_one, changes_links, has_inner, is_later_call, is_none_or, lies_on}
+use Rattle.plugin_base.specs.{PluginCalls.{makes_interface, set_links_once, stands_on}, PluginLaws.AreCallsAfter}
+use Rattle.plugin_base.specs.{PluginLaws.AreChainedCalls, Plugins.{ChainedPlugin, FirstPlugin}, Shapes.address_at}
+use Rattle.plugin_base.specs.Shapes.{address_on, addresses_on, forward_calls, forward_for, gateway_for, inner_key}
+use Rattle.plugin_base.specs.{Shapes.{masquerade_rules, route_at, route_on, routes_on}, Share.{Share, share_after_call}}
+use Rattle.plugin_base.specs.Share.{share_after_calls}
+use Rattle.plugin_base.proofs.{Appends.own-masquerades, KeyLists.{list_all-append, list_all-each_key_once}}
+use Rattle.plugin_base.proofs.KeyLists.{list_all-every, list_all-if, list_all-mapped, none-by}
 
 -- ---- the test
 

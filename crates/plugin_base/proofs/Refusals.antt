@@ -1,23 +1,17 @@
 -- A plugin's call that was not done leaves the host, and so does a lease that found no address.
 use Rattle.std.proofs.Common.{◌≡◌, ℕ, Bool, true, false, Option, Some, None, refl}
-use Rattle.std.specs.Prelude.{find, if◌then◌else◌}
-use Rattle.std.specs.List.{list_any}
-use Rattle.std.specs.Option.{option_map, option_or}
-use Rattle.cni_addr.specs.declared.address.Addr.{Addr}
-use Rattle.cni_addr.specs.declared.range.RangeSet.{RangeSet}
+use Rattle.std.specs.{List.list_any, Option.{option_map, option_or}, Prelude.{find, if◌then◌else◌}}
+use Rattle.cni_addr.specs.declared.{address.Addr.Addr, range.RangeSet.RangeSet}
 use Rattle.ip_pool.specs.Pool.{pick_of}
-use Rattle.kernel_types.specs.Equal.{rule_eq}
-use Rattle.kernel_types.specs.Terms.{is_own, has_named_ns, link_at, is_host_link, has_host_bridge}
-use Rattle.kernel_types.specs.Apply.{apply}
-use Rattle.kernel_types.specs.Apply.Calls.{append_unless_taken, unless_there, bridge_or_new, new_bridge, new_gateway, new_forward, master_is_bridge_or_none, has_master, is_own_at, has_link_of, is_same_addr, is_same_route, is_same_setting, leased_addresses, last_leased, lease_taken, lease_next_of}
-use Rattle.kernel_types.specs.declared.object.Att.{Att}
-use Rattle.kernel_types.specs.declared.object.Tag.{Tag}
-use Rattle.kernel_types.specs.declared.object.Link.{Link}
-use Rattle.kernel_types.specs.declared.object.Host.{Host}
-use Rattle.kernel_types.specs.declared.call.Call.{Call}
-use Rattle.kernel_types.specs.declared.call.Call.TheVariants.{BridgeEnsure, GatewayEnsure, ForwardEnsure, VethAdd, MacvlanAdd, LinkSet, AddrAdd, RouteAdd, RuleAppend, SettingSet, CachePut}
-use Rattle.kernel_types.specs.declared.call.Reply.{Reply}
-use Rattle.kernel_types.specs.declared.call.Reply.TheVariants.{Done, Leased}
+use Rattle.kernel_types.specs.Apply.{apply, Calls.{append_unless_taken, unless_there, bridge_or_new, new_bridge}}
+use Rattle.kernel_types.specs.Apply.Calls.{new_gateway, new_forward, master_is_bridge_or_none, has_master, is_own_at}
+use Rattle.kernel_types.specs.Apply.Calls.{has_link_of, is_same_addr, is_same_route, is_same_setting, leased_addresses}
+use Rattle.kernel_types.specs.{Apply.Calls.{last_leased, lease_taken, lease_next_of}, Equal.rule_eq, Terms.is_own}
+use Rattle.kernel_types.specs.{Terms.{has_named_ns, link_at, is_host_link, has_host_bridge}, declared.call.Call.Call}
+use Rattle.kernel_types.specs.declared.call.Call.TheVariants.{BridgeEnsure, GatewayEnsure, ForwardEnsure, VethAdd}
+use Rattle.kernel_types.specs.declared.call.Call.TheVariants.{MacvlanAdd, LinkSet, AddrAdd, RouteAdd, RuleAppend}
+use Rattle.kernel_types.specs.declared.call.{Call.TheVariants.{SettingSet, CachePut}, Reply.{Reply, TheVariants.Done}}
+use Rattle.kernel_types.specs.declared.{call.Reply.TheVariants.Leased, object.{Att.Att, Host.Host, Link.Link, Tag.Tag}}
 use Rattle.plugin_base.specs.Calls.{is_plugin_call_of}
 
 -- ---- calls of plugins

@@ -1,19 +1,13 @@
 -- Whose a plugin's call is, whether it is well formed, and what calls append.
-use Rattle.std.specs.Prelude.{◌≡◌, Bool, true, false, not, ◌&&◌, ◌||◌, List, [], ◌∷◌, fold, is_some}
-use Rattle.std.specs.List.{list_any}
-use Rattle.kernel_types.specs.Allowed.{IsVethPair, IsInnerLink, HasRangesApart, IsAllowedChange}
-use Rattle.kernel_types.specs.Apply.{apply}
-use Rattle.kernel_types.specs.Codes.{kind_eq}
-use Rattle.kernel_types.specs.Isolation.{names_att, ensures_shared, deletes_for}
-use Rattle.kernel_types.specs.Sound.{IsSound}
-use Rattle.kernel_types.specs.Terms.{is_host_ns, is_owned}
-use Rattle.kernel_types.specs.declared.object.Att.{Att}
-use Rattle.kernel_types.specs.declared.object.Host.{Host}
-use Rattle.kernel_types.specs.declared.call.Call.{Call}
-use Rattle.kernel_types.specs.declared.call.Call.TheVariants.{Begin, VethAdd, MacvlanAdd, AddrAdd, RouteAdd, RuleAppend, SettingSet, LeaseNext, CachePut, CacheGet, PoolFree, NsChange, Outside}
-use Rattle.kernel_types.specs.declared.call.Kind.{Kind}
+use Rattle.std.specs.{List.list_any, Prelude.{◌≡◌, Bool, true, false, not, ◌&&◌, ◌||◌, List, [], ◌∷◌, fold, is_some}}
+use Rattle.kernel_types.specs.{Allowed.{IsVethPair, IsInnerLink, HasRangesApart, IsAllowedChange}, Apply.apply}
+use Rattle.kernel_types.specs.{Codes.kind_eq, Isolation.{names_att, ensures_shared, deletes_for}, Sound.IsSound}
+use Rattle.kernel_types.specs.{Terms.{is_host_ns, is_owned}, declared.call.Call.{Call, TheVariants.{Begin, VethAdd}}}
+use Rattle.kernel_types.specs.declared.call.Call.TheVariants.{MacvlanAdd, AddrAdd, RouteAdd, RuleAppend, SettingSet}
+use Rattle.kernel_types.specs.declared.call.Call.TheVariants.{LeaseNext, CachePut, CacheGet, PoolFree, NsChange}
+use Rattle.kernel_types.specs.declared.call.{Call.TheVariants.Outside, Kind.Kind, Reply.TheVariants.Done}
+use Rattle.kernel_types.specs.declared.object.{Att.Att, Host.Host}
 use Rattle.kernel_types.specs.declared.call.Kind.TheVariants as kinds
-use Rattle.kernel_types.specs.declared.call.Reply.TheVariants.{Done}
 use Rattle.plugin_base.specs.Share.{Share, share_of, share_plus}
 
 -- the call is one that an ADD or a DEL of this attachment makes: it names it, or ensures what all attachments share

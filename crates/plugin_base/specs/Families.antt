@@ -1,10 +1,6 @@
 -- Addresses of a family: those that an attachment is given, and those of a result.
-use Rattle.std.specs.Prelude.{Bool, List, find, Option, option_map}
-use Rattle.std.specs.List.{list_any}
-use Rattle.cni_addr.specs.Codes.{family_eq}
-use Rattle.cni_addr.specs.declared.address.Addr.{Addr}
-use Rattle.cni_addr.specs.declared.address.Cidr.{Cidr}
-use Rattle.cni_addr.specs.declared.address.Family.{Family}
+use Rattle.std.specs.{List.list_any, Prelude.{Bool, List, find, Option, option_map}}
+use Rattle.cni_addr.specs.{Codes.family_eq, declared.address.{Addr.Addr, Cidr.Cidr, Family.Family}}
 use Rattle.cni_result.specs.declared.result.IpEntry.{IpEntry}
 use Rattle.kernel_types.specs.declared.call.Given.{Given}
 

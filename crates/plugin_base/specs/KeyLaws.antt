@@ -1,29 +1,17 @@
 -- The test whether two objects have one key is an equivalence, and objects of one key feed a hasher alike.
-use Rattle.std.specs.Prelude.{◌≡◌, Bool, true, ◌&&◌, ◌==◌, ◌++◌, Option, Some, None, refl, pos}
-use Rattle.std.proofs.Common.{ap, sym, true≢false}
-use Rattle.std.proofs.Math.Bool.{beq}
-use Rattle.std.specs.Option.{option_eq}
-use Rattle.std.specs.Str.{bytes_eq}
-use Rattle.std.specs.Cmp.{IsEquivalence, and_equiv, back_equiv, bool_eq_equiv, first_so, nat_eq_equiv, on_equiv, second_so, unsigned_Decides}
-use Rattle.std.specs.Cmp.Lexicographic.{bytes_decides, nat_list_eq_equiv, options_equiv}
-use Rattle.std.specs.Hash.{Alike, HashWrites, and-Alike, first_alike, isize, on_Alike, option, same_Alike, second_alike, u8, u16, u128}
-use Rattle.cni_addr.specs.Codes.{family_code, family_eq}
-use Rattle.cni_addr.specs.TextLaws.{one_write}
-use Rattle.cni_addr.specs.declared.address.Addr.{Addr}
-use Rattle.cni_addr.specs.declared.address.Cidr.{Cidr}
+use Rattle.std.specs.Cmp.{IsEquivalence, and_equiv, back_equiv, bool_eq_equiv, first_so, nat_eq_equiv, on_equiv}
+use Rattle.std.specs.Cmp.{second_so, unsigned_Decides, Lexicographic.{bytes_decides, nat_list_eq_equiv, options_equiv}}
+use Rattle.std.specs.Hash.{Alike, HashWrites, and-Alike, first_alike, isize, on_Alike, option, same_Alike, second_alike}
+use Rattle.std.specs.{Hash.{u8, u16, u128}, Option.option_eq, Prelude.{◌≡◌, Bool, true, ◌&&◌, ◌==◌, ◌++◌, Option, Some}}
+use Rattle.std.specs.{Prelude.{None, refl, pos}, Str.bytes_eq}
+use Rattle.std.proofs.{Common.{ap, sym, true≢false}, Math.Bool.beq}
+use Rattle.cni_addr.specs.{Codes.{family_code, family_eq}, TextLaws.one_write, declared.address.{Addr.Addr, Cidr.Cidr}}
 use Rattle.cni_result.specs.Codes.{proto_code}
-use Rattle.kernel_types.specs.Codes.{chain_code, table_code}
-use Rattle.kernel_types.specs.Equal.{addr_eq, att_eq, chain_eq, cidr_eq, proto_eq, rule_eq, table_eq, tag_eq, target_eq}
-use Rattle.kernel_types.specs.Keys.{is_same_addr, is_same_route, is_same_setting}
-use Rattle.kernel_types.specs.declared.object.Att.{Att}
-use Rattle.kernel_types.specs.declared.object.Tag.{Tag}
-use Rattle.kernel_types.specs.declared.object.Tag.TheVariants.{Outside, Base, Own}
-use Rattle.kernel_types.specs.declared.object.AddrObj.{AddrObj}
-use Rattle.kernel_types.specs.declared.object.RouteObj.{RouteObj}
-use Rattle.kernel_types.specs.declared.object.Setting.{Setting}
-use Rattle.kernel_types.specs.declared.rule.Rule.{Rule}
-use Rattle.kernel_types.specs.declared.rule.Target.{Target}
-use Rattle.kernel_types.specs.declared.rule.Target.TheVariants.{Accept, Masquerade, Dnat}
+use Rattle.kernel_types.specs.{Codes.{chain_code, table_code}, Equal.{addr_eq, att_eq, chain_eq, cidr_eq, proto_eq}}
+use Rattle.kernel_types.specs.{Equal.{rule_eq, table_eq, tag_eq, target_eq}, Keys.{is_same_addr, is_same_route}}
+use Rattle.kernel_types.specs.{Keys.is_same_setting, declared.object.{AddrObj.AddrObj, Att.Att, RouteObj.RouteObj}}
+use Rattle.kernel_types.specs.declared.object.{Setting.Setting, Tag.{Tag, TheVariants.{Outside, Base, Own}}}
+use Rattle.kernel_types.specs.declared.rule.{Rule.Rule, Target.{Target, TheVariants.{Accept, Masquerade, Dnat}}}
 use Rattle.plugin_base.specs.KeyWrites.{addr_writes, cidr_writes, port_of, rule_writes}
 
 -- ---- the tests

@@ -1,11 +1,7 @@
 -- What the keys of objects feed a hasher: numbers alone, and no text that all objects of an attachment share.
-use Rattle.std.specs.Prelude.{ℕ, ◌++◌, Option, Some, None}
-use Rattle.std.specs.Hash.{HashWrites, u8, u16, u128, option}
-use Rattle.cni_addr.specs.declared.address.Addr.{Addr}
-use Rattle.cni_addr.specs.declared.address.Cidr.{Cidr}
-use Rattle.kernel_types.specs.declared.rule.Rule.{Rule}
-use Rattle.kernel_types.specs.declared.rule.Target.{Target}
-use Rattle.kernel_types.specs.declared.rule.Target.TheVariants.{Accept, Masquerade, Dnat}
+use Rattle.std.specs.{Hash.{HashWrites, u8, u16, u128, option}, Prelude.{ℕ, ◌++◌, Option, Some, None}}
+use Rattle.cni_addr.specs.declared.address.{Addr.Addr, Cidr.Cidr}
+use Rattle.kernel_types.specs.declared.rule.{Rule.Rule, Target.{Target, TheVariants.{Accept, Masquerade, Dnat}}}
 
 abbrev pub addr_writes : Addr → HashWrites
 addr_writes addr = u128 addr.bits

@@ -1,15 +1,10 @@
 -- What a plugin's call makes, lies on and stands under.
-use Rattle.std.specs.Prelude.{ℕ, Bool, true, false, not, ◌&&◌, ◌||◌, List, [], ◌∷◌, filter, filter_map, Option, Some, None, is_none, if◌then◌else◌}
-use Rattle.std.specs.List.{list_any}
-use Rattle.std.specs.Str.{bytes_eq}
-use Rattle.kernel_types.specs.Apply.Calls.{is_own_at}
-use Rattle.kernel_types.specs.Terms.{is_link_of}
-use Rattle.kernel_types.specs.declared.object.Att.{Att}
-use Rattle.kernel_types.specs.declared.object.Link.{Link}
-use Rattle.kernel_types.specs.declared.object.LinkKind.{LinkKind}
-use Rattle.kernel_types.specs.declared.object.Tag.TheVariants.{Own}
-use Rattle.kernel_types.specs.declared.call.Call.{Call}
-use Rattle.kernel_types.specs.declared.call.Call.TheVariants.{BridgeEnsure, GatewayEnsure, VethAdd, MacvlanAdd, LinkSet, AddrAdd, RouteAdd, SettingSet, CachePut}
+use Rattle.std.specs.{List.list_any, Prelude.{ℕ, Bool, true, false, not, ◌&&◌, ◌||◌, List, [], ◌∷◌, filter, filter_map}}
+use Rattle.std.specs.{Prelude.{Option, Some, None, is_none, if◌then◌else◌}, Str.bytes_eq}
+use Rattle.kernel_types.specs.{Apply.Calls.is_own_at, Terms.is_link_of, declared.call.Call.Call}
+use Rattle.kernel_types.specs.declared.call.Call.TheVariants.{BridgeEnsure, GatewayEnsure, VethAdd, MacvlanAdd, LinkSet}
+use Rattle.kernel_types.specs.declared.{call.Call.TheVariants.{AddrAdd, RouteAdd, SettingSet, CachePut}, object.Att.Att}
+use Rattle.kernel_types.specs.declared.object.{Link.Link, LinkKind.LinkKind, Tag.TheVariants.Own}
 
 -- ---- before the leases, and after them
 

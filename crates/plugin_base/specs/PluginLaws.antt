@@ -1,21 +1,16 @@
 -- What a plugin owes to the verbs and to the laws of every history.
-use Rattle.std.specs.Prelude.{◌≡◌, ◌≤◌, ℕ, true, false, List, length, map, None, is_some, option_to_list}
-use Rattle.std.specs.List.{AllByRecursion, list_any, list_all}
-use Rattle.cni_result.specs.declared.cached.PortMapping.{PortMapping}
-use Rattle.cni_result.specs.declared.result.AddResult.{AddResult}
-use Rattle.cni_result.specs.declared.result.IpEntry.{IpEntry}
-use Rattle.kernel_types.specs.Sound.{IsSound}
-use Rattle.kernel_types.specs.Terms.{is_host_ns, is_macvlan, is_veth}
-use Rattle.kernel_types.specs.declared.object.Att.{Att}
-use Rattle.kernel_types.specs.declared.object.Host.{Host}
-use Rattle.kernel_types.specs.declared.object.Link.{Link}
-use Rattle.kernel_types.specs.declared.call.Given.{Given}
+use Rattle.std.specs.{List.{AllByRecursion, list_any, list_all}, Prelude.{◌≡◌, ◌≤◌, ℕ, true, false, List, length, map}}
+use Rattle.std.specs.Prelude.{None, is_some, option_to_list}
+use Rattle.cni_result.specs.declared.{cached.PortMapping.PortMapping, result.{AddResult.AddResult, IpEntry.IpEntry}}
+use Rattle.kernel_types.specs.{Sound.IsSound, Terms.{is_host_ns, is_macvlan, is_veth}, declared.call.Given.Given}
+use Rattle.kernel_types.specs.declared.object.{Att.Att, Host.Host, Link.Link}
 use Rattle.kernel_types.specs.declared.call.Kind.TheVariants as kinds
-use Rattle.plugin_base.specs.Calls.{AllDone, AppendsShare, IsWellFormedCall, applied, has_kind, is_of_kinds, is_plugin_call_of}
-use Rattle.plugin_base.specs.PluginCalls.{changes_links, has_inner, is_ensured, is_ensured_first, is_later_call, makes_interface, masters_of, set_links_once, stands_on}
-use Rattle.plugin_base.specs.Plugins.{ChainedPlugin, FirstPlugin, added_after, added_before, changed_by}
-use Rattle.plugin_base.specs.Results.{names_first, names_of}
-use Rattle.plugin_base.specs.Share.{Share, share_after_calls, share_of, share_plus}
+use Rattle.plugin_base.specs.Calls.{AllDone, AppendsShare, IsWellFormedCall, applied, has_kind, is_of_kinds}
+use Rattle.plugin_base.specs.{Calls.is_plugin_call_of, PluginCalls.{changes_links, has_inner, is_ensured}}
+use Rattle.plugin_base.specs.PluginCalls.{is_ensured_first, is_later_call, makes_interface, masters_of, set_links_once}
+use Rattle.plugin_base.specs.{PluginCalls.stands_on, Plugins.{ChainedPlugin, FirstPlugin, added_after, added_before}}
+use Rattle.plugin_base.specs.{Plugins.changed_by, Results.{names_first, names_of}, Share.{Share, share_after_calls}}
+use Rattle.plugin_base.specs.Share.{share_of, share_plus}
 
 -- ---- the first plugin
 

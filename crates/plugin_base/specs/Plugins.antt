@@ -1,18 +1,9 @@
 -- What a plugin does, as the verbs ask it (CNI specification, section 3, "Adding an attachment").
 use Rattle.std.specs.Prelude.{ℕ, Bool, List, ◌++◌, Option}
-use Rattle.cni_result.specs.declared.cached.PortMapping.{PortMapping}
-use Rattle.cni_result.specs.declared.result.AddResult.{AddResult}
-use Rattle.cni_result.specs.declared.result.IpEntry.{IpEntry}
+use Rattle.cni_result.specs.declared.{cached.PortMapping.PortMapping, result.{AddResult.AddResult, IpEntry.IpEntry}}
 use Rattle.net_conf.specs.declared.first.HostLocalConf.{HostLocalConf}
-use Rattle.kernel_types.specs.declared.object.Att.{Att}
-use Rattle.kernel_types.specs.declared.object.Link.{Link}
-use Rattle.kernel_types.specs.declared.object.AddrObj.{AddrObj}
-use Rattle.kernel_types.specs.declared.object.RouteObj.{RouteObj}
-use Rattle.kernel_types.specs.declared.rule.Rule.{Rule}
-use Rattle.kernel_types.specs.declared.object.Setting.{Setting}
-use Rattle.kernel_types.specs.declared.call.Call.{Call}
-use Rattle.kernel_types.specs.declared.call.Given.{Given}
-use Rattle.kernel_types.specs.declared.call.Kind.{Kind}
+use Rattle.kernel_types.specs.declared.{call.{Call.Call, Given.Given, Kind.Kind}, object.{AddrObj.AddrObj, Att.Att}}
+use Rattle.kernel_types.specs.declared.{object.{Link.Link, RouteObj.RouteObj, Setting.Setting}, rule.Rule.Rule}
 use Rattle.plugin_base.specs.Share.{Share, no_objects}
 
 -- ---- the first plugin of a list, which makes the interface

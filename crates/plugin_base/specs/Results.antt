@@ -1,16 +1,10 @@
 -- What a first plugin adds to the address plugin's result (CNI specification, section 4, "IPAM
 -- plugins"), and the interfaces that a result names.
-use Rattle.std.specs.Prelude.{ℕ, Bool, true, false, List, [], ◌∷◌, map, Option, Some, None}
-use Rattle.std.specs.Str.{bytes_eq}
-use Rattle.cni_result.specs.Versions.{mtu_since_1_1}
+use Rattle.std.specs.{Prelude.{ℕ, Bool, true, false, List, [], ◌∷◌, map, Option, Some, None}, Str.bytes_eq}
+use Rattle.cni_result.specs.{Versions.mtu_since_1_1, declared.result.{AddResult.AddResult, Dns.Dns}}
+use Rattle.cni_result.specs.declared.result.{Interface.Interface, IpEntry.IpEntry, RouteEntry.RouteEntry}
 use Rattle.cni_result.specs.declared.version.Version.{Version}
-use Rattle.cni_result.specs.declared.result.Interface.{Interface}
-use Rattle.cni_result.specs.declared.result.IpEntry.{IpEntry}
-use Rattle.cni_result.specs.declared.result.RouteEntry.{RouteEntry}
-use Rattle.cni_result.specs.declared.result.AddResult.{AddResult}
-use Rattle.cni_result.specs.declared.result.Dns.{Dns}
-use Rattle.kernel_types.specs.Names.{inner_mac_of}
-use Rattle.kernel_types.specs.declared.object.Att.{Att}
+use Rattle.kernel_types.specs.{Names.inner_mac_of, declared.object.Att.Att}
 
 abbrev pub inner_interface : Att → List ℕ → ℕ → Version → Interface
 inner_interface att netns mtu version = record {

@@ -1,37 +1,18 @@
 -- The objects of an attachment, as the plugins make them (documentation of `bridge`, `ptp`, `macvlan`; the rule sets
 -- are this project's own, after iptables).
-use Rattle.std.specs.Prelude.{ℕ, ◌*◌, ◌^◌, Bool, true, false, List, [], ◌∷◌, ◌++◌, map, flat_map, Option, Some, None, if◌then◌else◌}
-use Rattle.std.specs.Option.{option_or}
-use Rattle.cni_addr.specs.declared.address.Addr.{Addr}
-use Rattle.cni_addr.specs.declared.address.Cidr.{Cidr}
-use Rattle.cni_addr.specs.declared.address.Family.{Family}
-use Rattle.cni_addr.specs.declared.address.Family.TheVariants.{V4, V6}
-use Rattle.cni_addr.specs.Network.{whole}
-use Rattle.cni_addr.specs.declared.macvlan.MacvlanMode.{MacvlanMode}
+use Rattle.std.specs.{Option.option_or, Prelude.{ℕ, ◌*◌, ◌^◌, Bool, true, false, List, [], ◌∷◌, ◌++◌, map, flat_map}}
+use Rattle.std.specs.Prelude.{Option, Some, None, if◌then◌else◌}
+use Rattle.cni_addr.specs.{Lists.each_key_once, Network.whole, declared.address.{Addr.Addr, Cidr.Cidr, Family.Family}}
+use Rattle.cni_addr.specs.declared.{address.Family.TheVariants.{V4, V6}, macvlan.MacvlanMode.MacvlanMode}
 use Rattle.cni_result.specs.declared.result.RouteEntry.{RouteEntry}
-use Rattle.kernel_types.specs.declared.object.Att.{Att}
-use Rattle.kernel_types.specs.declared.object.Tag.TheVariants.{Own}
-use Rattle.kernel_types.specs.declared.object.LinkKey.{LinkKey}
-use Rattle.kernel_types.specs.declared.object.LinkKind.TheVariants.{Veth, Macvlan}
-use Rattle.kernel_types.specs.declared.object.Link.{Link}
-use Rattle.kernel_types.specs.declared.object.AddrObj.{AddrObj}
-use Rattle.kernel_types.specs.declared.object.RouteObj.{RouteObj}
-use Rattle.kernel_types.specs.declared.rule.Rule.{Rule}
-use Rattle.kernel_types.specs.declared.rule.Table.{Table}
-use Rattle.kernel_types.specs.declared.rule.Table.TheVariants.{Nat}
-use Rattle.kernel_types.specs.declared.rule.Chain.{Chain}
-use Rattle.kernel_types.specs.declared.rule.Chain.TheVariants.{Masq}
-use Rattle.kernel_types.specs.declared.rule.Target.{Target}
-use Rattle.kernel_types.specs.declared.rule.Target.TheVariants.{Accept, Masquerade}
-use Rattle.kernel_types.specs.Apply.Calls.{is_same_addr, is_same_route}
-use Rattle.kernel_types.specs.Equal.{rule_eq}
-use Rattle.kernel_types.specs.Terms.{new_link}
-use Rattle.kernel_types.specs.declared.call.Call.{Call}
-use Rattle.kernel_types.specs.declared.call.Call.TheVariants.{ForwardEnsure}
-use Rattle.kernel_types.specs.declared.call.Given.{Given}
-use Rattle.cni_addr.specs.Lists.{each_key_once}
+use Rattle.kernel_types.specs.{Apply.Calls.{is_same_addr, is_same_route}, Equal.rule_eq, Names.host_name_of}
+use Rattle.kernel_types.specs.{Names.{host_mac_of, inner_mac_of}, Terms.new_link, declared.call.Call.Call}
+use Rattle.kernel_types.specs.declared.{call.{Call.TheVariants.ForwardEnsure, Given.Given}, object.AddrObj.AddrObj}
+use Rattle.kernel_types.specs.declared.object.{Att.Att, Link.Link, LinkKey.LinkKey, LinkKind.TheVariants.Veth}
+use Rattle.kernel_types.specs.declared.object.{LinkKind.TheVariants.Macvlan, RouteObj.RouteObj, Tag.TheVariants.Own}
+use Rattle.kernel_types.specs.declared.rule.{Chain.{Chain, TheVariants.Masq}, Rule.Rule, Table.{Table, TheVariants.Nat}}
+use Rattle.kernel_types.specs.declared.rule.Target.{Target, TheVariants.{Accept, Masquerade}}
 use Rattle.plugin_base.specs.Families.{family_gateway, has_family}
-use Rattle.kernel_types.specs.Names.{host_name_of, host_mac_of, inner_mac_of}
 
 -- ---- networks that rules and routes speak of
 

@@ -2,18 +2,13 @@
 use Rattle.std.proofs.Common.{◌≡◌, ℕ, Bool, true, List, [], ◌∷◌, ◌++◌, refl, arith}
 use Rattle.std.specs.List.{AllByRecursion, list_all}
 use Rattle.cni_addr.specs.declared.address.Addr.{Addr}
-use Rattle.cni_result.specs.declared.cached.Cached.{Cached}
-use Rattle.cni_result.specs.declared.cached.PortMapping.{PortMapping}
-use Rattle.cni_result.specs.declared.result.AddResult.{AddResult}
+use Rattle.cni_result.specs.declared.{cached.{Cached.Cached, PortMapping.PortMapping}, result.AddResult.AddResult}
 use Rattle.cni_result.specs.declared.result.IpEntry.{IpEntry}
-use Rattle.net_conf.specs.declared.chained.Chained.{Chained}
-use Rattle.net_conf.specs.declared.list.NetList.{NetList}
-use Rattle.kernel_types.specs.declared.object.Att.{Att}
-use Rattle.kernel_types.specs.declared.call.Call.{Call}
-use Rattle.kernel_types.specs.declared.call.Call.TheVariants.{CachePut}
-use Rattle.kernel_types.specs.declared.call.Given.{Given}
+use Rattle.net_conf.specs.declared.{chained.Chained.Chained, list.NetList.NetList}
+use Rattle.kernel_types.specs.declared.{call.{Call.{Call, TheVariants.CachePut}, Given.Given}, object.Att.Att}
 use Rattle.plugin_base.proofs.KeyLists.{list_all-append}
-use Rattle.plugin_chain.specs.Wanted.{all_chained_calls, back_calls, cached_of, calls_after, chained_calls, chained_result, first_plugin_result, given_by_list}
+use Rattle.plugin_chain.specs.Wanted.{all_chained_calls, back_calls, cached_of, calls_after, chained_calls}
+use Rattle.plugin_chain.specs.Wanted.{chained_result, first_plugin_result, given_by_list}
 
 -- the calls of a chained plugin pass, whatever addresses it is handed
 abbrev pub PassesChained : (Call → Bool) → Att → List ℕ → List PortMapping → Chained → Type 0

@@ -1,12 +1,8 @@
 -- What the plugins of a list keep of the given addresses.
 use Rattle.std.proofs.Common.{◌≡◌, ℕ, List, [], ◌∷◌, map, Option, refl, ap, ◌∙◌}
-use Rattle.cni_result.specs.declared.result.AddResult.{AddResult}
-use Rattle.cni_result.specs.declared.version.Version.{Version}
-use Rattle.net_conf.specs.declared.chained.Chained.{Chained}
-use Rattle.net_conf.specs.declared.first.First.{First}
-use Rattle.net_conf.specs.declared.first.HostLocalConf.{HostLocalConf}
-use Rattle.kernel_types.specs.declared.object.Att.{Att}
-use Rattle.kernel_types.specs.declared.call.Given.{Given}
+use Rattle.cni_result.specs.declared.{result.AddResult.AddResult, version.Version.Version}
+use Rattle.net_conf.specs.declared.{chained.Chained.Chained, first.{First.First, HostLocalConf.HostLocalConf}}
+use Rattle.kernel_types.specs.declared.{call.Given.Given, object.Att.Att}
 use Rattle.host_local.specs.Results.{ip_of, ipam_result_of}
 use Rattle.plugin_chain.specs.Wanted.{chained_result, first_result}
 use Rattle.plugin_chain.proofs.PluginLaws.{chained_laws, first_laws}

@@ -4,14 +4,12 @@ use Rattle.std.specs.List.{list_all}
 use Rattle.cni_addr.specs.declared.address.Addr.{Addr}
 use Rattle.cni_result.proofs.ReadAgain.{each_of}
 use Rattle.cni_result.specs.declared.cached.PortMapping.{PortMapping}
-use Rattle.net_conf.specs.declared.first.First.{First}
-use Rattle.net_conf.specs.declared.list.NetList.{NetList}
+use Rattle.net_conf.specs.declared.{first.First.First, list.NetList.NetList}
 use Rattle.kernel_types.proofs.Cases.{att_eq-refl}
 use Rattle.kernel_types.specs.declared.object.Att.{Att}
 use Rattle.plugin_base.specs.Calls.{is_plugin_call_of}
 use Rattle.plugin_chain.specs.Wanted.{back_calls, calls_before}
-use Rattle.plugin_chain.proofs.BackCalls.{PassesChained, passes-back}
-use Rattle.plugin_chain.proofs.PluginLaws.{chained_laws, first_laws}
+use Rattle.plugin_chain.proofs.{BackCalls.{PassesChained, passes-back}, PluginLaws.{chained_laws, first_laws}}
 
 pub own-before : (first : First) (att : Att) (netns : List ℕ) → list_all (is_plugin_call_of att) (calls_before first att netns) ≡ true
 own-before first att netns = ((first_laws first).before att netns).own

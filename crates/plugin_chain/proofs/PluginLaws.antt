@@ -1,21 +1,15 @@
 -- Each plugin keeps what it owes, by its configuration.
 use Rattle.std.proofs.Common.{◌≡◌, true, refl, ap, ◌∙◌}
-use Rattle.net_conf.specs.PluginTypes.{type_eq, type_of_chained}
-use Rattle.net_conf.specs.WellFormed.{IsWellFormedFirst, IsWellFormedIpam}
-use Rattle.net_conf.specs.declared.chained.Chained.{Chained}
-use Rattle.net_conf.specs.declared.chained.Chained.TheVariants.{Portmap, Firewall, Tuning}
-use Rattle.net_conf.specs.declared.first.First.{First}
-use Rattle.net_conf.specs.declared.first.First.TheVariants.{Bridge, Ptp, Macvlan}
+use Rattle.net_conf.specs.{PluginTypes.{type_eq, type_of_chained}, WellFormed.{IsWellFormedFirst, IsWellFormedIpam}}
+use Rattle.net_conf.specs.declared.chained.Chained.{Chained, TheVariants.{Portmap, Firewall, Tuning}}
+use Rattle.net_conf.specs.declared.first.First.{First, TheVariants.{Bridge, Ptp, Macvlan}}
 use Rattle.net_conf.specs.declared.plugins.PluginType.TheVariants as types
 use Rattle.plugin_base.specs.PluginLaws.{ChainedLaws, FirstLaws}
-use Rattle.bridge_ptp.proofs.BridgeLaws.{bridge_laws}
-use Rattle.bridge_ptp.proofs.PtpLaws.{ptp_laws}
-use Rattle.firewall_tuning.proofs.FirewallLaws.{firewall_laws}
-use Rattle.firewall_tuning.proofs.TuningLaws.{tuning_laws}
+use Rattle.bridge_ptp.proofs.{BridgeLaws.bridge_laws, PtpLaws.ptp_laws}
+use Rattle.firewall_tuning.proofs.{FirewallLaws.firewall_laws, TuningLaws.tuning_laws}
 use Rattle.macvlan.proofs.MacvlanLaws.{macvlan_laws}
 use Rattle.portmap.proofs.PortmapLaws.{portmap_laws}
-use Rattle.plugin_chain.specs.Plugins.{chained_plugin_of, plugin_of}
-use Rattle.plugin_chain.specs.Wanted.{ipam_of, sets_links}
+use Rattle.plugin_chain.specs.{Plugins.{chained_plugin_of, plugin_of}, Wanted.{ipam_of, sets_links}}
 
 pub first_laws : (first : First) → FirstLaws (plugin_of first)
 unfolding plugin_of

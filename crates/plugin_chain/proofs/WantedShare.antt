@@ -1,31 +1,20 @@
 -- All calls of an ADD are its attachment's, and together they make the objects that it wants.
-use Rattle.std.proofs.Common.{◌≡◌, ℕ, ap, List, [], ◌∷◌, ◌++◌, map, refl, ◌∙◌, append_assoc}
-use Rattle.std.proofs.lemmas.List.{append-nil}
+use Rattle.std.proofs.{Common.{◌≡◌, ℕ, ap, List, [], ◌∷◌, ◌++◌, map, refl, ◌∙◌, append_assoc}, lemmas.List.append-nil}
 use Rattle.std.specs.Prelude.{flat_map}
 use Rattle.cni_addr.specs.declared.address.Addr.{Addr}
-use Rattle.cni_result.specs.declared.cached.Cached.{Cached}
-use Rattle.cni_result.specs.declared.cached.PortMapping.{PortMapping}
-use Rattle.cni_result.specs.declared.result.AddResult.{AddResult}
+use Rattle.cni_result.specs.declared.{cached.{Cached.Cached, PortMapping.PortMapping}, result.AddResult.AddResult}
 use Rattle.cni_result.specs.declared.result.IpEntry.{IpEntry}
-use Rattle.net_conf.specs.declared.first.First.{First}
-use Rattle.net_conf.specs.declared.chained.Chained.{Chained}
-use Rattle.net_conf.specs.declared.list.NetList.{NetList}
-use Rattle.kernel_types.specs.declared.object.Att.{Att}
-use Rattle.kernel_types.specs.declared.object.Link.{Link}
+use Rattle.net_conf.specs.declared.{chained.Chained.Chained, first.First.First, list.NetList.NetList}
+use Rattle.kernel_types.specs.{Terms.lease_of, declared.{call.{Call.TheVariants.CachePut, Given.Given}, object.Att.Att}}
+use Rattle.kernel_types.specs.declared.object.{Lease.Lease, Link.Link, Setting.Setting, Tag.TheVariants.Own}
 use Rattle.kernel_types.specs.declared.rule.Rule.{Rule}
-use Rattle.kernel_types.specs.declared.object.Setting.{Setting}
-use Rattle.kernel_types.specs.declared.object.Lease.{Lease}
-use Rattle.kernel_types.specs.declared.object.Tag.TheVariants.{Own}
-use Rattle.kernel_types.specs.declared.call.Given.{Given}
-use Rattle.kernel_types.specs.declared.call.Call.TheVariants.{CachePut}
-use Rattle.kernel_types.specs.Terms.{lease_of}
-use Rattle.plugin_base.specs.Plugins.{added_after, changed_by}
-use Rattle.plugin_base.specs.Share.{Share, no_objects, share_after_calls}
+use Rattle.plugin_base.specs.{Plugins.{added_after, changed_by}, Share.{Share, no_objects, share_after_calls}}
 use Rattle.plugin_base.proofs.CallLists.{share_after_calls-append, share_plus-laid_on, share_plus-links}
-use Rattle.plugin_chain.specs.Plugins.{chained_plugin_of, plugin_of}
-use Rattle.plugin_chain.specs.Wanted.{calls_before, calls_after, rules_of, settings_of, links_after, chained_calls, chained_result, all_chained_calls, all_links_after, given_by_list, first_plugin_result, cached_of, wanted, back_calls}
-use Rattle.plugin_chain.proofs.GivenAddresses.{chained-ips}
-use Rattle.plugin_chain.proofs.PluginLaws.{chained_laws, first_laws}
+use Rattle.plugin_chain.specs.{Plugins.{chained_plugin_of, plugin_of}, Wanted.{calls_before, calls_after, rules_of}}
+use Rattle.plugin_chain.specs.Wanted.{settings_of, links_after, chained_calls, chained_result, all_chained_calls}
+use Rattle.plugin_chain.specs.Wanted.{all_links_after, given_by_list, first_plugin_result, cached_of, wanted}
+use Rattle.plugin_chain.specs.Wanted.{back_calls}
+use Rattle.plugin_chain.proofs.{GivenAddresses.chained-ips, PluginLaws.{chained_laws, first_laws}}
 
 -- ---- the first plugin
 

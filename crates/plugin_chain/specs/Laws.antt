@@ -1,6 +1,5 @@
 -- What holds of every plugin.
-use Rattle.net_conf.specs.declared.chained.Chained.{Chained}
-use Rattle.net_conf.specs.declared.first.First.{First}
+use Rattle.net_conf.specs.declared.{chained.Chained.Chained, first.First.First}
 use Rattle.plugin_base.specs.PluginLaws.{ChainedLaws, FirstLaws}
 use Rattle.plugin_chain.specs.Plugins.{chained_plugin_of, plugin_of}
 

@@ -1,14 +1,10 @@
 -- What each plugin does, by its configuration: with the laws that it keeps (`proofs/PluginLaws.antt`) and its code
 -- (`src/plugins.rt`) all that tells plugins apart above `net_conf`.
-use Rattle.net_conf.specs.declared.chained.Chained.{Chained}
-use Rattle.net_conf.specs.declared.chained.Chained.TheVariants.{Portmap, Firewall, Tuning}
-use Rattle.net_conf.specs.declared.first.First.{First}
-use Rattle.net_conf.specs.declared.first.First.TheVariants.{Bridge, Ptp, Macvlan}
+use Rattle.net_conf.specs.declared.chained.Chained.{Chained, TheVariants.{Portmap, Firewall, Tuning}}
+use Rattle.net_conf.specs.declared.first.First.{First, TheVariants.{Bridge, Ptp, Macvlan}}
 use Rattle.plugin_base.specs.Plugins.{ChainedPlugin, FirstPlugin}
-use Rattle.bridge_ptp.specs.Bridge.{bridge_plugin}
-use Rattle.bridge_ptp.specs.Ptp.{ptp_plugin}
-use Rattle.firewall_tuning.specs.Firewall.{firewall_plugin}
-use Rattle.firewall_tuning.specs.Tuning.{tuning_plugin}
+use Rattle.bridge_ptp.specs.{Bridge.bridge_plugin, Ptp.ptp_plugin}
+use Rattle.firewall_tuning.specs.{Firewall.firewall_plugin, Tuning.tuning_plugin}
 use Rattle.macvlan.specs.Macvlan.{macvlan_plugin}
 use Rattle.portmap.specs.Portmap.{portmap_plugin}
 

@@ -1,33 +1,18 @@
 -- The calls of an ADD, the objects that it wants, and its result (CNI specification, section 3, "Adding an
 -- attachment").
-use Rattle.std.specs.Prelude.{ℕ, Bool, List, [], ◌∷◌, ◌++◌, map, flat_map, Option}
-use Rattle.std.specs.List.{fold}
-use Rattle.cni_addr.specs.declared.address.Addr.{Addr}
-use Rattle.cni_addr.specs.declared.range.RangeSet.{RangeSet}
-use Rattle.cni_result.specs.declared.cached.PortMapping.{PortMapping}
-use Rattle.cni_result.specs.declared.cached.Cached.{Cached}
-use Rattle.cni_result.specs.declared.result.AddResult.{AddResult}
+use Rattle.std.specs.{List.fold, Prelude.{ℕ, Bool, List, [], ◌∷◌, ◌++◌, map, flat_map, Option}}
+use Rattle.cni_addr.specs.declared.{address.Addr.Addr, range.RangeSet.RangeSet}
+use Rattle.cni_result.specs.declared.{cached.{Cached.Cached, PortMapping.PortMapping}, result.AddResult.AddResult}
 use Rattle.cni_result.specs.declared.result.IpEntry.{IpEntry}
-use Rattle.net_conf.specs.declared.first.First.{First}
-use Rattle.net_conf.specs.declared.first.HostLocalConf.{HostLocalConf}
-use Rattle.net_conf.specs.declared.chained.Chained.{Chained}
+use Rattle.net_conf.specs.declared.{chained.Chained.Chained, first.{First.First, HostLocalConf.HostLocalConf}}
 use Rattle.net_conf.specs.declared.list.NetList.{NetList}
-use Rattle.kernel_types.specs.declared.object.Att.{Att}
-use Rattle.kernel_types.specs.declared.object.Link.{Link}
-use Rattle.kernel_types.specs.declared.rule.Rule.{Rule}
-use Rattle.kernel_types.specs.declared.object.Setting.{Setting}
-use Rattle.kernel_types.specs.declared.object.Tag.TheVariants.{Own}
-use Rattle.kernel_types.specs.declared.call.Given.{Given}
-use Rattle.kernel_types.specs.declared.call.Kind.{Kind}
+use Rattle.kernel_types.specs.{Terms.lease_of, declared.call.Call.{Call, TheVariants.{Begin, LinkDel, RuleDel}}}
+use Rattle.kernel_types.specs.declared.call.{Call.TheVariants.{SettingDel, LeaseDel, CacheDel, CachePut}, Given.Given}
+use Rattle.kernel_types.specs.declared.{call.Kind.Kind, object.{Att.Att, Link.Link, Setting.Setting}}
+use Rattle.kernel_types.specs.declared.{object.Tag.TheVariants.Own, rule.Rule.Rule}
 use Rattle.kernel_types.specs.declared.call.Kind.TheVariants as kinds
-use Rattle.kernel_types.specs.declared.call.Call.{Call}
-use Rattle.kernel_types.specs.declared.call.Call.TheVariants.{Begin, LinkDel, RuleDel, SettingDel, LeaseDel, CacheDel, CachePut}
-use Rattle.kernel_types.specs.Terms.{lease_of}
-use Rattle.plugin_base.specs.Plugins.{added_after}
-use Rattle.plugin_base.specs.Share.{Share}
-use Rattle.host_local.specs.Conf.{range_sets_of}
-use Rattle.host_local.specs.Leases.{given_of, lease_calls_of}
-use Rattle.host_local.specs.Results.{ipam_result_of}
+use Rattle.plugin_base.specs.{Plugins.added_after, Share.Share}
+use Rattle.host_local.specs.{Conf.range_sets_of, Leases.{given_of, lease_calls_of}, Results.ipam_result_of}
 use Rattle.plugin_chain.specs.Plugins.{chained_plugin_of, plugin_of}
 
 -- ---- the first plugin

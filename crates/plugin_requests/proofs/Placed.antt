@@ -1,22 +1,18 @@
 -- Plugins and their objects, place by place: what is left of the requests of an ADD are those of the places that are left.
-use Rattle.std.proofs.Common.{◌≡◌, ◌⊎◌, inl, inr, ℕ, zero, suc, ◌+◌, ◌-◌, ◌≤◌, List, [], ◌∷◌, ◌++◌, length, map, take, slice_index_or, slice_range, Some, None, Result, Ok, refl, sym, ap, ap₂, ◌∙◌, append_assoc, append-nil, length-append, arith}
-use Rattle.std.specs.List.{scan}
+use Rattle.std.proofs.Common.{◌≡◌, ◌⊎◌, inl, inr, ℕ, zero, suc, ◌+◌, ◌-◌, ◌≤◌, List, [], ◌∷◌, ◌++◌, length, map, take}
+use Rattle.std.proofs.Common.{slice_index_or, slice_range, Some, None, Result, Ok, refl, sym, ap, ap₂, ◌∙◌}
+use Rattle.std.proofs.{Common.{append_assoc, append-nil, length-append, arith}, Math.Seq.take-append_seam}
 use Rattle.std.proofs.lemmas.List.Sums.{fold-append}
-use Rattle.std.proofs.Math.Seq.{take-append_seam}
-use Rattle.serde_json.specs.Data.{Data}
-use Rattle.serde_json.specs.View.{items_of}
+use Rattle.std.specs.List.{scan}
+use Rattle.serde_json.specs.{Data.Data, View.items_of}
 use Rattle.cni_json.proofs.Endings.{goes, ok_same}
 use Rattle.cni_json.specs.Each.{each}
-use Rattle.cni_result.specs.declared.cached.PortMapping.{PortMapping}
-use Rattle.cni_result.specs.declared.result.AddResult.{AddResult}
-use Rattle.net_conf.specs.Plugin.{plugin_by_type_at, plugins_in}
-use Rattle.net_conf.specs.declared.chained.Chained.{Chained}
+use Rattle.cni_result.specs.declared.{cached.PortMapping.PortMapping, result.AddResult.AddResult}
+use Rattle.net_conf.specs.{Plugin.{plugin_by_type_at, plugins_in}, declared.chained.Chained.Chained}
 use Rattle.net_conf.specs.declared.list.NetList.{NetList}
 use Rattle.net_conf.specs.declared.plugin.Plugin.TheVariants as plugins
 use Rattle.plugin_chain.specs.Wanted.{all_chained_results, chained_result}
-use Rattle.plugin_requests.specs.Adding.{chain_request, chain_requests}
-use Rattle.plugin_requests.specs.Raw.{IsRaw, RawView}
-use Rattle.plugin_requests.specs.Request.{request_data}
+use Rattle.plugin_requests.specs.{Adding.{chain_request, chain_requests}, Raw.{IsRaw, RawView}, Request.request_data}
 
 -- ---- objects
 

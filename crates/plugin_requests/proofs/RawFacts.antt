@@ -1,29 +1,16 @@
 -- What every raw list is, by how it is read.
-use Rattle.std.proofs.Common.{◌≡◌, ℕ, ◌+◌, ◌≤◌, List, [], ◌∷◌, false, Option, Some, None, Result, Ok, Err, refl, ap, arith}
+use Rattle.std.proofs.Common.{◌≡◌, ℕ, ◌+◌, ◌≤◌, List, [], ◌∷◌, false, Option, Some, None, Result, Ok, Err, refl, ap}
+use Rattle.std.proofs.{Common.arith, lemmas.{Bool.or_parts, List.Elements.{All-nil, All-cons, All-head, All-tail}}}
 use Rattle.std.specs.Prelude.{All, codes, map}
-use Rattle.std.proofs.lemmas.Bool.{or_parts}
-use Rattle.std.proofs.lemmas.List.Elements.{All-nil, All-cons, All-head, All-tail}
 use Rattle.serde_json.specs.Data.{Data, null, boolean, number, string, array, object, Items, depth, items_depth}
-use Rattle.serde_json.specs.Find.{get, as_array}
-use Rattle.serde_json.specs.Read.{max_depth}
-use Rattle.serde_json.specs.View.{items_of}
-use Rattle.serde_json.specs.Written.{has_float, items_have_float}
-use Rattle.cni_json.proofs.Depths.{get-depth}
-use Rattle.cni_json.proofs.Endings.{goes, ok_same}
-use Rattle.cni_json.proofs.WholeNumbers.{get-whole}
-use Rattle.cni_json.specs.Each.{each}
-use Rattle.cni_json.specs.Fields.{field_of}
-use Rattle.cni_json.specs.Json.{json_of}
-use Rattle.cni_json.specs.Outcome.{◌>>=◌}
+use Rattle.serde_json.specs.{Find.{get, as_array}, Read.max_depth, View.items_of, Written.{has_float, items_have_float}}
+use Rattle.cni_json.proofs.{Depths.get-depth, Endings.{goes, ok_same}, WholeNumbers.get-whole}
+use Rattle.cni_json.specs.{Each.each, Fields.field_of, Json.json_of, Outcome.◌>>=◌}
 use Rattle.plugin_requests.specs.Raw.{RawView, IsPluginObject, IsRaw, objects_of, raw_at, raw_of}
 use Rattle.net_conf.proofs.ChainFacts.{network_list_at-each}
-use Rattle.net_conf.specs.List.{read_or_refused, network_list_at, list_of}
-use Rattle.net_conf.specs.Members.{ok_map}
-use Rattle.net_conf.specs.Plugin.{plugin_by_type_at, each_plugin_at, plugins_in}
-use Rattle.net_conf.specs.Plugins.{plugins_of, plugins_at}
-use Rattle.net_conf.specs.WellFormed.{IsWellFormedList}
-use Rattle.net_conf.specs.declared.error.ConfError.{ConfError}
-use Rattle.net_conf.specs.declared.list.NetList.{NetList}
+use Rattle.net_conf.specs.{List.{read_or_refused, network_list_at, list_of}, Members.ok_map, Plugin.plugin_by_type_at}
+use Rattle.net_conf.specs.{Plugin.{each_plugin_at, plugins_in}, Plugins.{plugins_of, plugins_at}}
+use Rattle.net_conf.specs.{WellFormed.IsWellFormedList, declared.{error.ConfError.ConfError, list.NetList.NetList}}
 
 -- ---- lists of what is seen as something else
 

@@ -1,24 +1,21 @@
 -- What a line of a request needs to be read again: whole numbers, and no more levels than a reader takes.
 use Rattle.std.proofs.Common.{◌≡◌, ◌+◌, ◌≤◌, List, false, Option, not, refl, arith, rules}
 use Rattle.std.specs.Prelude.{codes}
-use Rattle.serde_json.specs.Data.{Data, Members, no_members, put, depth, members_depth}
-use Rattle.serde_json.specs.Read.{max_depth}
+use Rattle.serde_json.specs.{Data.{Data, Members, no_members, put, depth, members_depth}, Read.max_depth}
 use Rattle.serde_json.specs.Written.{has_float, members_have_float}
-use Rattle.cni_json.proofs.Building.{members_have_float-put}
-use Rattle.cni_json.proofs.Depths.{members_depth-put, members_depth-put_if, depth-list, members_depth-put_list, members_depth-put_object, depth-object}
-use Rattle.cni_json.proofs.KeptMembers.{members_depth-where, members_depth-members_in, members_have_float-where, members_have_float-members_in}
+use Rattle.cni_json.proofs.{Building.members_have_float-put, Depths.{members_depth-put, members_depth-put_if}}
+use Rattle.cni_json.proofs.Depths.{depth-list, members_depth-put_list, members_depth-put_object, depth-object}
+use Rattle.cni_json.proofs.KeptMembers.{members_depth-where, members_depth-members_in, members_have_float-where}
+use Rattle.cni_json.proofs.KeptMembers.{members_have_float-members_in}
 use Rattle.cni_json.specs.Members.{members_in, text_data, list_data, ◌▷◌, put_if}
-use Rattle.cni_result.proofs.Depths.{result_depth}
-use Rattle.cni_result.proofs.ResultLemmas.{result_is_whole, mapping_is_whole}
-use Rattle.cni_result.proofs.WholeNumbers.{puts_are_whole, items_are_whole, put_if_is_whole, put_list_is_whole, put_object_is_whole}
-use Rattle.cni_result.specs.Mappings.{mapping_data}
-use Rattle.cni_result.specs.Results.{version_data, result_data}
-use Rattle.cni_result.specs.declared.cached.PortMapping.{PortMapping}
-use Rattle.cni_result.specs.declared.result.AddResult.{AddResult}
-use Rattle.plugin_requests.specs.Raw.{IsPluginObject}
-use Rattle.plugin_requests.specs.Request.{mappings_for, valid_key, valid_data, runtime_members, own_members, request_members}
-use Rattle.net_conf.specs.RuntimeKeys.{is_runtime_key}
-use Rattle.net_conf.specs.declared.list.NetList.{NetList}
+use Rattle.cni_result.proofs.{Depths.result_depth, ResultLemmas.{result_is_whole, mapping_is_whole}}
+use Rattle.cni_result.proofs.WholeNumbers.{puts_are_whole, items_are_whole, put_if_is_whole, put_list_is_whole}
+use Rattle.cni_result.proofs.WholeNumbers.{put_object_is_whole}
+use Rattle.cni_result.specs.{Mappings.mapping_data, Results.{version_data, result_data}}
+use Rattle.cni_result.specs.declared.{cached.PortMapping.PortMapping, result.AddResult.AddResult}
+use Rattle.plugin_requests.specs.{Raw.IsPluginObject, Request.{mappings_for, valid_key, valid_data, runtime_members}}
+use Rattle.plugin_requests.specs.Request.{own_members, request_members}
+use Rattle.net_conf.specs.{RuntimeKeys.is_runtime_key, declared.list.NetList.NetList}
 use Rattle.pod_file.specs.declared.command.ValidAtt.{ValidAtt}
 
 -- ---- a request, member by member

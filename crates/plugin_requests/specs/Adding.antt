@@ -3,16 +3,13 @@
 use Rattle.std.specs.Prelude.{ℕ, zero, suc, ◌+◌, List, take, scan, Option, Some, None}
 use Rattle.serde_json.specs.Data.{Data}
 use Rattle.cni_addr.specs.declared.address.Addr.{Addr}
-use Rattle.cni_result.specs.declared.cached.PortMapping.{PortMapping}
-use Rattle.cni_result.specs.declared.result.AddResult.{AddResult}
-use Rattle.net_conf.specs.declared.chained.Chained.{Chained}
-use Rattle.net_conf.specs.declared.list.NetList.{NetList}
+use Rattle.cni_result.specs.declared.{cached.PortMapping.PortMapping, result.AddResult.AddResult}
+use Rattle.net_conf.specs.declared.{chained.Chained.Chained, list.NetList.NetList}
 use Rattle.pod_file.specs.declared.command.Command.{Command}
 use Rattle.cni_errors.specs.CommandFields.{att_of}
 use Rattle.plugin_chain.specs.Wanted.{all_chained_results, first_plugin_result}
 use Rattle.cni_verbs.specs.Mappings.{mappings_of}
-use Rattle.plugin_requests.specs.Raw.{RawView}
-use Rattle.plugin_requests.specs.Request.{request_data}
+use Rattle.plugin_requests.specs.{Raw.RawView, Request.request_data}
 
 -- the result of the plugin in this place, where the first plugin has this one
 abbrev pub result_after : List Chained → AddResult → ℕ → AddResult

@@ -1,8 +1,9 @@
 -- JSON data as a tree of numbers, one to one, by which a proof tells values apart that contracts see as data.
-use Rattle.std.specs.Prelude.{◌≡◌, ℕ, ℤ, List, Float, ◌⊎◌, refl}
-use Rattle.std.specs.Coded.{Coded, code_by, coded⊎, coded_ℕ, coded_ℤ, coded_list, coded_bool}
+use Rattle.std.specs.{Coded.{Coded, code_by, coded⊎, coded_ℕ, coded_ℤ, coded_list, coded_bool}, Prelude.{◌≡◌, ℕ, ℤ}}
+use Rattle.std.specs.Prelude.{List, Float, ◌⊎◌, refl}
 use Rattle.std.proofs.Common.{inl, inr, ap, ap₂}
-use Rattle.serde_json.specs.Data.{Num, unsigned, negative, float, Data, null, boolean, number, string, array, object, Items, no_items, item, Members, no_members, member}
+use Rattle.serde_json.specs.Data.{Num, unsigned, negative, float, Data, null, boolean, number, string, array, object}
+use Rattle.serde_json.specs.Data.{Items, no_items, item, Members, no_members, member}
 use base.Stored.{Gv, gnil, gnum, gcons, coded_float}
 
 -- ---- parts

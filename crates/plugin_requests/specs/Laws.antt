@@ -1,7 +1,6 @@
 -- What a raw list has to do with the network list of the same bytes.
 use Rattle.std.specs.Prelude.{◌≡◌, ℕ, List}
-use Rattle.net_conf.specs.List.{list_of}
-use Rattle.net_conf.specs.Members.{ok_map}
+use Rattle.net_conf.specs.{List.list_of, Members.ok_map}
 use Rattle.plugin_requests.specs.Raw.{RawView, raw_of}
 
 -- the same bytes are refused for the same cause, and else give the same list

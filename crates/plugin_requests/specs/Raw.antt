@@ -1,17 +1,10 @@
 -- A network list together with the objects of its plugins.
 use Rattle.std.specs.Prelude.{◌≡◌, ℕ, ◌+◌, ◌≤◌, List, [], ◌∷◌, false, Result, Ok, All}
-use Rattle.serde_json.specs.Data.{Data, Items, no_items, item, depth}
-use Rattle.serde_json.specs.Read.{max_depth}
-use Rattle.serde_json.specs.View.{items_of}
+use Rattle.serde_json.specs.{Data.{Data, Items, no_items, item, depth}, Read.max_depth, View.items_of}
 use Rattle.serde_json.specs.Written.{has_float}
-use Rattle.cni_json.specs.Each.{each}
-use Rattle.cni_json.specs.Json.{json_of}
-use Rattle.cni_json.specs.Outcome.{◌>>=◌}
-use Rattle.net_conf.specs.List.{read_or_refused, network_list_at}
-use Rattle.net_conf.specs.Plugin.{plugin_by_type_at, plugins_in}
-use Rattle.net_conf.specs.Plugins.{plugins_at}
-use Rattle.net_conf.specs.WellFormed.{IsWellFormedList}
-use Rattle.net_conf.specs.declared.error.ConfError.{ConfError}
+use Rattle.cni_json.specs.{Each.each, Json.json_of, Outcome.◌>>=◌}
+use Rattle.net_conf.specs.{List.{read_or_refused, network_list_at}, Plugin.{plugin_by_type_at, plugins_in}}
+use Rattle.net_conf.specs.{Plugins.plugins_at, WellFormed.IsWellFormedList, declared.error.ConfError.ConfError}
 use Rattle.net_conf.specs.declared.list.NetList.{NetList}
 
 -- a list, and its plugins' objects in order

@@ -2,15 +2,12 @@
 -- "Deriving execution configuration from plugin configuration").
 use Rattle.std.specs.Prelude.{ℕ, List, [], codes, not, if◌then◌else◌, Option, slice_index_or}
 use Rattle.serde_json.specs.Data.{Data, null, object, Members, no_members, put}
-use Rattle.cni_json.specs.Members.{members_in, members_where, text_data, list_data, ◌▷◌, put_if, put_list_unless_empty, put_object_unless_empty}
-use Rattle.cni_result.specs.Mappings.{mapping_data}
-use Rattle.cni_result.specs.Results.{version_data, result_data}
-use Rattle.cni_result.specs.declared.cached.PortMapping.{PortMapping}
-use Rattle.cni_result.specs.declared.result.AddResult.{AddResult}
+use Rattle.cni_json.specs.Members.{members_in, members_where, text_data, list_data, ◌▷◌, put_if, put_list_unless_empty}
+use Rattle.cni_json.specs.Members.{put_object_unless_empty}
+use Rattle.cni_result.specs.{Mappings.mapping_data, Results.{version_data, result_data}}
+use Rattle.cni_result.specs.declared.{cached.PortMapping.PortMapping, result.AddResult.AddResult}
 use Rattle.plugin_requests.specs.Raw.{RawView}
-use Rattle.net_conf.specs.Capabilities.{asks_for_mappings}
-use Rattle.net_conf.specs.RuntimeKeys.{is_runtime_key}
-use Rattle.net_conf.specs.declared.list.NetList.{NetList}
+use Rattle.net_conf.specs.{Capabilities.asks_for_mappings, RuntimeKeys.is_runtime_key, declared.list.NetList.NetList}
 use Rattle.pod_file.specs.declared.command.ValidAtt.{ValidAtt}
 
 -- the mappings that a plugin's object gets: these, where it asks for them

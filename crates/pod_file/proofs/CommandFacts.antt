@@ -1,29 +1,22 @@
 -- What the rounds of a pod file keep that are read.
-use Rattle.std.proofs.Common.{◌≡◌, ℕ, zero, suc, ◌+◌, ◌≤◌, Bool, true, false, not, List, [], ◌∷◌, ◌++◌, length, codes, Option, Some, None, Ok, Err, refl, sym, ap, ap₂, ◌∙◌, subst, arith}
-use Rattle.std.specs.Prelude.{◌||◌, if◌then◌else◌, nat_le, is_some, All, scan, slice_get, ok_or, option_map}
-use Rattle.std.specs.List.{list_any}
-use Rattle.std.proofs.lemmas.Bool.Decides.{nat_tests}
-use Rattle.std.proofs.lemmas.List.{length-append}
-use Rattle.std.proofs.lemmas.List.Elements.{All-nil, All-cons, All-head, All-tail}
-use Rattle.serde_json.specs.Data.{Data, null, boolean, number, string, array, object, Items}
-use Rattle.serde_json.specs.Find.{get}
-use Rattle.cni_json.specs.Each.{list_or}
-use Rattle.cni_json.specs.Fields.{text_field, list_field, u32_field, u32_of, has_32_bits, object_or}
-use Rattle.cni_json.specs.declared.fields.Field.{Field}
-use Rattle.cni_json.specs.declared.fields.Field.TheVariants.{Absent, WrongKind, Here}
-use Rattle.kernel_types.specs.Texts.{table_named}
-use Rattle.kernel_types.specs.declared.rule.Table.{Table}
-use Rattle.cni_json.proofs.Endings.{goes, ok_same, passed, went_on, each_all, each_from_all}
-use Rattle.cni_json.proofs.WholeNumbers.{u32_of-fits}
-use Rattle.pod_file.specs.Commands.{verb_at, needs_table, texts_at, table_of, table_at, stop_of, stop_at, is_call_number, fault_of, fault_at, faults_at, command_at}
-use Rattle.pod_file.specs.Members.{list_at, mappings_at, valid_at}
-use Rattle.pod_file.specs.Refusals.{wrong, wrong_key, command_path}
-use Rattle.pod_file.specs.Rounds.{command_in, round_at, rounds_of, rounds_at, in_file_order, is_exclusive, is_alone, each_alone, numbered, round_numbered, all_numbered}
-use Rattle.pod_file.specs.WellFormed.{IsCallNumber, IsStop, IsWellFormedCommand, IsWellFormedRound}
-use Rattle.pod_file.specs.declared.command.Command.{Command}
-use Rattle.pod_file.specs.declared.command.Verb.{Verb}
-use Rattle.pod_file.specs.declared.error.PodError.{PodError}
-use Rattle.pod_file.specs.declared.place.Place.{Place}
+use Rattle.std.proofs.Common.{◌≡◌, ℕ, zero, suc, ◌+◌, ◌≤◌, Bool, true, false, not, List, [], ◌∷◌, ◌++◌, length, codes}
+use Rattle.std.proofs.Common.{Option, Some, None, Ok, Err, refl, sym, ap, ap₂, ◌∙◌, subst, arith}
+use Rattle.std.proofs.lemmas.{Bool.Decides.nat_tests, List.{length-append, Elements.{All-nil, All-cons, All-head}}}
+use Rattle.std.proofs.lemmas.List.Elements.{All-tail}
+use Rattle.std.specs.{List.list_any, Prelude.{◌||◌, if◌then◌else◌, nat_le, is_some, All, scan, slice_get, ok_or}}
+use Rattle.std.specs.Prelude.{option_map}
+use Rattle.serde_json.specs.{Data.{Data, null, boolean, number, string, array, object, Items}, Find.get}
+use Rattle.cni_json.specs.{Each.list_or, Fields.{text_field, list_field, u32_field, u32_of, has_32_bits, object_or}}
+use Rattle.cni_json.specs.declared.fields.Field.{Field, TheVariants.{Absent, WrongKind, Here}}
+use Rattle.kernel_types.specs.{Texts.table_named, declared.rule.Table.Table}
+use Rattle.cni_json.proofs.{Endings.{goes, ok_same, passed, went_on, each_all, each_from_all}, WholeNumbers.u32_of-fits}
+use Rattle.pod_file.specs.Commands.{verb_at, needs_table, texts_at, table_of, table_at, stop_of, stop_at}
+use Rattle.pod_file.specs.{Commands.{is_call_number, fault_of, fault_at, faults_at, command_at}, Members.list_at}
+use Rattle.pod_file.specs.{Members.{mappings_at, valid_at}, Refusals.{wrong, wrong_key, command_path}}
+use Rattle.pod_file.specs.Rounds.{command_in, round_at, rounds_of, rounds_at, in_file_order, is_exclusive, is_alone}
+use Rattle.pod_file.specs.{Rounds.{each_alone, numbered, round_numbered, all_numbered}, WellFormed.IsCallNumber}
+use Rattle.pod_file.specs.WellFormed.{IsStop, IsWellFormedCommand, IsWellFormedRound}
+use Rattle.pod_file.specs.declared.{command.{Command.Command, Verb.Verb}, error.PodError.PodError, place.Place.Place}
 use Rattle.pod_file.specs.declared.place.Place.TheVariants.{InRound}
 
 -- ---- one command

@@ -1,11 +1,7 @@
 -- One more number in a set of faults.
-use Rattle.std.proofs.Common.{◌≡◌, ℕ, ◌+◌, ◌-◌, ◌<◌, ◌≤◌, ◌==◌, Bool, true, false, cond, List, [], ◌∷◌, ◌++◌, refl, sym, ap, ap₂, ◌∙◌, arith}
-use Rattle.std.specs.Prelude.{◌||◌}
-use Rattle.std.specs.Cmp.{unsigned_ties}
-use Rattle.std.specs.List.{list_any}
-use Rattle.std.specs.Ordering.{is_eq, nat_cmp}
-use Rattle.std.proofs.lemmas.Bool.Decides.{nat_tests}
-use Rattle.std.proofs.lemmas.List.Folds.{list_any-append}
+use Rattle.std.proofs.Common.{◌≡◌, ℕ, ◌+◌, ◌-◌, ◌<◌, ◌≤◌, ◌==◌, Bool, true, false, cond, List, [], ◌∷◌, ◌++◌, refl, sym}
+use Rattle.std.proofs.{Common.{ap, ap₂, ◌∙◌, arith}, lemmas.{Bool.Decides.nat_tests, List.Folds.list_any-append}}
+use Rattle.std.specs.{Cmp.unsigned_ties, List.list_any, Ordering.{is_eq, nat_cmp}, Prelude.◌||◌}
 use Rattle.pod_file.proofs.IndexFacts.{HasOneMore, at_end}
 use Rattle.pod_file.specs.Faults.{are_after}
 

@@ -1,13 +1,10 @@
 -- The list of the generated workload is well formed.
-use Rattle.std.proofs.Common.{true, [], ◌∷◌, refl, arith}
-use Rattle.std.specs.List.{IsDistinct}
-use Rattle.std.specs.Str.{chars}
-use Rattle.std.proofs.lemmas.List.Elements.{All-nil, All-cons}
+use Rattle.std.proofs.{Common.{true, [], ◌∷◌, refl, arith}, lemmas.List.Elements.{All-nil, All-cons}}
+use Rattle.std.specs.{List.IsDistinct, Str.chars}
 use Rattle.cni_addr.specs.Network.{network_of, contains}
-use Rattle.net_conf.specs.Names.{is_network_name, is_interface_name}
-use Rattle.net_conf.specs.PluginTypes.{HaveTypesOnce}
-use Rattle.net_conf.specs.Ranges.{is_subnet}
-use Rattle.net_conf.specs.WellFormed.{IsWellFormedRange, IsWellFormedSet, IsWellFormedRoute, IsWellFormedHostLocal, IsWellFormedBridge, IsWellFormedChained, IsWellFormedList}
+use Rattle.net_conf.specs.{Names.{is_network_name, is_interface_name}, PluginTypes.HaveTypesOnce, Ranges.is_subnet}
+use Rattle.net_conf.specs.WellFormed.{IsWellFormedRange, IsWellFormedSet, IsWellFormedRoute, IsWellFormedHostLocal}
+use Rattle.net_conf.specs.WellFormed.{IsWellFormedBridge, IsWellFormedChained, IsWellFormedList}
 use Rattle.net_conf.specs.declared.chained.Chained.TheVariants.{Portmap, Firewall}
 use Rattle.pod_file.specs.Generator.{range_of_tens, addresses_of_tens, gateway_bridge, later_plugins, generated_list}
 

@@ -1,32 +1,25 @@
 -- What the generated workload keeps.
-use Rattle.std.proofs.Common.{◌≡◌, ℕ, zero, suc, ◌+◌, ◌/◌, ◌%◌, ◌==◌, ◌<◌, ◌≤◌, ◌^◌, Bool, true, false, not, cond, List, [], ◌∷◌, ◌++◌, length, map, codes, refl, sym, ap, ap₂, ◌∙◌, subst, add-one, arith, nat_le}
-use Rattle.std.specs.Prelude.{◌&&◌, if◌then◌else◌, filter, All, Result, Ok, decimal, ⊤}
-use Rattle.std.specs.List.{list_any, list_all, range_with_len}
-use Rattle.std.specs.Str.{bytes_eq}
-use Rattle.std.proofs.lemmas.Bool.{or_right}
-use Rattle.std.proofs.lemmas.Bool.Decides.{nat_tests}
-use Rattle.std.proofs.lemmas.Fmt.{decimal_injective}
-use Rattle.std.proofs.lemmas.List.{length-append, length-map}
-use Rattle.std.proofs.lemmas.List.Folds as folds
-use Rattle.std.proofs.lemmas.List.Elements.{All-nil, All-cons}
-use Rattle.std.proofs.lemmas.List.FromFn.{filter_of_map_range_with_len_more, map-range_with_len_more, length-map-range_with_len}
+use Rattle.std.proofs.Common.{◌≡◌, ℕ, zero, suc, ◌+◌, ◌/◌, ◌%◌, ◌==◌, ◌<◌, ◌≤◌, ◌^◌, Bool, true, false, not, cond, List}
+use Rattle.std.proofs.Common.{[], ◌∷◌, ◌++◌, length, map, codes, refl, sym, ap, ap₂, ◌∙◌, subst, add-one, arith, nat_le}
+use Rattle.std.proofs.lemmas.{Bool.{or_right, Decides.nat_tests}, Fmt.decimal_injective, List.length-append}
+use Rattle.std.proofs.lemmas.List.{length-map, Elements.{All-nil, All-cons}, FromFn.filter_of_map_range_with_len_more}
+use Rattle.std.proofs.lemmas.List.FromFn.{map-range_with_len_more, length-map-range_with_len}
 use Rattle.std.proofs.lemmas.Slice.Eq.{bytes_eq-Decides}
+use Rattle.std.specs.{List.{list_any, list_all, range_with_len}, Prelude.{◌&&◌, if◌then◌else◌, filter, All, Result, Ok}}
+use Rattle.std.specs.{Prelude.{decimal, ⊤}, Str.bytes_eq}
+use Rattle.std.proofs.lemmas.List.Folds as folds
 use Rattle.cni_addr.proofs.Lists.{list_all-append}
 use Rattle.cni_addr.specs.Lists.{distinct}
-use Rattle.kernel_types.specs.Opening.{AreNamespaceNames}
-use Rattle.kernel_types.specs.Terms.{is_host_ns}
-use Rattle.pod_file.proofs.CommandFacts.{AreCommands, count-all_numbered}
-use Rattle.pod_file.proofs.OpeningFacts.{opening_with-ok, no_links}
+use Rattle.kernel_types.specs.{Opening.AreNamespaceNames, Terms.is_host_ns}
+use Rattle.pod_file.proofs.{CommandFacts.{AreCommands, count-all_numbered}, OpeningFacts.{opening_with-ok, no_links}}
 use Rattle.pod_file.proofs.PodFacts.{numbered_by-ok}
-use Rattle.pod_file.specs.Commands.{needs_table, is_exclusive_verb}
-use Rattle.pod_file.specs.declared.generator.Container.{Container}
-use Rattle.pod_file.specs.Generator.{container_of, containers, most_containers, namespaces_of, command_of, collection_of, deleted_of, kept_of, rounds_for, pods_for, network_name}
-use Rattle.pod_file.specs.Rounds.{in_file_order, file_limit, are_few, is_exclusive, is_alone, each_alone, round_numbered, all_numbered}
+use Rattle.pod_file.specs.{Commands.{needs_table, is_exclusive_verb}, Generator.{container_of, containers}}
+use Rattle.pod_file.specs.Generator.{most_containers, namespaces_of, command_of, collection_of, deleted_of, kept_of}
+use Rattle.pod_file.specs.{Generator.{rounds_for, pods_for, network_name}, Rounds.{in_file_order, file_limit, are_few}}
+use Rattle.pod_file.specs.Rounds.{is_exclusive, is_alone, each_alone, round_numbered, all_numbered}
 use Rattle.pod_file.specs.WellFormed.{IsCallNumber, IsWellFormedCommand, AreWellFormedRounds, IsWellFormedPods}
-use Rattle.pod_file.specs.declared.command.Command.{Command}
-use Rattle.pod_file.specs.declared.command.Verb.{Verb}
-use Rattle.pod_file.specs.declared.command.Verb.TheVariants.{Add, Check, Del}
-use Rattle.pod_file.specs.declared.error.PodError.{PodError}
+use Rattle.pod_file.specs.declared.command.{Command.Command, Verb.{Verb, TheVariants.{Add, Check, Del}}}
+use Rattle.pod_file.specs.declared.{error.PodError.PodError, generator.Container.Container}
 
 -- ---- containers
 

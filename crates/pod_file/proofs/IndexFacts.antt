@@ -1,16 +1,9 @@
 -- One more key in a set that tells what a list has.
 use Rattle.std.proofs.Common.{◌≡◌, ℕ, Bool, true, false, cond, List, [], ◌∷◌, ◌++◌, refl, sym, ap₂, ◌∙◌}
-use Rattle.std.specs.Prelude.{◌&&◌, ◌||◌}
-use Rattle.std.specs.Cmp.{both_tied}
-use Rattle.std.specs.Cmp.Lexicographic.{texts_ties}
-use Rattle.std.specs.List.{list_any}
-use Rattle.std.specs.Ordering.{is_eq}
-use Rattle.std.specs.Str.{bytes_eq}
-use Rattle.std.specs.declared.cmp.Ordering.{Ordering}
-use Rattle.std.proofs.lemmas.List.Folds.{list_any-append}
-use Rattle.std.proofs.lemmas.Slice.Eq.{bytes_eq-Decides}
-use Rattle.kernel_types.specs.Terms.{is_at}
-use Rattle.kernel_types.specs.declared.object.Link.{Link}
+use Rattle.std.proofs.lemmas.{List.Folds.list_any-append, Slice.Eq.bytes_eq-Decides}
+use Rattle.std.specs.{Cmp.{both_tied, Lexicographic.texts_ties}, List.list_any, Ordering.is_eq, Prelude.{◌&&◌, ◌||◌}}
+use Rattle.std.specs.{Str.bytes_eq, declared.cmp.Ordering.Ordering}
+use Rattle.kernel_types.specs.{Terms.is_at, declared.object.Link.Link}
 use Rattle.pod_file.specs.Indexed.{HasNames, HasPlaces, LinkPlace, link_place_cmp, name_cmp}
 
 pub bytes_eq-swap : (s t : List ℕ) → bytes_eq s t ≡ true → bytes_eq t s ≡ true

@@ -1,7 +1,7 @@
 -- One more step of numbering.
-use Rattle.std.proofs.Common.{◌≡◌, ℕ, zero, suc, ◌+◌, ◌<◌, List, [], ◌∷◌, ◌++◌, length, take, drop, slice_set, slice_index_or, refl, sym, ap, arith, add-one}
+use Rattle.std.proofs.Common.{◌≡◌, ℕ, zero, suc, ◌+◌, ◌<◌, List, [], ◌∷◌, ◌++◌, length, take, drop, slice_set}
+use Rattle.std.proofs.{Common.{slice_index_or, refl, sym, ap, arith, add-one}, lemmas.List.length-append}
 use Rattle.std.specs.Prelude.{scan}
-use Rattle.std.proofs.lemmas.List.{length-append}
 use Rattle.pod_file.specs.Rounds.{in_file_order, numbered, round_numbered, all_numbered}
 use Rattle.pod_file.specs.declared.command.Command.{Command}
 

@@ -1,31 +1,22 @@
 -- What the opening of a pod file keeps that is read.
-use Rattle.std.proofs.Common.{◌≡◌, ℕ, Bool, true, false, not, List, [], ◌∷◌, ◌++◌, length, codes, Some, None, Result, Ok, refl, ◌∙◌, subst}
-use Rattle.std.specs.Prelude.{◌&&◌, if◌then◌else◌, ok_or, map, is_none, unwrap_or}
-use Rattle.std.specs.List.{list_any}
-use Rattle.std.specs.Str.{bytes_eq}
-use Rattle.std.proofs.lemmas.Bool.{or_parts}
+use Rattle.std.proofs.Common.{◌≡◌, ℕ, Bool, true, false, not, List, [], ◌∷◌, ◌++◌, length, codes, Some, None, Result}
+use Rattle.std.proofs.{Common.{Ok, refl, ◌∙◌, subst}, lemmas.Bool.or_parts}
+use Rattle.std.specs.{List.list_any, Prelude.{◌&&◌, if◌then◌else◌, ok_or, map, is_none, unwrap_or}, Str.bytes_eq}
 use Rattle.serde_json.specs.Data.{Data, null, boolean, number, string, array, object, Items}
-use Rattle.cni_json.specs.Fields.{member_at, text_field, list_field, object_or}
-use Rattle.cni_json.specs.declared.fields.Field.{Field}
+use Rattle.cni_json.specs.{Fields.{member_at, text_field, list_field, object_or}, declared.fields.Field.Field}
 use Rattle.cni_json.specs.declared.fields.Field.TheVariants.{Absent, WrongKind, Here}
-use Rattle.kernel_types.proofs.ListLemmas.{list_all-push, list_all-weaker, list_any-map, list_any-none, list_any-weaker, distinct-push}
-use Rattle.kernel_types.proofs.Namespaces.{by_place}
-use Rattle.kernel_types.proofs.SoundOpening.{IsSound-opening_with}
-use Rattle.kernel_types.specs.Equal.{tag_eq}
-use Rattle.kernel_types.specs.Opening.{opening_with, AreNamespaceNames, AreOutsideLinks, is_outside_link}
-use Rattle.kernel_types.specs.Sound.{is_unowned_kind}
-use Rattle.kernel_types.specs.Terms.{is_at, is_host_ns, is_host_or_ns, outside_namespace}
-use Rattle.kernel_types.specs.declared.object.Host.{Host}
-use Rattle.kernel_types.specs.declared.object.Link.{Link}
-use Rattle.kernel_types.specs.declared.object.LinkKind.{LinkKind}
-use Rattle.kernel_types.specs.declared.object.LinkKind.TheVariants.{Device, Bridge}
-use Rattle.kernel_types.specs.declared.object.Tag.TheVariants.{Outside}
+use Rattle.kernel_types.proofs.ListLemmas.{list_all-push, list_all-weaker, list_any-map, list_any-none, list_any-weaker}
+use Rattle.kernel_types.proofs.{ListLemmas.distinct-push, Namespaces.by_place, SoundOpening.IsSound-opening_with}
+use Rattle.kernel_types.specs.{Equal.tag_eq, Opening.{opening_with, AreNamespaceNames, AreOutsideLinks}}
+use Rattle.kernel_types.specs.{Opening.is_outside_link, Sound.is_unowned_kind, Terms.{is_at, is_host_ns, is_host_or_ns}}
+use Rattle.kernel_types.specs.{Terms.outside_namespace, declared.object.{Host.Host, Link.Link, LinkKind.LinkKind}}
+use Rattle.kernel_types.specs.declared.object.{LinkKind.TheVariants.{Device, Bridge}, Tag.TheVariants.Outside}
 use Rattle.cni_json.proofs.Endings.{goes, ok_same, passed, not_refused, each_after_keeps}
 use Rattle.pod_file.proofs.IndexFacts.{bytes_eq-swap}
-use Rattle.pod_file.specs.Links.{name_at, kind_of, kind_at, is_place, ns_of, ns_at, mtu_at, outside_link, not_taken, link_at, next_link, listed_of, listed_at, links_at, wrong_link}
-use Rattle.pod_file.specs.Opening.{is_refused_name, namespace_at, next_namespace, namespaces_at, opening_members_at, opening_of, opening_at}
-use Rattle.pod_file.specs.WellFormed.{IsOpening}
-use Rattle.pod_file.specs.declared.error.PodError.{PodError}
+use Rattle.pod_file.specs.Links.{name_at, kind_of, kind_at, is_place, ns_of, ns_at, mtu_at, outside_link, not_taken}
+use Rattle.pod_file.specs.Links.{link_at, next_link, listed_of, listed_at, links_at, wrong_link}
+use Rattle.pod_file.specs.Opening.{is_refused_name, namespace_at, next_namespace, namespaces_at, opening_members_at}
+use Rattle.pod_file.specs.{Opening.{opening_of, opening_at}, WellFormed.IsOpening, declared.error.PodError.PodError}
 
 -- what the empty list keeps, and each list with one more that is read, is kept by the whole
 listed_of-ok : {A : Type 0} (P : List A → Type 0) (path : List ℕ) (read : List A → Data → Result A PodError) → P [] → ((before : List A) (d : Data) (x : A) → P before → read before d ≡ Ok x → P (before ++ x ∷ []))

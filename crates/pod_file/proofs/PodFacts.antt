@@ -1,20 +1,15 @@
 -- What a pod file keeps that is read.
-use Rattle.std.proofs.Common.{◌≡◌, ℕ, ◌≤◌, true, List, [], Ok, length, nat_le, subst, arith}
-use Rattle.std.proofs.lemmas.Bool.{and_parts}
+use Rattle.std.proofs.{Common.{◌≡◌, ℕ, ◌≤◌, true, List, [], Ok, length, nat_le, subst, arith}, lemmas.Bool.and_parts}
 use Rattle.std.proofs.lemmas.Bool.Decides.{nat_tests}
 use Rattle.serde_json.specs.Data.{Data}
-use Rattle.cni_json.specs.Fields.{object_or}
-use Rattle.cni_json.specs.Json.{json_of}
+use Rattle.cni_json.specs.{Fields.object_or, Json.json_of}
 use Rattle.std.specs.Prelude.{All}
-use Rattle.pod_file.proofs.CommandFacts.{AreCommands, rounds_at-ok, all_numbered-ok, length-all_numbered, count-all_numbered, all-from}
+use Rattle.pod_file.proofs.CommandFacts.{AreCommands, rounds_at-ok, all_numbered-ok, length-all_numbered}
+use Rattle.pod_file.proofs.{CommandFacts.{count-all_numbered, all-from}, OpeningFacts.opening_at-ok}
 use Rattle.cni_json.proofs.Endings.{goes, ok_same, passed}
-use Rattle.pod_file.proofs.OpeningFacts.{opening_at-ok}
-use Rattle.pod_file.specs.Opening.{opening_at}
-use Rattle.pod_file.specs.PodFile.{read_or_refused, pods_at, pods_of}
-use Rattle.pod_file.specs.Refusals.{wrong}
+use Rattle.pod_file.specs.{Opening.opening_at, PodFile.{read_or_refused, pods_at, pods_of}, Refusals.wrong}
 use Rattle.pod_file.specs.Rounds.{rounds_at, all_numbered, in_file_order, file_limit, are_few, few, each_alone}
-use Rattle.pod_file.specs.WellFormed.{AreWellFormedRounds, IsWellFormedPods}
-use Rattle.pod_file.specs.declared.command.Command.{Command}
+use Rattle.pod_file.specs.{WellFormed.{AreWellFormedRounds, IsWellFormedPods}, declared.command.Command.Command}
 use Rattle.pod_file.specs.declared.pods.Pods.{Pods}
 
 -- rounds of well-formed commands that pass each test are well formed once they are numbered

@@ -1,22 +1,16 @@
 -- A command of a pod file, key by key in the order of its refusals. Each key is tested at every verb.
-use Rattle.std.specs.Prelude.{ℕ, ◌&&◌, List, [], codes, Bool, true, false, nat_le, if◌then◌else◌, Result, Ok, ok_or, option_map, Option, Some, None, find}
-use Rattle.std.specs.Str.{bytes_eq}
+use Rattle.std.specs.Prelude.{ℕ, ◌&&◌, List, [], codes, Bool, true, false, nat_le, if◌then◌else◌, Result, Ok, ok_or}
+use Rattle.std.specs.{Prelude.{option_map, Option, Some, None, find}, Str.bytes_eq}
 use Rattle.serde_json.specs.Data.{Data}
-use Rattle.cni_json.specs.Outcome.{◌>>=◌}
 use Rattle.cni_json.specs.Fields.{text_field, u32_field, u32_of, has_32_bits, member_or, object_or, needed, tested}
-use Rattle.cni_json.specs.declared.fields.Field.{Field}
-use Rattle.kernel_types.specs.Texts.{table_named}
-use Rattle.kernel_types.specs.declared.rule.Table.{Table}
-use Rattle.pod_file.specs.Members.{text_at, needed_text_at, list_at, mappings_at, valid_at}
-use Rattle.pod_file.specs.Refusals.{wrong, wrong_key, command_path, key_path}
-use Rattle.pod_file.specs.declared.command.Command.{Command}
-use Rattle.pod_file.specs.declared.command.Verb.{Verb}
+use Rattle.cni_json.specs.{Outcome.◌>>=◌, declared.fields.Field.Field}
+use Rattle.kernel_types.specs.{Texts.table_named, declared.rule.Table.Table}
+use Rattle.pod_file.specs.{Members.{text_at, needed_text_at, list_at, mappings_at, valid_at}, Refusals.wrong}
+use Rattle.pod_file.specs.{Refusals.{wrong_key, command_path, key_path}, declared.command.Command.Command}
+use Rattle.pod_file.specs.declared.{command.{TheConstants.Verb.ALL, Verb.Verb}, commands.CommandTexts.CommandTexts}
+use Rattle.pod_file.specs.declared.{error.PodError.PodError, place.Place.Place}
 use Rattle.pod_file.specs.declared.command.Verb.TheVariants as verbs
-use Rattle.pod_file.specs.declared.command.TheConstants.Verb.{ALL}
-use Rattle.pod_file.specs.declared.commands.CommandTexts.{CommandTexts}
-use Rattle.pod_file.specs.declared.error.PodError.{PodError}
 use Rattle.pod_file.specs.declared.error.PodError.TheVariants as refusal
-use Rattle.pod_file.specs.declared.place.Place.{Place}
 
 -- ---- the verb
 

@@ -1,33 +1,17 @@
 -- A plan that a number alone gives: a network, and containers that are added, checked, half of them deleted,
 -- collected and checked again. It is this project's own.
-use Rattle.std.specs.Prelude.{ℕ, ◌+◌, ◌%◌, ◌==◌, ◌++◌, List, [], ◌∷◌, map, filter, codes, decimal, true, false, Some, None}
-use Rattle.std.specs.List.{range_with_len}
-use Rattle.cni_addr.specs.declared.address.Addr.{Addr}
-use Rattle.cni_addr.specs.declared.address.Cidr.{Cidr}
-use Rattle.cni_addr.specs.declared.address.Family.TheVariants.{V4}
-use Rattle.cni_addr.specs.declared.range.Range.{Range}
-use Rattle.cni_result.specs.Dns.{no_dns}
-use Rattle.cni_result.specs.declared.version.Version.TheVariants.{V1_1}
-use Rattle.kernel_types.specs.Opening.{opening_with}
-use Rattle.kernel_types.specs.declared.object.Host.{Host}
-use Rattle.net_conf.specs.Members.{default_mtu}
-use Rattle.net_conf.specs.declared.bridge_modes.BridgeMode.TheVariants.{Plain}
-use Rattle.net_conf.specs.declared.bridge_modes.GatewayRole.TheVariants.{Gateway}
-use Rattle.net_conf.specs.declared.chained.Chained.{Chained}
-use Rattle.net_conf.specs.declared.chained.Chained.TheVariants.{Portmap, Firewall}
-use Rattle.net_conf.specs.declared.first.BridgeConf.{BridgeConf}
-use Rattle.net_conf.specs.declared.first.First.TheVariants.{Bridge}
-use Rattle.net_conf.specs.declared.first.HostLocalConf.{HostLocalConf}
-use Rattle.net_conf.specs.declared.list.NetList.{NetList}
-use Rattle.pod_file.specs.Rounds.{all_numbered}
-use Rattle.pod_file.specs.declared.command.Command.{Command}
-use Rattle.pod_file.specs.declared.command.RawMapping.{RawMapping}
-use Rattle.pod_file.specs.declared.command.ValidAtt.{ValidAtt}
-use Rattle.pod_file.specs.declared.command.Verb.{Verb}
-use Rattle.pod_file.specs.declared.command.Verb.TheVariants.{Add, Check, Del, Gc}
-use Rattle.pod_file.specs.declared.generator.Container.{Container}
-use Rattle.pod_file.specs.declared.generator.Generated.{Generated}
-use Rattle.pod_file.specs.declared.generator.SharedTexts.{SharedTexts}
+use Rattle.std.specs.{List.range_with_len, Prelude.{ℕ, ◌+◌, ◌%◌, ◌==◌, ◌++◌, List, [], ◌∷◌, map, filter, codes}}
+use Rattle.std.specs.Prelude.{decimal, true, false, Some, None}
+use Rattle.cni_addr.specs.declared.{address.{Addr.Addr, Cidr.Cidr, Family.TheVariants.V4}, range.Range.Range}
+use Rattle.cni_result.specs.{Dns.no_dns, declared.version.Version.TheVariants.V1_1}
+use Rattle.kernel_types.specs.{Opening.opening_with, declared.object.Host.Host}
+use Rattle.net_conf.specs.{Members.default_mtu, declared.bridge_modes.BridgeMode.TheVariants.Plain}
+use Rattle.net_conf.specs.declared.{bridge_modes.GatewayRole.TheVariants.Gateway, chained.Chained.Chained}
+use Rattle.net_conf.specs.declared.{chained.Chained.TheVariants.{Portmap, Firewall}, first.BridgeConf.BridgeConf}
+use Rattle.net_conf.specs.declared.{first.{First.TheVariants.Bridge, HostLocalConf.HostLocalConf}, list.NetList.NetList}
+use Rattle.pod_file.specs.{Rounds.all_numbered, declared.command.{Command.Command, RawMapping.RawMapping}}
+use Rattle.pod_file.specs.declared.command.{ValidAtt.ValidAtt, Verb.{Verb, TheVariants.{Add, Check, Del, Gc}}}
+use Rattle.pod_file.specs.declared.generator.{Container.Container, Generated.Generated, SharedTexts.SharedTexts}
 use Rattle.pod_file.specs.declared.pods.Pods.{Pods}
 
 -- ---- the network

@@ -1,12 +1,7 @@
 -- Sets that tell what a list has.
-use Rattle.std.specs.Prelude.{◌≡◌, ℕ, List, Bool}
-use Rattle.std.specs.Cmp.Lexicographic.{slice_cmp}
-use Rattle.std.specs.List.{list_any}
-use Rattle.std.specs.Ordering.{nat_cmp, ordering_then}
-use Rattle.std.specs.Str.{bytes_eq}
-use Rattle.std.specs.declared.cmp.Ordering.{Ordering}
-use Rattle.kernel_types.specs.Terms.{is_at}
-use Rattle.kernel_types.specs.declared.object.Link.{Link}
+use Rattle.std.specs.{Cmp.Lexicographic.slice_cmp, List.list_any, Ordering.{nat_cmp, ordering_then}, Prelude.{◌≡◌, ℕ}}
+use Rattle.std.specs.{Prelude.{List, Bool}, Str.bytes_eq, declared.cmp.Ordering.Ordering}
+use Rattle.kernel_types.specs.{Terms.is_at, declared.object.Link.Link}
 
 -- names by their bytes
 abbrev pub name_cmp : List ℕ → List ℕ → Ordering

@@ -1,23 +1,15 @@
 -- The links of an opening.
-use Rattle.std.specs.Prelude.{ℕ, ◌||◌, List, [], ◌∷◌, length, codes, Bool, if◌then◌else◌, Result, Ok, ok_or, Option, find, ⊤}
-use Rattle.std.specs.List.{list_any}
-use Rattle.std.specs.Str.{bytes_eq}
+use Rattle.std.specs.{List.list_any, Prelude.{ℕ, ◌||◌, List, [], ◌∷◌, length, codes, Bool, if◌then◌else◌, Result, Ok}}
+use Rattle.std.specs.{Prelude.{ok_or, Option, find, ⊤}, Str.bytes_eq}
 use Rattle.serde_json.specs.Data.{Data, Items}
-use Rattle.cni_json.specs.Each.{each_after}
-use Rattle.cni_json.specs.Outcome.{◌>>=◌}
-use Rattle.cni_json.specs.Fields.{text_field, list_field, u64_field, member_or, object_or, needed, tested}
-use Rattle.cni_json.specs.declared.fields.Field.{Field}
+use Rattle.cni_json.specs.{Each.each_after, Fields.{text_field, list_field, u64_field, member_or, object_or, needed}}
+use Rattle.cni_json.specs.{Fields.tested, Outcome.◌>>=◌, declared.fields.Field.Field}
 use Rattle.link_names.specs.Names.{link_mac_of}
-use Rattle.kernel_types.specs.Texts.{link_kind_text}
-use Rattle.kernel_types.specs.Terms.{is_host_ns, is_at, new_link}
-use Rattle.kernel_types.specs.declared.object.Link.{Link}
-use Rattle.kernel_types.specs.declared.object.LinkKind.{LinkKind}
-use Rattle.kernel_types.specs.declared.object.LinkKind.TheVariants.{Bridge, Device}
+use Rattle.kernel_types.specs.{Terms.{is_host_ns, is_at, new_link}, Texts.link_kind_text, declared.object.Link.Link}
+use Rattle.kernel_types.specs.declared.object.LinkKind.{LinkKind, TheVariants.{Bridge, Device}}
 use Rattle.kernel_types.specs.declared.object.Tag.TheVariants.{Outside}
-use Rattle.net_conf.specs.Members.{default_mtu, is_mtu}
-use Rattle.net_conf.specs.Names.{is_interface_name}
-use Rattle.pod_file.specs.Refusals.{wrong, member_path}
-use Rattle.pod_file.specs.declared.error.PodError.{PodError}
+use Rattle.net_conf.specs.{Members.{default_mtu, is_mtu}, Names.is_interface_name}
+use Rattle.pod_file.specs.{Refusals.{wrong, member_path}, declared.error.PodError.PodError}
 use Rattle.pod_file.specs.declared.error.PodError.TheVariants as refusal
 
 abbrev pub listed_of : {A : Type 0} → List ℕ → (List A → Data → Result A PodError) → Field Items

@@ -2,14 +2,10 @@
 -- member.
 use Rattle.std.specs.Prelude.{ℕ, List, [], codes, Result, Ok}
 use Rattle.serde_json.specs.Data.{Data}
-use Rattle.cni_json.specs.Fields.{text_field, list_field, u64_field, member_or, needed, object_or}
+use Rattle.cni_json.specs.{Each.list_or, Fields.{text_field, list_field, u64_field, member_or, needed, object_or}}
 use Rattle.cni_json.specs.Outcome.{◌>>=◌}
-use Rattle.cni_json.specs.Each.{list_or}
-use Rattle.pod_file.specs.Refusals.{wrong_key}
-use Rattle.pod_file.specs.declared.command.RawMapping.{RawMapping}
-use Rattle.pod_file.specs.declared.command.ValidAtt.{ValidAtt}
-use Rattle.pod_file.specs.declared.error.PodError.{PodError}
-use Rattle.pod_file.specs.declared.place.Place.{Place}
+use Rattle.pod_file.specs.{Refusals.wrong_key, declared.command.{RawMapping.RawMapping, ValidAtt.ValidAtt}}
+use Rattle.pod_file.specs.declared.{error.PodError.PodError, place.Place.Place}
 
 -- a text, or the default where there is none
 unfoldable pub inner_text_at : Place → List ℕ → List ℕ → List ℕ → Data → Result (List ℕ) PodError

@@ -1,16 +1,10 @@
 -- The opening.
-use Rattle.std.specs.Prelude.{ℕ, ◌||◌, Bool, List, [], length, codes, if◌then◌else◌, Result, Ok, unwrap_or}
-use Rattle.std.specs.List.{list_any}
-use Rattle.std.specs.Str.{bytes_eq}
+use Rattle.std.specs.{List.list_any, Prelude.{ℕ, ◌||◌, Bool, List, [], length, codes, if◌then◌else◌, Result, Ok}}
+use Rattle.std.specs.{Prelude.unwrap_or, Str.bytes_eq}
 use Rattle.serde_json.specs.Data.{Data, null, object, string}
-use Rattle.cni_json.specs.Fields.{member_at}
-use Rattle.cni_json.specs.Outcome.{◌>>=◌}
-use Rattle.kernel_types.specs.Opening.{opening_with}
-use Rattle.kernel_types.specs.Terms.{is_host_ns}
-use Rattle.kernel_types.specs.declared.object.Host.{Host}
-use Rattle.pod_file.specs.Links.{links_at, listed_at}
-use Rattle.pod_file.specs.Refusals.{wrong, member_path}
-use Rattle.pod_file.specs.declared.error.PodError.{PodError}
+use Rattle.cni_json.specs.{Fields.member_at, Outcome.◌>>=◌}
+use Rattle.kernel_types.specs.{Opening.opening_with, Terms.is_host_ns, declared.object.Host.Host}
+use Rattle.pod_file.specs.{Links.{links_at, listed_at}, Refusals.{wrong, member_path}, declared.error.PodError.PodError}
 
 -- what is wrong in a namespace has its place
 abbrev pub wrong_namespace : {A : Type 0} → ℕ → Result A PodError

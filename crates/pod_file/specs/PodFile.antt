@@ -1,17 +1,11 @@
 -- A pod file, part by part in the order of its refusals. The format is this project's own.
 use Rattle.std.specs.Prelude.{ℕ, List, [], Result, Ok, Err}
 use Rattle.serde_json.specs.Data.{Data}
-use Rattle.cni_json.specs.Fields.{object_or}
-use Rattle.cni_json.specs.Json.{json_of}
-use Rattle.cni_json.specs.Outcome.{◌>>=◌}
-use Rattle.cni_json.specs.declared.reading.ReadEnd.{ReadEnd}
+use Rattle.cni_json.specs.{Fields.object_or, Json.json_of, Outcome.◌>>=◌, declared.reading.ReadEnd.ReadEnd}
 use Rattle.cni_json.specs.declared.reading.ReadEnd.TheVariants as ends
-use Rattle.pod_file.specs.Opening.{opening_at}
-use Rattle.pod_file.specs.Refusals.{wrong}
-use Rattle.pod_file.specs.Rounds.{rounds_at, few, each_alone, all_numbered}
-use Rattle.pod_file.specs.declared.error.PodError.{PodError}
+use Rattle.pod_file.specs.{Opening.opening_at, Refusals.wrong, Rounds.{rounds_at, few, each_alone, all_numbered}}
+use Rattle.pod_file.specs.declared.{error.PodError.PodError, pods.Pods.Pods}
 use Rattle.pod_file.specs.declared.error.PodError.TheVariants as refusal
-use Rattle.pod_file.specs.declared.pods.Pods.{Pods}
 
 -- bytes that are no JSON, or have another number than whole ones of 64 bits
 abbrev pub read_or_refused : Result Data ReadEnd → Result Data PodError

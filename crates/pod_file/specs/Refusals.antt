@@ -1,9 +1,7 @@
 -- Why a pod file is refused, and how the place of what is wrong is written.
 use Rattle.std.specs.Prelude.{ℕ, List, ◌++◌, codes, decimal, Bool, true, false, Result, Err}
-use Rattle.pod_file.specs.declared.error.PodError.{PodError}
+use Rattle.pod_file.specs.declared.{error.PodError.PodError, place.Place.{Place, TheVariants.{InRound, InTasks}}}
 use Rattle.pod_file.specs.declared.error.PodError.TheVariants as refusal
-use Rattle.pod_file.specs.declared.place.Place.{Place}
-use Rattle.pod_file.specs.declared.place.Place.TheVariants.{InRound, InTasks}
 
 -- the refusal says that memory ran out
 abbrev pub is_out_of_memory : PodError → Bool

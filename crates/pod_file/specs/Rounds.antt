@@ -1,16 +1,11 @@
 -- The rounds of a pod file: how many there may be, which commands stand alone, and how commands are numbered.
-use Rattle.std.specs.Prelude.{ℕ, ◌+◌, ◌&&◌, ◌||◌, List, [], ◌∷◌, flat_map, scan, length, codes, Bool, not, nat_le, if◌then◌else◌, Result, Ok, Err, ⊤}
-use Rattle.std.specs.List.{list_any}
+use Rattle.std.specs.{List.list_any, Prelude.{ℕ, ◌+◌, ◌&&◌, ◌||◌, List, [], ◌∷◌, flat_map, scan, length, codes, Bool}}
+use Rattle.std.specs.Prelude.{not, nat_le, if◌then◌else◌, Result, Ok, Err, ⊤}
 use Rattle.serde_json.specs.Data.{Data, array, Items}
-use Rattle.cni_json.specs.Fields.{list_field, needed}
-use Rattle.cni_json.specs.declared.fields.Field.{Field}
-use Rattle.pod_file.specs.Commands.{is_exclusive_verb, command_at}
-use Rattle.cni_json.specs.Each.{each_from}
-use Rattle.pod_file.specs.Refusals.{wrong, member_path}
-use Rattle.pod_file.specs.declared.command.Command.{Command}
-use Rattle.pod_file.specs.declared.error.PodError.{PodError}
+use Rattle.cni_json.specs.{Each.each_from, Fields.{list_field, needed}, declared.fields.Field.Field}
+use Rattle.pod_file.specs.{Commands.{is_exclusive_verb, command_at}, Refusals.{wrong, member_path}}
+use Rattle.pod_file.specs.declared.{command.Command.Command, error.PodError.PodError, place.Place.TheVariants.InRound}
 use Rattle.pod_file.specs.declared.error.PodError.TheVariants as refusal
-use Rattle.pod_file.specs.declared.place.Place.TheVariants.{InRound}
 
 -- a command of that round at that place
 abbrev pub command_in : ℕ → ℕ → Data → Result Command PodError

@@ -1,14 +1,10 @@
 -- What every pod file that is read keeps.
 use Rattle.std.specs.Prelude.{◌≡◌, ℕ, ◌+◌, ◌≤◌, List, [], length, IsTrue, IfSome, All, Option, Some, is_some, slice_get}
 use Rattle.cni_json.specs.Fields.{has_32_bits}
-use Rattle.kernel_types.specs.Equal.{tag_eq}
-use Rattle.kernel_types.specs.Sound.{AllPassTest, IsSound}
-use Rattle.kernel_types.specs.declared.object.Host.{Host}
+use Rattle.kernel_types.specs.{Equal.tag_eq, Sound.{AllPassTest, IsSound}, declared.object.Host.Host}
 use Rattle.kernel_types.specs.declared.object.Tag.TheVariants.{Outside}
-use Rattle.pod_file.specs.Commands.{is_call_number, needs_table}
-use Rattle.pod_file.specs.Rounds.{in_file_order, file_limit, is_alone}
-use Rattle.pod_file.specs.declared.command.Command.{Command}
-use Rattle.pod_file.specs.declared.pods.Pods.{Pods}
+use Rattle.pod_file.specs.{Commands.{is_call_number, needs_table}, Rounds.{in_file_order, file_limit, is_alone}}
+use Rattle.pod_file.specs.declared.{command.Command.Command, pods.Pods.Pods}
 
 -- the host is sound, its links were made outside, and besides namespaces it has nothing else
 pub record IsOpening (host : Host) : Type 0 where

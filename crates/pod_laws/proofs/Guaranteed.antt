@@ -4,30 +4,20 @@ use Rattle.std.proofs.lemmas.Bool.{cases_Bool}
 use Rattle.cni_errors.specs.declared.answer.Answer.{Answer}
 use Rattle.cni_errors.specs.declared.answer.Answer.TheVariants as answers
 use Rattle.net_conf.specs.declared.list.NetList.{NetList}
-use Rattle.pod_file.specs.Commands.{is_of_network}
-use Rattle.pod_file.specs.declared.command.Command.{Command}
-use Rattle.pod_file.specs.declared.command.Verb.{Verb}
+use Rattle.pod_file.specs.{Commands.is_of_network, declared.command.{Command.Command, Verb.Verb}}
 use Rattle.pod_file.specs.declared.command.Verb.TheVariants as verbs
-use Rattle.pod_workers.specs.Legal.{Legal}
-use Rattle.pod_workers.specs.Plans.{Placed, commands_of, list_for}
-use Rattle.pod_workers.specs.World.{World}
-use Rattle.pod_workers.specs.declared.plan.Entry.{Entry}
-use Rattle.pod_workers.specs.declared.plan.Plan.{Plan}
-use Rattle.pod_workers.proofs.Prefixes.{each_prefix}
-use Rattle.pod_workers.proofs.Listed.{listed_network}
-use Rattle.pod_workers.proofs.Sound.{no_address_twice, sound_host}
-use Rattle.pod_laws.specs.Answers.{is_cut_off}
-use Rattle.pod_laws.specs.CachedResults.{EachCachedResultIsItsAdds}
-use Rattle.pod_laws.specs.Collected.{IsAnswerOfGc}
-use Rattle.pod_laws.specs.Guaranteed.{AreAnswers, EveryLegalHistoryIsGuaranteed, IsAnswerOfAdd, IsAnswerOfCheck, IsAnswerOfDel, IsWellKept}
-use Rattle.pod_laws.proofs.AskedFor.Moments.{nothing_is_unasked}
-use Rattle.pod_laws.proofs.Checked.Runs.{was_checked}
-use Rattle.pod_laws.proofs.Checked.Starts.{checks_hold_from_their_start}
+use Rattle.pod_workers.specs.{Legal.Legal, Plans.{Placed, commands_of, list_for}, World.World}
+use Rattle.pod_workers.specs.declared.plan.{Entry.Entry, Plan.Plan}
+use Rattle.pod_workers.proofs.{Listed.listed_network, Prefixes.each_prefix, Sound.{no_address_twice, sound_host}}
+use Rattle.pod_laws.specs.{Answers.is_cut_off, CachedResults.EachCachedResultIsItsAdds, Collected.IsAnswerOfGc}
+use Rattle.pod_laws.specs.Guaranteed.{AreAnswers, EveryLegalHistoryIsGuaranteed, IsAnswerOfAdd, IsAnswerOfCheck}
+use Rattle.pod_laws.specs.Guaranteed.{IsAnswerOfDel, IsWellKept}
+use Rattle.pod_laws.proofs.AskedFor.{MadeLinks.links_are_made_or_wanted, Moments.nothing_is_unasked}
+use Rattle.pod_laws.proofs.Checked.{Runs.was_checked, Starts.checks_hold_from_their_start}
 use Rattle.pod_laws.proofs.Collected.Answered.{collections_are_answered, collections_are_bounded}
+use Rattle.pod_laws.proofs.{Deleted.Repeated.repeated_deletions_leave, Given.OfRuns.{answers_of_add, answers_of_del}}
+use Rattle.pod_laws.proofs.Given.OfRuns.{was_added, was_deleted, was_not_deleted, was_refused}
 use Rattle.pod_laws.proofs.LastAddresses.{each_last_is_candidate}
-use Rattle.pod_laws.proofs.Given.OfRuns.{answers_of_add, answers_of_del, was_added, was_deleted, was_not_deleted, was_refused}
-use Rattle.pod_laws.proofs.Deleted.Repeated.{repeated_deletions_leave}
-use Rattle.pod_laws.proofs.AskedFor.MadeLinks.{links_are_made_or_wanted}
 
 -- ---- moments
 

@@ -4,8 +4,7 @@ use Rattle.std.specs.Prelude.{filter, if◌then◌else◌}
 use Rattle.cni_addr.specs.Lists.{IsAmong}
 use Rattle.gc_sweep.proofs.Lists.{drops-trans}
 use Rattle.kernel_types.specs.Touch.{DropsOnly}
-use Rattle.pod_laws.specs.Apart.{GrowsAtEnd}
-use Rattle.pod_laws.specs.AskedFor.{IsPart}
+use Rattle.pod_laws.specs.{Apart.GrowsAtEnd, AskedFor.IsPart}
 
 -- ---- what stands at the front of a list is a part of it
 

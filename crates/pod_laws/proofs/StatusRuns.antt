@@ -1,44 +1,33 @@
 -- A STATUS asks of one host, and its answer is what that host has to give.
-use Rattle.std.proofs.Common.{◌≡◌, ℕ, ◌+◌, Bool, true, false, List, [], ◌∷◌, ◌++◌, length, refl, sym, ◌∙◌, ap, subst, Option, Some, None}
-use Rattle.std.proofs.Math.Bool.{and-true}
-use Rattle.std.specs.Prelude.{◌&&◌, MatchBool}
-use Rattle.std.specs.List.{AllByRecursion, list_all}
+use Rattle.std.proofs.Common.{◌≡◌, ℕ, ◌+◌, Bool, true, false, List, [], ◌∷◌, ◌++◌, length, refl, sym, ◌∙◌, ap, subst}
+use Rattle.std.proofs.{Common.{Option, Some, None}, Math.Bool.and-true, lemmas.List.length_push}
 use Rattle.std.proofs.lemmas.List.Folds.{list_all-append}
-use Rattle.std.proofs.lemmas.List.{length_push}
+use Rattle.std.specs.{List.{AllByRecursion, list_all}, Prelude.{◌&&◌, MatchBool}}
 use Rattle.cni_addr.specs.declared.range.RangeSet.{RangeSet}
 use Rattle.cni_result.specs.Versions.{is_before_1_1}
 use Rattle.net_conf.specs.declared.list.NetList.{NetList}
-use Rattle.pod_file.specs.Commands.{is_exclusive_verb}
-use Rattle.pod_file.specs.declared.command.Command.{Command}
-use Rattle.pod_file.specs.declared.command.Verb.{Verb}
+use Rattle.pod_file.specs.{Commands.is_exclusive_verb, declared.command.{Command.Command, Verb.Verb}}
 use Rattle.pod_file.specs.declared.command.Verb.TheVariants as verbs
 use Rattle.ip_pool.specs.Pool.{has_free_of}
-use Rattle.kernel_types.specs.Apply.{apply}
-use Rattle.kernel_types.specs.Apply.Calls.{has_master, leased_addresses}
-use Rattle.kernel_types.specs.Replies.{is_fault}
-use Rattle.kernel_types.proofs.Replies.{IsReplyOf-apply}
+use Rattle.kernel_types.specs.{Apply.{apply, Calls.{has_master, leased_addresses}}, Replies.is_fault}
 use Rattle.kernel_types.specs.declared.object.Host.{Host}
-use Rattle.cni_verbs.specs.Questions.{master_questions, pool_questions, status_questions}
-use Rattle.cni_verbs.specs.Script.{State, Asking, Over, Calls, advance, asking, at_question, start_of, turn, old_ending, unless_ended}
+use Rattle.kernel_types.proofs.Replies.{IsReplyOf-apply}
+use Rattle.cni_verbs.specs.{Questions.{master_questions, pool_questions, status_questions}, Script.{State, Asking}}
+use Rattle.cni_verbs.specs.Script.{Over, Calls, advance, asking, at_question, start_of, turn, old_ending, unless_ended}
 use Rattle.plugin_chain.specs.Wanted.{master_of, sets_of}
 use Rattle.cni_errors.specs.declared.answer.Cause.TheVariants as causes
-use Rattle.cni_errors.specs.declared.answer.Ending.{Ending}
-use Rattle.cni_errors.specs.declared.answer.Ending.TheVariants.{Refused}
-use Rattle.cni_errors.specs.declared.answer.Question.{Question}
+use Rattle.cni_errors.specs.declared.answer.{Ending.{Ending, TheVariants.Refused}, Question.Question}
 use Rattle.cni_verbs.proofs.EarlyEndings.{old_ending-cases, too_old}
-use Rattle.pod_workers.specs.World.{entry_of, host_of, reply_to}
-use Rattle.pod_workers.specs.declared.plan.Entry.{Entry}
-use Rattle.pod_laws.specs.Available.{EndsStatus, IsUnavailable, LacksService, WasAvailable, is_available}
-use Rattle.pod_laws.specs.Granted.{grants, only_asks}
-use Rattle.pod_laws.specs.Moments.{has_fault, host_at_end, own_entries}
-use Rattle.pod_laws.specs.Answers.{EndsByFault, EndsByTest}
-use Rattle.pod_laws.proofs.Questions.Asking.{EndsAsked, HasAsked, IsAsking, asked-all, asked-none, asked-reply, by-asked, no_fault-more, fault-last, tells}
+use Rattle.pod_workers.specs.{World.{entry_of, host_of, reply_to}, declared.plan.Entry.Entry}
+use Rattle.pod_laws.specs.{Answers.{EndsByFault, EndsByTest}, Available.{EndsStatus, IsUnavailable, LacksService}}
+use Rattle.pod_laws.specs.{Available.{WasAvailable, is_available}, Granted.{grants, only_asks}, Moments.has_fault}
+use Rattle.pod_laws.specs.Moments.{host_at_end, own_entries}
+use Rattle.pod_laws.proofs.{Given.CutOff.{over-by, answered-by}, Histories.RunFacts.{HostFact, IsHostFact, StartsOn}}
+use Rattle.pod_laws.proofs.{Histories.{RunFacts.each-run, Runs.own-state}, Questions.Asking.{EndsAsked, HasAsked}}
+use Rattle.pod_laws.proofs.Questions.Asking.{IsAsking, asked-all, asked-none, asked-reply, by-asked, no_fault-more}
+use Rattle.pod_laws.proofs.Questions.{Asking.{fault-last, tells}, Entries.question-entered, SteadyHosts.KeepsAsked}
+use Rattle.pod_laws.proofs.Questions.SteadyHosts.{asked-kept}
 use Rattle.pod_workers.proofs.Each.{each-append, each-at}
-use Rattle.pod_laws.proofs.Given.CutOff.{over-by, answered-by}
-use Rattle.pod_laws.proofs.Histories.RunFacts.{HostFact, IsHostFact, StartsOn, each-run}
-use Rattle.pod_laws.proofs.Questions.Entries.{question-entered}
-use Rattle.pod_laws.proofs.Histories.Runs.{own-state}
-use Rattle.pod_laws.proofs.Questions.SteadyHosts.{KeepsAsked, asked-kept}
 
 -- ---- its questions
 

@@ -1,9 +1,7 @@
 -- Tests of one and of many.
-use Rattle.std.proofs.Common.{◌≡◌, Bool, true, List, [], ◌∷◌, ◌++◌, sym, ◌∙◌, ap, arith}
-use Rattle.std.proofs.lemmas.Bool.{and_parts, both_ways}
-use Rattle.std.proofs.lemmas.List.Folds.{list_all-append}
-use Rattle.std.specs.Prelude.{filter}
-use Rattle.std.specs.List.{list_all, list_any}
+use Rattle.std.proofs.{Common.{◌≡◌, Bool, true, List, [], ◌∷◌, ◌++◌, sym, ◌∙◌, ap, arith}, lemmas.Bool.and_parts}
+use Rattle.std.proofs.lemmas.{Bool.both_ways, List.Folds.list_all-append}
+use Rattle.std.specs.{List.{list_all, list_any}, Prelude.filter}
 use Rattle.pod_laws.specs.Answers.{IsFirstToFail}
 
 -- what passes among some passes among all

@@ -1,22 +1,17 @@
 -- What an ADD that was answered with a result has made (CNI specification, section 3, "Adding an attachment").
 use Rattle.std.specs.Prelude.{◌≡◌, ℕ, true, Some, slice_get}
-use Rattle.cni_addr.specs.Equal.{addr_eq}
-use Rattle.cni_addr.specs.Lists.{distinct}
+use Rattle.cni_addr.specs.{Equal.addr_eq, Lists.distinct}
 use Rattle.cni_result.specs.declared.result.AddResult.{AddResult}
 use Rattle.cni_errors.specs.CommandFields.{att_of}
-use Rattle.cni_verbs.specs.Mappings.{mappings_of}
-use Rattle.cni_verbs.specs.Script.{leases_in}
+use Rattle.cni_verbs.specs.{Mappings.mappings_of, Script.leases_in}
 use Rattle.plugin_chain.specs.Wanted.{result_of_add, sets_of, wanted}
 use Rattle.cni_errors.specs.declared.answer.Answer.TheVariants as answers
 use Rattle.host_local.specs.Laws.{AreCandidates}
 use Rattle.net_conf.specs.declared.list.NetList.{NetList}
 use Rattle.pod_file.specs.declared.command.Command.{Command}
 use Rattle.pod_file.specs.declared.command.Verb.TheVariants as verbs
-use Rattle.pod_workers.specs.Legal.{Legal}
-use Rattle.pod_workers.specs.Plans.{Placed, commands_of, list_for}
-use Rattle.pod_workers.specs.World.{World, own_replies}
-use Rattle.pod_laws.specs.Moments.{objects_at_end, own_entries}
-use Rattle.pod_laws.specs.Refused.{NothingRefuses}
+use Rattle.pod_workers.specs.{Legal.Legal, Plans.{Placed, commands_of, list_for}, World.{World, own_replies}}
+use Rattle.pod_laws.specs.{Moments.{objects_at_end, own_entries}, Refused.NothingRefuses}
 
 -- It was leased one address a range set, no two the same, and these decide its result. At its last entry its attachment
 -- has exactly the objects that they ask for, list by list, in order. Neither its fields nor an entry refused it.

@@ -2,22 +2,13 @@
 use Rattle.std.specs.Prelude.{◌≡◌, Bool, true, false, ◌&&◌, not, List, filter, ⊤}
 use Rattle.cni_errors.specs.CommandFields.{att_of}
 use Rattle.cni_verbs.specs.Progress.{is_gc}
-use Rattle.kernel_types.specs.Equal.{att_eq, tag_eq}
-use Rattle.kernel_types.specs.Isolation.{KeepsWhere}
-use Rattle.kernel_types.specs.Touch.{is_base}
-use Rattle.kernel_types.specs.declared.object.Att.{Att}
-use Rattle.kernel_types.specs.declared.object.Host.{Host}
-use Rattle.kernel_types.specs.declared.object.Tag.{Tag}
-use Rattle.kernel_types.specs.declared.object.Tag.TheVariants.{Outside}
+use Rattle.kernel_types.specs.{Equal.{att_eq, tag_eq}, Isolation.KeepsWhere, Touch.is_base, declared.object.Att.Att}
+use Rattle.kernel_types.specs.declared.object.{Host.Host, Tag.{Tag, TheVariants.Outside}}
 use Rattle.plugin_base.specs.Share.{share_of}
-use Rattle.pod_file.specs.declared.command.Command.{Command}
-use Rattle.pod_file.specs.declared.command.Verb.{Verb}
+use Rattle.pod_file.specs.{Commands.is_of_network, declared.command.{Command.Command, Verb.Verb}}
 use Rattle.pod_file.specs.declared.command.Verb.TheVariants as verbs
 use Rattle.gc_sweep.specs.Keep.{stays}
-use Rattle.pod_file.specs.Commands.{is_of_network}
-use Rattle.pod_workers.specs.Extends.{Appends}
-use Rattle.pod_workers.specs.declared.plan.Entry.{Entry}
-use Rattle.pod_workers.specs.declared.plan.Plan.{Plan}
+use Rattle.pod_workers.specs.{Extends.Appends, declared.plan.{Entry.Entry, Plan.Plan}}
 use Rattle.pod_laws.specs.Single.{EachEntry, ByVerb}
 
 -- a GC and a change from outside may take from any attachment; each other verb changes its own at most

@@ -1,32 +1,19 @@
 -- Each object that an attachment has is one that an ADD of it asked for.
-use Rattle.std.specs.Prelude.{◌≡◌, ◌≢◌, ℕ, ◌+◌, ◌⊎◌, Bool, true, false, ◌&&◌, List, [], ◌∷◌, ◌++◌, Option, Some, None, slice_get, if◌then◌else◌}
-use Rattle.std.specs.List.{AllByRecursion}
-use Rattle.std.specs.Option.{option_or}
-use Rattle.cni_addr.specs.declared.address.Addr.{Addr}
-use Rattle.cni_addr.specs.declared.range.RangeSet.{RangeSet}
-use Rattle.cni_verbs.specs.AddCalls.{is_done}
+use Rattle.std.specs.{List.AllByRecursion, Option.option_or, Prelude.{◌≡◌, ◌≢◌, ℕ, ◌+◌, ◌⊎◌, Bool, true, false, ◌&&◌}}
+use Rattle.std.specs.Prelude.{List, [], ◌∷◌, ◌++◌, Option, Some, None, slice_get, if◌then◌else◌}
+use Rattle.cni_addr.specs.{Lists.IsAmong, declared.{address.Addr.Addr, range.RangeSet.RangeSet}}
+use Rattle.cni_verbs.specs.{AddCalls.is_done, Mappings.mappings_of, Script.leases_in}
 use Rattle.cni_errors.specs.CommandFields.{att_of}
-use Rattle.cni_verbs.specs.Mappings.{mappings_of}
-use Rattle.cni_verbs.specs.Script.{leases_in}
 use Rattle.plugin_chain.specs.Wanted.{back_calls, sets_links, sets_of, links_made, wanted}
 use Rattle.host_local.specs.Laws.{AreCandidates}
-use Rattle.kernel_types.specs.Equal.{att_eq}
-use Rattle.kernel_types.specs.Touch.{DropsOnly}
-use Rattle.cni_addr.specs.Lists.{IsAmong}
-use Rattle.kernel_types.specs.declared.object.Att.{Att}
-use Rattle.kernel_types.specs.declared.object.Link.{Link}
-use Rattle.kernel_types.specs.declared.call.Call.{Call}
-use Rattle.kernel_types.specs.declared.call.Call.TheVariants.{Begin}
+use Rattle.kernel_types.specs.{Equal.att_eq, Touch.DropsOnly, declared.call.Call.{Call, TheVariants.Begin}}
+use Rattle.kernel_types.specs.declared.object.{Att.Att, Link.Link}
 use Rattle.net_conf.specs.declared.list.NetList.{NetList}
-use Rattle.plugin_base.specs.PluginCalls.{at_most_one}
-use Rattle.plugin_base.specs.Share.{Share, no_objects, share_after_calls}
+use Rattle.plugin_base.specs.{PluginCalls.at_most_one, Share.{Share, no_objects, share_after_calls}}
 use Rattle.pod_file.specs.declared.command.Command.{Command}
 use Rattle.pod_file.specs.declared.command.Verb.TheVariants as verbs
-use Rattle.pod_workers.specs.Legal.{Legal}
-use Rattle.pod_workers.specs.Plans.{Placed, commands_of, list_for}
-use Rattle.pod_workers.specs.World.{World, replies_of}
-use Rattle.pod_workers.specs.declared.plan.Entry.{Entry}
-use Rattle.pod_workers.specs.declared.plan.Plan.{Plan}
+use Rattle.pod_workers.specs.{Legal.Legal, Plans.{Placed, commands_of, list_for}, World.{World, replies_of}}
+use Rattle.pod_workers.specs.declared.plan.{Entry.Entry, Plan.Plan}
 use Rattle.pod_laws.specs.Moments.{IsGone, objects_after}
 
 -- ---- lists

@@ -1,24 +1,17 @@
 -- What a STATUS is answered (CNI specification, section 3, "Status").
-use Rattle.std.specs.Prelude.{◌≡◌, ◌&&◌, Bool, MatchBool, List, []}
-use Rattle.std.specs.List.{list_all}
+use Rattle.std.specs.{List.list_all, Prelude.{◌≡◌, ◌&&◌, Bool, MatchBool, List, []}}
 use Rattle.cni_result.specs.Versions.{is_before_1_1}
-use Rattle.cni_errors.specs.Answers.{code_of}
+use Rattle.cni_errors.specs.{Answers.code_of, declared.answer.{Cause.Cause, Ending.{Ending, TheVariants.Refused}}}
 use Rattle.cni_verbs.specs.Questions.{status_questions}
 use Rattle.plugin_chain.specs.Wanted.{master_of, sets_of}
-use Rattle.cni_errors.specs.declared.answer.Cause.{Cause}
 use Rattle.cni_errors.specs.declared.answer.Cause.TheVariants as causes
-use Rattle.cni_errors.specs.declared.answer.Ending.{Ending}
-use Rattle.cni_errors.specs.declared.answer.Ending.TheVariants.{Refused}
 use Rattle.ip_pool.specs.Pool.{has_free_of}
-use Rattle.kernel_types.specs.Apply.Calls.{has_master, leased_addresses}
-use Rattle.kernel_types.specs.declared.object.Host.{Host}
+use Rattle.kernel_types.specs.{Apply.Calls.{has_master, leased_addresses}, declared.object.Host.Host}
 use Rattle.net_conf.specs.declared.list.NetList.{NetList}
 use Rattle.pod_file.specs.declared.command.Command.{Command}
 use Rattle.pod_file.specs.declared.command.Verb.TheVariants as verbs
 use Rattle.pod_workers.specs.declared.plan.Entry.{Entry}
-use Rattle.pod_laws.specs.Granted.{EndsByDenied}
-use Rattle.pod_laws.specs.Moments.{has_fault}
-use Rattle.pod_laws.specs.Answers.{EachEnding, EndsByFault, EndsByTest}
+use Rattle.pod_laws.specs.{Answers.{EachEnding, EndsByFault, EndsByTest}, Granted.EndsByDenied, Moments.has_fault}
 
 -- the network can serve an ADD: each range set has a free address, and the master, if the plugin has one, is there
 abbrev pub is_available : NetList → Command → Host → Bool

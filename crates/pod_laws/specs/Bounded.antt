@@ -7,15 +7,11 @@ use Rattle.plugin_chain.specs.Wanted.{kinds_of, sets_of}
 use Rattle.kernel_types.specs.declared.call.Reply.TheVariants.{Entry as Found}
 use Rattle.net_conf.specs.declared.list.NetList.{NetList}
 use Rattle.plugin_base.specs.Share.{Share}
-use Rattle.pod_file.specs.Commands.{is_of_network}
-use Rattle.pod_file.specs.declared.command.Command.{Command}
+use Rattle.pod_file.specs.{Commands.is_of_network, declared.command.Command.Command}
 use Rattle.pod_file.specs.declared.command.Verb.TheVariants as verbs
 use Rattle.gc_sweep.specs.Deletions.{deletions_of}
-use Rattle.pod_workers.specs.CallCounts.{AddsInAtMost, most_calls}
-use Rattle.pod_workers.specs.Legal.{Legal}
-use Rattle.pod_workers.specs.Plans.{Placed, commands_of, list_for}
-use Rattle.pod_workers.specs.World.{World, own_replies}
-use Rattle.pod_workers.specs.declared.plan.Entry.{Entry}
+use Rattle.pod_workers.specs.{CallCounts.{AddsInAtMost, most_calls}, Legal.Legal, Plans.{Placed, commands_of, list_for}}
+use Rattle.pod_workers.specs.{World.{World, own_replies}, declared.plan.Entry.Entry}
 use Rattle.pod_laws.specs.Moments.{objects_after, own_entries}
 
 -- this is the first entry of the command at place n, after these

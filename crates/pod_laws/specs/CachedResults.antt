@@ -1,17 +1,11 @@
 -- Each cached result is the one of the ADD that asked for what its attachment has.
 use Rattle.std.specs.Prelude.{◌≡◌, List, Some}
 use Rattle.cni_result.specs.declared.cached.Cached.{Cached}
-use Rattle.cni_verbs.specs.Mappings.{mappings_of}
-use Rattle.cni_verbs.specs.Questions.{addresses_of_result}
-use Rattle.cni_verbs.specs.Script.{leases_in}
+use Rattle.cni_verbs.specs.{Mappings.mappings_of, Questions.addresses_of_result, Script.leases_in}
 use Rattle.host_local.specs.Laws.{AreCandidates}
-use Rattle.kernel_types.specs.Terms.{cached_in}
-use Rattle.kernel_types.specs.declared.object.Att.{Att}
+use Rattle.kernel_types.specs.{Terms.cached_in, declared.object.Att.Att}
 use Rattle.plugin_chain.specs.Wanted.{cached_of, sets_of}
-use Rattle.pod_workers.specs.Legal.{Legal}
-use Rattle.pod_workers.specs.World.{World, after, replies_of}
-use Rattle.pod_workers.specs.declared.plan.Entry.{Entry}
-use Rattle.pod_workers.specs.declared.plan.Plan.{Plan}
+use Rattle.pod_workers.specs.{Legal.Legal, World.{World, after, replies_of}, declared.plan.{Entry.Entry, Plan.Plan}}
 use Rattle.pod_laws.specs.AskedFor.{IsAskedFor}
 
 -- The last ADD of the attachment whose Begin was done was leased one candidate a range set. By its namespace, the port

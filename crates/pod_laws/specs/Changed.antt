@@ -1,16 +1,11 @@
 -- What a VERSION is answered (CNI specification, section 3, "Version"), and what a change from outside is.
 use Rattle.std.specs.Prelude.{◌≡◌, false, List, [], ◌∷◌}
-use Rattle.cni_verbs.specs.Endings.{outside_by}
-use Rattle.cni_verbs.specs.Script.{State, Over, Changing, changed, outside_start}
-use Rattle.cni_errors.specs.declared.answer.Answer.{Answer}
-use Rattle.cni_errors.specs.declared.answer.Ending.TheVariants.{Versions}
-use Rattle.pod_file.specs.declared.command.Command.{Command}
-use Rattle.pod_file.specs.declared.command.Verb.{Verb}
+use Rattle.cni_verbs.specs.{Endings.outside_by, Script.{State, Over, Changing, changed, outside_start}}
+use Rattle.cni_errors.specs.declared.answer.{Answer.Answer, Ending.TheVariants.Versions}
+use Rattle.pod_file.specs.{Commands.is_of_network, declared.command.{Command.Command, Verb.Verb}}
 use Rattle.pod_file.specs.declared.command.Verb.TheVariants as verbs
-use Rattle.pod_file.specs.Commands.{is_of_network}
 use Rattle.pod_workers.specs.declared.plan.Entry.{Entry}
-use Rattle.pod_laws.specs.Moments.{own_entries}
-use Rattle.pod_laws.specs.Answers.{EachAnswer, EachEnding, is_cut_off}
+use Rattle.pod_laws.specs.{Answers.{EachAnswer, EachEnding, is_cut_off}, Moments.own_entries}
 
 -- ---- VERSION
 

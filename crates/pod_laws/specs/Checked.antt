@@ -1,34 +1,24 @@
 -- What a CHECK is answered (CNI specification, section 3, "Checking attachment").
-use Rattle.std.specs.Prelude.{◌≡◌, ℕ, ◌&&◌, Bool, true, false, List, [], ◌∷◌, Option, Some, None}
-use Rattle.std.specs.List.{list_any, list_all}
+use Rattle.std.specs.{List.{list_any, list_all}, Prelude.{◌≡◌, ℕ, ◌&&◌, Bool, true, false, List, [], ◌∷◌, Option, Some}}
+use Rattle.std.specs.Prelude.{None}
 use Rattle.cni_addr.specs.declared.mac.Mac.{Mac}
-use Rattle.cni_result.specs.declared.cached.Cached.{Cached}
-use Rattle.cni_result.specs.declared.result.Interface.{Interface}
-use Rattle.cni_errors.specs.CommandFields.{att_of, del_refusal}
+use Rattle.cni_result.specs.declared.{cached.Cached.Cached, result.Interface.Interface}
+use Rattle.cni_errors.specs.{CommandFields.{att_of, del_refusal}, declared.answer.{Cause.Cause, Ending.Ending}}
+use Rattle.cni_errors.specs.declared.answer.{Ending.TheVariants.{Skipped, Refused}, Missed.Missed}
 use Rattle.cni_verbs.specs.Questions.{cached_share, check_questions}
 use Rattle.plugin_chain.specs.Wanted.{bridge_of}
-use Rattle.cni_errors.specs.declared.answer.Cause.{Cause}
 use Rattle.cni_errors.specs.declared.answer.Cause.TheVariants as causes
-use Rattle.cni_errors.specs.declared.answer.Ending.{Ending}
-use Rattle.cni_errors.specs.declared.answer.Ending.TheVariants.{Skipped, Refused}
-use Rattle.cni_errors.specs.declared.answer.Missed.{Missed}
 use Rattle.cni_errors.specs.declared.answer.Skip.TheVariants as skips
-use Rattle.kernel_types.specs.Apply.Calls.{has_object}
-use Rattle.kernel_types.specs.Equal.{link_eq, addr_obj_eq, route_eq, rule_eq, setting_eq, lease_eq}
-use Rattle.kernel_types.specs.Terms.{cached_in}
+use Rattle.kernel_types.specs.{Apply.Calls.has_object, Equal.{link_eq, addr_obj_eq, route_eq, rule_eq, setting_eq}}
+use Rattle.kernel_types.specs.{Equal.lease_eq, Terms.cached_in, declared.call.Probe.TheVariants.BridgeAt}
 use Rattle.kernel_types.specs.declared.object.Host.{Host}
-use Rattle.kernel_types.specs.declared.call.Probe.TheVariants.{BridgeAt}
 use Rattle.net_conf.specs.declared.list.NetList.{NetList}
 use Rattle.plugin_base.specs.Share.{Share}
 use Rattle.pod_file.specs.declared.command.Command.{Command}
 use Rattle.pod_file.specs.declared.command.Verb.TheVariants as verbs
-use Rattle.pod_workers.specs.Legal.{Legal}
-use Rattle.pod_workers.specs.Plans.{Placed}
-use Rattle.pod_workers.specs.World.{World}
-use Rattle.pod_workers.specs.declared.plan.Entry.{Entry}
-use Rattle.pod_laws.specs.Granted.{EndsByDenied}
+use Rattle.pod_workers.specs.{Legal.Legal, Plans.Placed, World.World, declared.plan.Entry.Entry}
+use Rattle.pod_laws.specs.{Answers.{EachEnding, EndsByFault, EndsByTest, HoldsOfItsList}, Granted.EndsByDenied}
 use Rattle.pod_laws.specs.Moments.{EachCalling, has_fault, host_at_end, host_at_start}
-use Rattle.pod_laws.specs.Answers.{EachEnding, EndsByFault, EndsByTest, HoldsOfItsList}
 
 -- ---- what the host holds
 

@@ -2,24 +2,19 @@
 -- "Garbage-collecting unused resources").
 use Rattle.std.specs.Prelude.{◌≡◌, ◌≢◌, ℕ, ◌+◌, ◌≤◌, ◌⊎◌, true, false, List, [], length, Some, slice_get}
 use Rattle.cni_result.specs.Versions.{is_before_1_1}
-use Rattle.cni_errors.specs.Answers.{error_of}
-use Rattle.cni_errors.specs.declared.answer.Answer.{Answer}
+use Rattle.cni_errors.specs.{Answers.error_of, declared.answer.Answer.Answer}
 use Rattle.cni_errors.specs.declared.answer.Answer.TheVariants as answers
 use Rattle.cni_errors.specs.declared.answer.Cause.TheVariants as causes
 use Rattle.cni_errors.specs.declared.answer.Skip.TheVariants as skips
-use Rattle.gc_sweep.specs.Bound.{most_of_collection}
-use Rattle.gc_sweep.specs.Keep.{keep}
-use Rattle.gc_sweep.specs.Sweep.{AreExcused, Bounds, IsCollected, fault_numbers}
+use Rattle.gc_sweep.specs.{Bound.most_of_collection, Keep.keep, Sweep.{AreExcused, Bounds, IsCollected, fault_numbers}}
 use Rattle.kernel_types.specs.declared.object.Host.{Host}
 use Rattle.net_conf.specs.declared.list.NetList.{NetList}
 use Rattle.pod_file.specs.declared.command.Command.{Command}
 use Rattle.pod_file.specs.declared.command.Verb.TheVariants as verbs
-use Rattle.pod_workers.specs.Legal.{Legal}
-use Rattle.pod_workers.specs.Plans.{Placed, commands_of, list_for}
-use Rattle.pod_workers.specs.World.{World, made_in}
+use Rattle.pod_workers.specs.{Legal.Legal, Plans.{Placed, commands_of, list_for}, World.{World, made_in}}
 use Rattle.pod_workers.specs.declared.plan.Entry.{Entry}
-use Rattle.pod_laws.specs.Moments.{EachCalling, has_fault, host_at_end, host_at_round, host_at_start, own_entries}
-use Rattle.pod_laws.specs.Answers.{EachListAnswer, OrCutOff}
+use Rattle.pod_laws.specs.{Answers.{EachListAnswer, OrCutOff}, Moments.{EachCalling, has_fault, host_at_end}}
+use Rattle.pod_laws.specs.Moments.{host_at_round, host_at_start, own_entries}
 
 -- ---- answers
 

@@ -1,21 +1,16 @@
 -- What a DEL leaves (CNI specification, section 3, "Deleting an attachment").
 use Rattle.std.specs.Prelude.{◌≡◌, ◌+◌, ◌⊎◌, false, List, [], ◌∷◌, ◌++◌, length, None}
-use Rattle.cni_errors.specs.CommandFields.{att_of, del_refusal}
-use Rattle.cni_errors.specs.declared.answer.Answer.{Answer}
+use Rattle.cni_errors.specs.{CommandFields.{att_of, del_refusal}, declared.answer.{Answer.Answer, Cause.Cause}}
 use Rattle.cni_errors.specs.declared.answer.Answer.TheVariants as answers
-use Rattle.cni_errors.specs.declared.answer.Cause.{Cause}
 use Rattle.cni_errors.specs.declared.answer.Cause.TheVariants as causes
-use Rattle.kernel_types.specs.Isolation.{RemovesOwn}
-use Rattle.kernel_types.specs.declared.object.Att.{Att}
+use Rattle.kernel_types.specs.{Isolation.RemovesOwn, declared.{call.Reply.TheVariants.Fault, object.Att.Att}}
 use Rattle.kernel_types.specs.declared.object.Host.{Host}
-use Rattle.kernel_types.specs.declared.call.Reply.TheVariants.{Fault}
 use Rattle.plugin_base.specs.Share.{Share, share_of, no_objects}
 use Rattle.pod_file.specs.declared.command.Command.{Command}
 use Rattle.pod_file.specs.declared.command.Verb.TheVariants as verbs
 use Rattle.pod_workers.specs.declared.plan.Entry.{Entry}
-use Rattle.pod_laws.specs.Moments.{has_fault, objects_at_end, own_entries}
 use Rattle.pod_laws.specs.Answers.{EachAnswer, EachIsOrRefused, EachIsWhere, EachRefusal, IsRefusedByFields}
-use Rattle.pod_laws.specs.Single.{EachEntry, ByVerb}
+use Rattle.pod_laws.specs.{Moments.{has_fault, objects_at_end, own_entries}, Single.{EachEntry, ByVerb}}
 
 -- its fields are good, and no entry is a fault
 abbrev pub NothingFails : Command → List Entry → Type 0

@@ -1,18 +1,11 @@
 -- What a kernel grants of questions, and that asking changes nothing (CNI specification, section 3, "Checking
 -- attachment" and "Status").
 use Rattle.std.specs.Prelude.{◌≡◌, Bool, true, false, List}
-use Rattle.cni_errors.specs.declared.answer.Cause.{Cause}
-use Rattle.cni_errors.specs.declared.answer.Ending.{Ending}
-use Rattle.cni_errors.specs.declared.answer.Ending.TheVariants.{Refused}
-use Rattle.cni_errors.specs.declared.answer.Question.{Question}
-use Rattle.kernel_types.specs.Apply.{apply}
-use Rattle.kernel_types.specs.declared.object.Host.{Host}
-use Rattle.kernel_types.specs.declared.call.Reply.{Reply}
-use Rattle.kernel_types.specs.declared.call.Reply.TheVariants.{Has}
+use Rattle.cni_errors.specs.declared.answer.{Cause.Cause, Ending.{Ending, TheVariants.Refused}, Question.Question}
+use Rattle.kernel_types.specs.{Apply.apply, declared.{call.Reply.{Reply, TheVariants.Has}, object.Host.Host}}
 use Rattle.pod_file.specs.declared.command.Verb.{Verb}
 use Rattle.pod_file.specs.declared.command.Verb.TheVariants as verbs
-use Rattle.pod_laws.specs.Answers.{IsFirstToFail}
-use Rattle.pod_laws.specs.Single.{EachEntry, ByVerb}
+use Rattle.pod_laws.specs.{Answers.IsFirstToFail, Single.{EachEntry, ByVerb}}
 
 abbrev pub is_yes : Reply → Bool
 is_yes (Has has) = has

@@ -2,31 +2,19 @@
 -- refused memory: at every moment, and of every answer of an ADD, a DEL, a CHECK and a GC.
 use Rattle.std.specs.Prelude.{◌≡◌, ℕ, true, List, [], ◌++◌}
 use Rattle.cni_verbs.specs.Endings.{answer_of_ending}
-use Rattle.cni_errors.specs.CommandFields.{del_refusal}
-use Rattle.cni_errors.specs.declared.answer.Answer.{Answer}
+use Rattle.cni_errors.specs.{CommandFields.del_refusal, declared.answer.{Answer.Answer, Ending.Ending}}
 use Rattle.cni_errors.specs.declared.answer.Answer.TheVariants as answers
-use Rattle.cni_errors.specs.declared.answer.Ending.{Ending}
-use Rattle.kernel_types.specs.Sound.{IsSound, NoAddressTwice}
-use Rattle.kernel_types.specs.declared.object.Att.{Att}
+use Rattle.kernel_types.specs.{Sound.{IsSound, NoAddressTwice}, declared.object.Att.Att}
 use Rattle.net_conf.specs.declared.list.NetList.{NetList}
-use Rattle.pod_file.specs.declared.command.Command.{Command}
-use Rattle.pod_file.specs.declared.command.Verb.{Verb}
+use Rattle.pod_file.specs.declared.command.{Command.Command, Verb.Verb}
 use Rattle.pod_file.specs.declared.command.Verb.TheVariants as verbs
-use Rattle.pod_workers.specs.Lasts.{AreLastsOfSets}
-use Rattle.pod_workers.specs.Legal.{Legal}
-use Rattle.pod_workers.specs.World.{World, after}
-use Rattle.pod_workers.specs.declared.plan.Entry.{Entry}
+use Rattle.pod_workers.specs.{Lasts.AreLastsOfSets, Legal.Legal, World.{World, after}, declared.plan.Entry.Entry}
 use Rattle.pod_workers.specs.declared.plan.Plan.{Plan}
-use Rattle.pod_laws.specs.Added.{HasMade}
-use Rattle.pod_laws.specs.Answers.{EachAnswerIn, HoldsOfItsList, OrCutOff, TellsCause, is_cut_off}
-use Rattle.pod_laws.specs.AskedFor.{EachHasLinksMadeOrWanted, HasNothingUnasked}
-use Rattle.pod_laws.specs.CachedResults.{EachHasResultOfItsAdd}
-use Rattle.pod_laws.specs.Checked.{EndsCheck, HoldsFromItsStart}
-use Rattle.pod_laws.specs.Collected.{IsAnswerOfGc, IsBoundedCollection}
-use Rattle.pod_laws.specs.Deleted.{HasDeleted, IsUndeletedFor}
-use Rattle.pod_laws.specs.Moments.{EachCalling, host_at_end, objects_at_end, own_entries}
-use Rattle.pod_laws.specs.Refused.{IsRefusedFor}
-use Rattle.pod_laws.specs.Repeated.{RepeatsLeave}
+use Rattle.pod_laws.specs.{Added.HasMade, Answers.{EachAnswerIn, HoldsOfItsList, OrCutOff, TellsCause, is_cut_off}}
+use Rattle.pod_laws.specs.{AskedFor.{EachHasLinksMadeOrWanted, HasNothingUnasked}, CachedResults.EachHasResultOfItsAdd}
+use Rattle.pod_laws.specs.{Checked.{EndsCheck, HoldsFromItsStart}, Collected.{IsAnswerOfGc, IsBoundedCollection}}
+use Rattle.pod_laws.specs.{Deleted.{HasDeleted, IsUndeletedFor}, Moments.{EachCalling, host_at_end, objects_at_end}}
+use Rattle.pod_laws.specs.{Moments.own_entries, Refused.IsRefusedFor, Repeated.RepeatsLeave}
 
 -- ---- one moment
 

@@ -1,17 +1,12 @@
 -- The moments of the first and the last entry of one command, and of the start of a round, and what an attachment has
 -- at a moment.
-use Rattle.std.specs.Prelude.{◌≡◌, ◌≢◌, ℕ, Bool, false, List, [], ◌∷◌, nat_lt, Option, Some, slice_get, if◌then◌else◌}
-use Rattle.std.specs.List.{list_any}
-use Rattle.std.specs.Option.{option_map_or}
+use Rattle.std.specs.{List.list_any, Option.option_map_or, Prelude.{◌≡◌, ◌≢◌, ℕ, Bool, false, List, [], ◌∷◌, nat_lt}}
+use Rattle.std.specs.Prelude.{Option, Some, slice_get, if◌then◌else◌}
 use Rattle.cni_errors.specs.CommandFields.{att_of}
-use Rattle.kernel_types.specs.Replies.{is_fault}
-use Rattle.kernel_types.specs.declared.object.Att.{Att}
-use Rattle.kernel_types.specs.declared.object.Host.{Host}
+use Rattle.kernel_types.specs.{Replies.is_fault, declared.object.{Att.Att, Host.Host}}
 use Rattle.plugin_base.specs.Share.{Share, share_of, no_objects}
-use Rattle.pod_file.specs.declared.command.Command.{Command}
-use Rattle.pod_file.specs.declared.command.Verb.{Verb}
-use Rattle.pod_workers.specs.Plans.{Placed, commands_of}
-use Rattle.pod_workers.specs.World.{World, after, at_number}
+use Rattle.pod_file.specs.declared.command.{Command.Command, Verb.Verb}
+use Rattle.pod_workers.specs.{Plans.{Placed, commands_of}, World.{World, after, at_number}}
 pub use Rattle.pod_workers.specs.World.{is_of, own_entries}
 use Rattle.pod_workers.specs.declared.plan.Entry.{Entry}
 use Rattle.pod_workers.specs.declared.plan.Plan.{Plan}

@@ -1,30 +1,21 @@
 -- Why an ADD was refused, and what it left (CNI specification, section 5, "Error"; the codes from 100 on are this
 -- project's own).
-use Rattle.std.specs.Prelude.{◌≡◌, ◌≢◌, ℕ, ◌+◌, ◌⊎◌, Bool, true, List, [], ◌∷◌, length, None}
-use Rattle.std.specs.List.{list_all}
+use Rattle.std.specs.{List.list_all, Prelude.{◌≡◌, ◌≢◌, ℕ, ◌+◌, ◌⊎◌, Bool, true, List, [], ◌∷◌, length, None}}
 use Rattle.cni_addr.specs.declared.range.RangeSet.{RangeSet}
 use Rattle.cni_result.specs.declared.result.AddResult.{AddResult}
-use Rattle.cni_errors.specs.CommandFields.{add_refusal, att_of}
-use Rattle.cni_errors.specs.declared.answer.Answer.{Answer}
+use Rattle.cni_errors.specs.{CommandFields.{add_refusal, att_of}, declared.answer.{Answer.Answer, Cause.Cause}}
 use Rattle.cni_errors.specs.declared.answer.Answer.TheVariants as answers
-use Rattle.cni_errors.specs.declared.answer.Cause.{Cause}
 use Rattle.cni_errors.specs.declared.answer.Cause.TheVariants as causes
 use Rattle.cni_verbs.specs.Replies.{is_granted}
-use Rattle.kernel_types.specs.declared.object.Att.{Att}
-use Rattle.kernel_types.specs.declared.object.Host.{Host}
-use Rattle.kernel_types.specs.declared.object.Link.{Link}
-use Rattle.kernel_types.specs.declared.object.Tag.{Tag}
-use Rattle.kernel_types.specs.declared.call.Call.{Call}
-use Rattle.kernel_types.specs.declared.call.Call.TheVariants.{Begin, LeaseNext, MacvlanAdd}
-use Rattle.kernel_types.specs.declared.call.Reply.{Reply}
-use Rattle.kernel_types.specs.declared.call.Reply.TheVariants.{NoNs, NoLink, Taken, Empty, Fault}
+use Rattle.kernel_types.specs.declared.call.{Call.{Call, TheVariants.{Begin, LeaseNext, MacvlanAdd}}, Reply.Reply}
+use Rattle.kernel_types.specs.declared.{call.Reply.TheVariants.{NoNs, NoLink, Taken, Empty, Fault}, object.Att.Att}
+use Rattle.kernel_types.specs.declared.object.{Host.Host, Link.Link, Tag.Tag}
 use Rattle.plugin_base.specs.Share.{Share, no_objects}
 use Rattle.pod_file.specs.declared.command.Command.{Command}
 use Rattle.pod_file.specs.declared.command.Verb.TheVariants as verbs
-use Rattle.pod_workers.specs.World.{after_entry}
-use Rattle.pod_workers.specs.declared.plan.Entry.{Entry}
-use Rattle.pod_laws.specs.Moments.{has_fault}
+use Rattle.pod_workers.specs.{World.after_entry, declared.plan.Entry.Entry}
 use Rattle.pod_laws.specs.Answers.{EachIsOrRefused, EachIsWhere, EachRefusal, IsFirstToFail, IsRefusedByFields}
+use Rattle.pod_laws.specs.Moments.{has_fault}
 
 -- ---- the first refusal
 

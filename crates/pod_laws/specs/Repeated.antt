@@ -1,17 +1,13 @@
 -- What is gone stays gone, and a DEL that is repeated changes nothing (CNI specification, section 2, "DEL").
-use Rattle.std.specs.Prelude.{◌≡◌, ℕ, ◌+◌, Bool, true, false, ◌||◌, not, List, [], ◌∷◌, ◌++◌, Some, slice_get}
-use Rattle.std.specs.List.{list_all, list_any}
+use Rattle.std.specs.{List.{list_all, list_any}, Prelude.{◌≡◌, ℕ, ◌+◌, Bool, true, false, ◌||◌, not, List, [], ◌∷◌}}
+use Rattle.std.specs.Prelude.{◌++◌, Some, slice_get}
 use Rattle.cni_errors.specs.CommandFields.{att_of}
 use Rattle.cni_errors.specs.declared.answer.Answer.TheVariants as answers
 use Rattle.kernel_types.specs.declared.object.Att.{Att}
 use Rattle.pod_file.specs.declared.command.Verb.TheVariants as verbs
-use Rattle.pod_workers.specs.Legal.{Legal}
-use Rattle.pod_workers.specs.Plans.{Placed, commands_of}
-use Rattle.pod_workers.specs.World.{World, after}
-use Rattle.pod_workers.specs.declared.plan.Entry.{Entry}
+use Rattle.pod_workers.specs.{Legal.Legal, Plans.{Placed, commands_of}, World.{World, after}, declared.plan.Entry.Entry}
 use Rattle.pod_workers.specs.declared.plan.Plan.{Plan}
-use Rattle.pod_laws.specs.AskedFor.{begins, is_begin_of}
-use Rattle.pod_laws.specs.Moments.{IsGone, own_entries, until_last}
+use Rattle.pod_laws.specs.{AskedFor.{begins, is_begin_of}, Moments.{IsGone, own_entries, until_last}}
 use Rattle.pod_laws.specs.Refused.{lets_go_on}
 
 -- an entry of an ADD of the attachment that makes none of its objects: a Begin, or one that is not granted

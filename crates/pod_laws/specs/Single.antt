@@ -1,14 +1,9 @@
 -- What single entries do to the host, in every legal history.
 use Rattle.std.specs.Prelude.{◌≡◌, ℕ, ◌+◌, List, [], ◌∷◌, ◌++◌, Some, slice_get}
 use Rattle.kernel_types.specs.declared.object.Host.{Host}
-use Rattle.pod_file.specs.declared.command.Command.{Command}
-use Rattle.pod_file.specs.declared.command.Verb.{Verb}
-use Rattle.pod_workers.specs.Facts.{EachOne}
-use Rattle.pod_workers.specs.Legal.{Legal}
-use Rattle.pod_workers.specs.Plans.{Placed, commands_of}
-use Rattle.pod_workers.specs.World.{World, after}
-use Rattle.pod_workers.specs.declared.plan.Entry.{Entry}
-use Rattle.pod_workers.specs.declared.plan.Plan.{Plan}
+use Rattle.pod_file.specs.declared.command.{Command.Command, Verb.Verb}
+use Rattle.pod_workers.specs.{Facts.EachOne, Legal.Legal, Plans.{Placed, commands_of}, World.{World, after}}
+use Rattle.pod_workers.specs.declared.plan.{Entry.Entry, Plan.Plan}
 
 -- each of these entries does so, from the host before it to the one after it
 abbrev pub AllDo : (Plan → Entry → Host → Host → Type 0) → Plan → List Entry → Type 0

@@ -1,13 +1,9 @@
 -- The requests to each plugin, by the plugins' objects as values.
 use Rattle.std.proofs.Common.{◌≡◌, ◌∙◌, List, [], ◌∷◌, ap, map, refl}
 use Rattle.std.specs.Prelude.{Option}
-use Rattle.serde_json.specs.Data.{Data}
-use Rattle.serde_json.specs.View.{view}
-use Rattle.serde_json.specs.declared.value.Value.{Value}
-use Rattle.cni_result.specs.declared.cached.PortMapping.{PortMapping}
-use Rattle.cni_result.specs.declared.result.AddResult.{AddResult}
-use Rattle.plugin_requests.specs.Raw.{RawView}
-use Rattle.plugin_requests.specs.Request.{request_data}
+use Rattle.serde_json.specs.{Data.Data, View.view, declared.value.Value.Value}
+use Rattle.cni_result.specs.declared.{cached.PortMapping.PortMapping, result.AddResult.AddResult}
+use Rattle.plugin_requests.specs.{Raw.RawView, Request.request_data}
 use Rattle.net_conf.specs.declared.list.NetList.{NetList}
 use Rattle.pod_file.specs.declared.command.ValidAtt.{ValidAtt}
 use Rattle.pod_text.specs.Requests.{to_each}

@@ -1,12 +1,9 @@
 -- The lines of the rounds, one after another, are those of all commands.
-use Rattle.std.proofs.Common.{◌≡◌, ℕ, ◌+◌, List, [], ◌∷◌, ◌++◌, map, refl, ap, sym, ◌∙◌}
+use Rattle.std.proofs.{Common.{◌≡◌, ℕ, ◌+◌, List, [], ◌∷◌, ◌++◌, map, refl, ap, sym, ◌∙◌}, lemmas.Grind.flat_map-append}
+use Rattle.std.proofs.lemmas.List.{Concat.flat_map-cons, Folds.flat_map-map}
 use Rattle.std.specs.List.{flat_map}
-use Rattle.std.proofs.lemmas.Grind.{flat_map-append}
-use Rattle.std.proofs.lemmas.List.Concat.{flat_map-cons}
-use Rattle.std.proofs.lemmas.List.Folds.{flat_map-map}
 use Rattle.pod_file.specs.declared.command.Command.{Command}
-use Rattle.pod_workers.specs.Plans.{Placed, in_round, placed_from, commands_of}
-use Rattle.pod_workers.specs.declared.plan.Plan.{Plan}
+use Rattle.pod_workers.specs.{Plans.{Placed, in_round, placed_from, commands_of}, declared.plan.Plan.Plan}
 
 lines_of_rounds : (f : Command → List ℕ) (round : ℕ) (rounds : List (List Command)) → flat_map (λ (c : Placed). f c.command) (placed_from round rounds) ≡ flat_map (flat_map f) rounds
 lines_of_rounds f round [] = refl

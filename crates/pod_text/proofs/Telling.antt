@@ -1,7 +1,6 @@
 -- What a history of one more entry tells.
 use Rattle.std.proofs.Common.{◌≡◌, ◌∙◌, ℕ, List, [], ◌∷◌, ◌++◌, ap, refl}
-use Rattle.std.specs.Option.{option_or}
-use Rattle.std.specs.Prelude.{Option, Some, None}
+use Rattle.std.specs.{Option.option_or, Prelude.{Option, Some, None}}
 use Rattle.cni_result.specs.declared.cached.Cached.{Cached}
 use Rattle.pod_text.specs.Requests.{told_by, told_in}
 use Rattle.pod_workers.specs.declared.plan.Entry.{Entry}

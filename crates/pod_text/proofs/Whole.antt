@@ -1,21 +1,16 @@
 -- Each line that is printed but those of the history and the host has no number outside u64 and i64. Those of a request
 -- have none where the request has none.
 use Rattle.std.proofs.Common.{◌≡◌, ℕ, List, false, refl}
-use Rattle.serde_json.specs.Data.{Data, Members}
-use Rattle.serde_json.specs.Written.{has_float, members_have_float}
+use Rattle.serde_json.specs.{Data.{Data, Members}, Written.{has_float, members_have_float}}
 use Rattle.cni_json.proofs.Building.{members_have_float-put}
-use Rattle.cni_result.proofs.ResultLemmas.{result_is_whole, error_is_whole}
-use Rattle.cni_result.proofs.WholeNumbers.{puts_are_whole}
+use Rattle.cni_result.proofs.{ResultLemmas.{result_is_whole, error_is_whole}, WholeNumbers.puts_are_whole}
 use Rattle.cni_result.specs.declared.version.Version.{Version}
-use Rattle.cni_errors.specs.declared.answer.Answer.{Answer}
-use Rattle.cni_errors.specs.declared.answer.Answer.TheVariants.{Added, Yes, Skipped, Versions, Refused, OutOfMemory, Stopped}
+use Rattle.cni_errors.specs.{ErrorKinds.memory_error, declared.answer.Answer.{Answer, TheVariants.{Added, Yes}}}
+use Rattle.cni_errors.specs.declared.answer.Answer.TheVariants.{Skipped, Versions, Refused, OutOfMemory, Stopped}
 use Rattle.pod_file.specs.declared.command.Command.{Command}
-use Rattle.cni_errors.specs.ErrorKinds.{memory_error}
 use Rattle.packet_probe.specs.declared.packet.Fate.{Fate}
-use Rattle.pod_text.specs.Fates.{fate_data}
-use Rattle.pod_text.specs.Lines.{versions_data, put_answer, answer_data}
-use Rattle.pod_text.specs.Requests.{env_data, network_env_data, request_line}
-use Rattle.pod_text.specs.Summary.{summary_data}
+use Rattle.pod_text.specs.{Fates.fate_data, Lines.{versions_data, put_answer, answer_data}, Requests.env_data}
+use Rattle.pod_text.specs.{Requests.{network_env_data, request_line}, Summary.summary_data}
 use Rattle.pod_workers.specs.World.{World}
 
 versions_are_whole : (version : Version) → has_float (versions_data version) ≡ false

@@ -1,15 +1,13 @@
 -- A text no part of which tells of the host.
 use Rattle.std.proofs.Common.{◌≡◌, ◌∙◌, ◌++◌, ◌||◌, List, [], ◌∷◌, ℕ, append-nil, arith, Bool, true, false, not, length}
-use Rattle.std.specs.Prelude.{◌==◌}
 use Rattle.std.proofs.lemmas.Bool.Decides.{nat_tests}
+use Rattle.std.specs.Prelude.{◌==◌}
 use Rattle.kernel_text.specs.Dump.{dump_of}
 use Rattle.kernel_types.specs.declared.rule.Rule.{Rule}
 use Rattle.packet_probe.specs.Value.{PacketValue}
-use Rattle.pod_text.specs.Fates.{fates_from}
-use Rattle.pod_text.specs.Lines.{command_lines, command_part, is_summary, requests_asked, shows_host, text_of, trace_lines, where_asked}
-use Rattle.pod_text.specs.declared.asked.Asked.{Asked}
-use Rattle.pod_text.specs.declared.asked.CommandPart.{CommandPart}
-use Rattle.pod_text.specs.declared.asked.CommandPart.TheVariants.{Lines, Summary}
+use Rattle.pod_text.specs.{Fates.fates_from, Lines.{command_lines, command_part, is_summary, requests_asked}}
+use Rattle.pod_text.specs.{Lines.{shows_host, text_of, trace_lines, where_asked}, declared.asked.Asked.Asked}
+use Rattle.pod_text.specs.declared.asked.CommandPart.{CommandPart, TheVariants.{Lines, Summary}}
 use Rattle.pod_workers.specs.World.{World, host_of}
 
 no_packets : {X : Type 0} (p : X) (packets : List X) → not (length (p ∷ packets) == 0) ≡ false → ⊥

@@ -1,12 +1,9 @@
 -- What becomes of packets, one JSON object a line.
 use Rattle.std.specs.Prelude.{ℕ, ◌+◌, List, [], ◌∷◌, ◌++◌, codes}
 use Rattle.serde_json.specs.Data.{Data, boolean, object, no_members, put}
-use Rattle.cni_json.specs.Json.{line_of}
-use Rattle.cni_json.specs.Members.{addr_data, number_data, ◌▷◌}
+use Rattle.cni_json.specs.{Json.line_of, Members.{addr_data, number_data, ◌▷◌}}
 use Rattle.kernel_types.specs.declared.rule.Rule.{Rule}
-use Rattle.packet_probe.specs.Fate.{fate_by}
-use Rattle.packet_probe.specs.Value.{PacketValue}
-use Rattle.packet_probe.specs.declared.packet.Fate.{Fate}
+use Rattle.packet_probe.specs.{Fate.fate_by, Value.PacketValue, declared.packet.Fate.Fate}
 
 -- the fate of the packet at this place, from 0
 unfoldable pub fate_data : ℕ → Fate → Data

@@ -1,33 +1,22 @@
 -- What is printed of a world: one JSON object a line, for the commands in file order or for their numbers, for the
 -- requests to plugins, for the history, for the host, and for packets.
-use Rattle.std.specs.Prelude.{ℕ, ◌+◌, ◌==◌, Bool, true, false, not, ◌||◌, List, [], ◌∷◌, ◌++◌, length, codes, Option, Some, None, if◌then◌else◌}
-use Rattle.std.specs.List.{flat_map}
+use Rattle.std.specs.{List.flat_map, Prelude.{ℕ, ◌+◌, ◌==◌, Bool, true, false, not, ◌||◌, List, [], ◌∷◌, ◌++◌, length}}
+use Rattle.std.specs.Prelude.{codes, Option, Some, None, if◌then◌else◌}
 use Rattle.serde_json.specs.Data.{Data, boolean, object, Members, no_members, put}
-use Rattle.cni_json.specs.Json.{line_of}
-use Rattle.cni_json.specs.Members.{text_data, number_data, list_data, ◌▷◌}
-use Rattle.cni_result.specs.Results.{version_data, result_data, error_data}
+use Rattle.cni_json.specs.{Json.line_of, Members.{text_data, number_data, list_data, ◌▷◌}}
+use Rattle.cni_result.specs.{Results.{version_data, result_data, error_data}, Versions.known_versions}
 use Rattle.cni_result.specs.declared.version.Version.{Version}
-use Rattle.cni_result.specs.Versions.{known_versions}
-use Rattle.cni_errors.specs.ErrorKinds.{memory_error}
-use Rattle.cni_errors.specs.declared.answer.Answer.{Answer}
-use Rattle.cni_errors.specs.declared.answer.Answer.TheVariants.{Added, Yes, Skipped, Versions, Refused, OutOfMemory, Stopped}
+use Rattle.cni_errors.specs.{ErrorKinds.memory_error, declared.answer.Answer.{Answer, TheVariants.{Added, Yes}}}
+use Rattle.cni_errors.specs.declared.answer.Answer.TheVariants.{Skipped, Versions, Refused, OutOfMemory, Stopped}
 use Rattle.cni_errors.specs.declared.answer.Skip.{Skip}
 use Rattle.cni_errors.specs.declared.answer.Skip.TheVariants as skips
 use Rattle.plugin_requests.specs.Raw.{RawView}
-use Rattle.kernel_text.specs.Dump.{dump_of}
-use Rattle.kernel_text.specs.Replies.{trace_data}
+use Rattle.kernel_text.specs.{Dump.dump_of, Replies.trace_data}
 use Rattle.net_conf.specs.List.{disable_check_key, disable_gc_key}
-use Rattle.pod_file.specs.Commands.{verb_text}
-use Rattle.pod_file.specs.declared.command.Command.{Command}
-use Rattle.pod_text.specs.Fates.{fates_from}
-use Rattle.pod_text.specs.Requests.{all_requests}
-use Rattle.pod_text.specs.Summary.{summary_line}
-use Rattle.pod_text.specs.declared.asked.Asked.{Asked}
-use Rattle.pod_text.specs.declared.asked.CommandPart.{CommandPart}
-use Rattle.pod_text.specs.declared.asked.CommandPart.TheVariants.{Lines, Summary}
-use Rattle.pod_workers.specs.Plans.{commands_of}
-use Rattle.pod_workers.specs.World.{World, answer_for, host_of}
-use Rattle.pod_workers.specs.declared.plan.Entry.{Entry}
+use Rattle.pod_file.specs.{Commands.verb_text, declared.command.Command.Command}
+use Rattle.pod_text.specs.{Fates.fates_from, Requests.all_requests, Summary.summary_line, declared.asked.Asked.Asked}
+use Rattle.pod_text.specs.declared.asked.CommandPart.{CommandPart, TheVariants.{Lines, Summary}}
+use Rattle.pod_workers.specs.{Plans.commands_of, World.{World, answer_for, host_of}, declared.plan.Entry.Entry}
 
 -- ---- one answer
 

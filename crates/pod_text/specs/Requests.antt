@@ -1,33 +1,19 @@
 -- The requests that commands made of their plugins, one JSON object a line (CNI specification, section 2, "Execution
 -- Protocol"): those of commands that were done, in file order, after the answers.
-use Rattle.std.specs.Prelude.{◌≡◌, ℕ, ◌+◌, ◌==◌, List, [], ◌∷◌, codes, map, reverse, find, Option, Some, None, if◌then◌else◌}
-use Rattle.std.specs.BTreeMap.{BTreeMap, get}
-use Rattle.std.specs.List.{flat_map}
-use Rattle.std.specs.Option.{option_or}
-use Rattle.std.specs.Ordering.{nat_cmp}
+use Rattle.std.specs.{BTreeMap.{BTreeMap, get}, List.flat_map, Option.option_or, Ordering.nat_cmp, Prelude.{◌≡◌, ℕ}}
+use Rattle.std.specs.Prelude.{◌+◌, ◌==◌, List, [], ◌∷◌, codes, map, reverse, find, Option, Some, None, if◌then◌else◌}
 use Rattle.std.specs.Str.{bytes_eq}
 use Rattle.serde_json.specs.Data.{Data, object, no_members, put}
-use Rattle.cni_errors.specs.declared.answer.Answer.{Answer}
-use Rattle.cni_errors.specs.declared.answer.Answer.TheVariants.{Added, Yes}
-use Rattle.cni_json.specs.Json.{line_of}
-use Rattle.cni_json.specs.Members.{text_data, number_data, ◌▷◌}
-use Rattle.cni_result.specs.declared.cached.Cached.{Cached}
-use Rattle.cni_result.specs.declared.cached.PortMapping.{PortMapping}
-use Rattle.cni_result.specs.declared.result.AddResult.{AddResult}
+use Rattle.cni_errors.specs.declared.answer.Answer.{Answer, TheVariants.{Added, Yes}}
+use Rattle.cni_json.specs.{Json.line_of, Members.{text_data, number_data, ◌▷◌}}
+use Rattle.cni_result.specs.declared.{cached.{Cached.Cached, PortMapping.PortMapping}, result.AddResult.AddResult}
 use Rattle.cni_verbs.specs.Questions.{addresses_of_result}
-use Rattle.plugin_requests.specs.Raw.{RawView}
-use Rattle.plugin_requests.specs.Request.{request_data}
-use Rattle.plugin_requests.specs.Adding.{add_requests}
+use Rattle.plugin_requests.specs.{Adding.add_requests, Raw.RawView, Request.request_data}
 use Rattle.kernel_types.specs.declared.call.Reply.{Reply}
 use Rattle.kernel_types.specs.declared.call.Reply.TheVariants as replies
-use Rattle.pod_file.specs.Commands.{verb_text}
-use Rattle.pod_file.specs.declared.command.Command.{Command}
-use Rattle.pod_file.specs.declared.command.ValidAtt.{ValidAtt}
-use Rattle.pod_file.specs.declared.command.Verb.{Verb}
+use Rattle.pod_file.specs.{Commands.verb_text, declared.command.{Command.Command, ValidAtt.ValidAtt, Verb.Verb}}
 use Rattle.pod_file.specs.declared.command.Verb.TheVariants as verbs
-use Rattle.pod_workers.specs.Plans.{commands_of}
-use Rattle.pod_workers.specs.World.{World, answer_for}
-use Rattle.pod_workers.specs.declared.plan.Entry.{Entry}
+use Rattle.pod_workers.specs.{Plans.commands_of, World.{World, answer_for}, declared.plan.Entry.Entry}
 
 -- ---- what a command was told
 

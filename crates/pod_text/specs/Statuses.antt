@@ -1,8 +1,6 @@
 -- The status that a program ends with, by what its commands were answered.
-use Rattle.std.specs.Prelude.{ℕ, Bool, true, false, List, Option, Some, if◌then◌else◌}
-use Rattle.std.specs.List.{list_any}
-use Rattle.cni_errors.specs.declared.answer.Answer.{Answer}
-use Rattle.cni_errors.specs.declared.answer.Answer.TheVariants.{Refused, OutOfMemory, Stopped}
+use Rattle.std.specs.{List.list_any, Prelude.{ℕ, Bool, true, false, List, Option, Some, if◌then◌else◌}}
+use Rattle.cni_errors.specs.declared.answer.Answer.{Answer, TheVariants.{Refused, OutOfMemory, Stopped}}
 
 -- the command was refused memory
 abbrev pub is_out_of_memory : Option Answer → Bool

@@ -1,13 +1,9 @@
 -- A world in numbers, on one line.
-use Rattle.std.specs.Prelude.{ℕ, Bool, true, false, List, length, codes, Option, Some}
-use Rattle.std.specs.List.{count_by}
+use Rattle.std.specs.{List.count_by, Prelude.{ℕ, Bool, true, false, List, length, codes, Option, Some}}
 use Rattle.serde_json.specs.Data.{Data, object, no_members, put}
-use Rattle.cni_json.specs.Json.{line_of}
-use Rattle.cni_json.specs.Members.{number_data, ◌▷◌}
-use Rattle.cni_errors.specs.declared.answer.Answer.{Answer}
-use Rattle.cni_errors.specs.declared.answer.Answer.TheVariants.{Added, Yes, Skipped, Versions}
-use Rattle.pod_workers.specs.Plans.{commands_of}
-use Rattle.pod_workers.specs.World.{World, host_of}
+use Rattle.cni_json.specs.{Json.line_of, Members.{number_data, ◌▷◌}}
+use Rattle.cni_errors.specs.declared.answer.Answer.{Answer, TheVariants.{Added, Yes, Skipped, Versions}}
+use Rattle.pod_workers.specs.{Plans.commands_of, World.{World, host_of}}
 
 -- the command was answered, and neither refused nor stopped, nor did it run out of memory
 unfoldable pub is_done : Option Answer → Bool

@@ -1,15 +1,11 @@
 -- Entries of a round are counted.
-use Rattle.std.proofs.Common.{◌≡◌, ℕ, ◌+◌, ◌≤◌, cond, List, [], ◌∷◌, ◌++◌, length, sum, refl, sym, ◌∙◌, ap, subst, arith}
-use Rattle.std.specs.List.{All, count_by}
-use Rattle.std.specs.Prelude.{slice_index, slice_set}
-use Rattle.std.proofs.lemmas.List.{length-append}
-use Rattle.std.proofs.lemmas.List.Elements.{All-head, All-tail}
-use Rattle.std.proofs.lemmas.List.Sums.{sum_by-append, sum_by-cons}
+use Rattle.std.proofs.Common.{◌≡◌, ℕ, ◌+◌, ◌≤◌, cond, List, [], ◌∷◌, ◌++◌, length, sum, refl, sym, ◌∙◌, ap, subst}
+use Rattle.std.proofs.{Common.arith, lemmas.List.{length-append, Elements.{All-head, All-tail}, Sums.sum_by-append}}
+use Rattle.std.proofs.lemmas.List.Sums.{sum_by-cons}
+use Rattle.std.specs.{List.{All, count_by}, Prelude.{slice_index, slice_set}}
 use Rattle.pod_workers.proofs.RoundDone.{extends_trans}
-use Rattle.pod_workers.specs.Extends.{Extends, IsOfRound, Rounds}
-use Rattle.pod_workers.specs.World.{World, is_of_round}
-use Rattle.pod_workers.specs.declared.plan.Entry.{Entry}
-use Rattle.pod_workers.specs.declared.plan.Plan.{Plan}
+use Rattle.pod_workers.specs.{Extends.{Extends, IsOfRound, Rounds}, World.{World, is_of_round}}
+use Rattle.pod_workers.specs.declared.plan.{Entry.Entry, Plan.Plan}
 use Rattle.pod_threads.specs.Counted.{entries_of_round}
 
 -- ---- entries of a round

@@ -1,26 +1,19 @@
 -- The entries of the current round stand last in a legal history.
-use Rattle.std.proofs.Common.{◌≡◌, ℕ, zero, suc, ◌+◌, ◌-◌, ◌<◌, ◌≤◌, true, false, cond, List, [], ◌∷◌, ◌++◌, length, Option, Some, slice_get, refl, sym, ◌∙◌, ap, subst, inl, inr, arith}
-use Rattle.std.specs.List.{All, count_by}
-use Rattle.std.specs.Option.{option_map_or}
-use Rattle.std.proofs.lemmas.List.{append-nil, append_assoc, length-append}
+use Rattle.std.proofs.Common.{◌≡◌, ℕ, zero, suc, ◌+◌, ◌-◌, ◌<◌, ◌≤◌, true, false, cond, List, [], ◌∷◌, ◌++◌, length}
+use Rattle.std.proofs.Common.{Option, Some, slice_get, refl, sym, ◌∙◌, ap, subst, inl, inr, arith}
+use Rattle.std.proofs.lemmas.{Bool.Decides.eqb_tells, List.{append-nil, append_assoc, length-append}}
 use Rattle.std.proofs.lemmas.List.Elements.{All-append, All-cons, All-head, All-nil, All-tail, All-weaker}
-use Rattle.std.proofs.lemmas.List.Sums.{sum_by-cons}
-use Rattle.std.proofs.lemmas.Option.{same_Some, none-some, slice_get_cases}
-use Rattle.std.proofs.lemmas.Bool.Decides.{eqb_tells}
-use Rattle.pod_workers.specs.Extends.{IsOfRound}
-use Rattle.pod_workers.specs.Legal.{Legal, starts, steps, refused_memory, turns}
-use Rattle.pod_workers.specs.Plans.{Placed, commands_of}
-use Rattle.pod_workers.specs.World.{World, IsReady, answered, done, entry_of, host_of, next_of, next_round, own_replies, is_of_round}
-use Rattle.pod_workers.specs.declared.plan.Entry.{Entry}
-use Rattle.pod_workers.specs.declared.plan.Next.{Next}
-use Rattle.pod_workers.specs.declared.plan.Next.TheVariants as next
+use Rattle.std.proofs.lemmas.{List.Sums.sum_by-cons, Option.{same_Some, none-some, slice_get_cases}}
+use Rattle.std.specs.{List.{All, count_by}, Option.option_map_or}
+use Rattle.pod_workers.specs.{Extends.IsOfRound, Legal.{Legal, starts, steps, refused_memory, turns}, Plans.Placed}
+use Rattle.pod_workers.specs.{Plans.commands_of, World.{World, IsReady, answered, done, entry_of, host_of, next_of}}
+use Rattle.pod_workers.specs.{World.{next_round, own_replies, is_of_round}, declared.plan.{Entry.Entry, Next.Next}}
 use Rattle.pod_workers.specs.declared.plan.Plan.{Plan}
-use Rattle.pod_workers.proofs.Elements.{at_number-is}
-use Rattle.cni_errors.specs.declared.answer.Answer.{Answer}
-use Rattle.cni_errors.specs.declared.answer.Answer.TheVariants.{OutOfMemory}
+use Rattle.pod_workers.specs.declared.plan.Next.TheVariants as next
+use Rattle.pod_workers.proofs.{Elements.at_number-is, Rounds.is_in_round}
+use Rattle.cni_errors.specs.declared.answer.Answer.{Answer, TheVariants.OutOfMemory}
 use Rattle.pod_threads.specs.Counted.{entries_of_round, is_current}
 use Rattle.pod_threads.proofs.Counting.{count-all, count-append}
-use Rattle.pod_workers.proofs.Rounds.{is_in_round}
 
 -- the entry is of no round from this one on
 abbrev NoneFrom : Plan → ℕ → Entry → Type 0

@@ -1,10 +1,6 @@
 -- Which entries count for a round.
-use Rattle.std.specs.Prelude.{ℕ, Bool, false, List}
-use Rattle.std.specs.Option.{option_map_or}
-use Rattle.std.specs.List.{count_by}
-use Rattle.pod_workers.specs.declared.plan.Entry.{Entry}
-use Rattle.pod_workers.specs.declared.plan.Plan.{Plan}
-use Rattle.pod_workers.specs.World.{World, at_number, is_of_round}
+use Rattle.std.specs.{List.count_by, Option.option_map_or, Prelude.{ℕ, Bool, false, List}}
+use Rattle.pod_workers.specs.{World.{World, at_number, is_of_round}, declared.plan.{Entry.Entry, Plan.Plan}}
 
 -- how many entries are of commands of this round
 abbrev pub entries_of_round : Plan → ℕ → List Entry → ℕ

@@ -1,8 +1,7 @@
 -- What is known of the value under the lock. It serves proofs of private functions.
 use Rattle.std.specs.Prelude.{◌≡◌, ℕ, ◌⊎◌}
-use Rattle.pod_workers.specs.World.{World, RunsOut, StepsTo}
-use Rattle.pod_workers.specs.declared.plan.StepEnd.{StepEnd}
-use Rattle.pod_workers.specs.declared.plan.StepEnd.TheVariants.{Went, Over}
+use Rattle.pod_workers.specs.{World.{World, RunsOut, StepsTo}, declared.plan.StepEnd.{StepEnd, TheVariants.Went}}
+use Rattle.pod_workers.specs.declared.plan.StepEnd.TheVariants.{Over}
 
 -- the book's world, and the number of entries that were made since it went in
 pub record Guarded : Type 0 where

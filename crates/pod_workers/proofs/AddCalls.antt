@@ -1,43 +1,32 @@
 -- What the calls of an ADD are: its attachment's, well formed, of the kinds that its list's plugins name, and together
 -- what makes the wanted objects.
 use Rattle.std.proofs.Common.{◌≡◌, ℕ, ◌+◌, Bool, true, not, List, [], ◌∷◌, ◌++◌, Option, Some, None, refl, sym, ap, ◌∙◌}
-use Rattle.std.specs.Prelude.{is_some}
-use Rattle.std.specs.List.{AllByRecursion, list_all}
 use Rattle.std.proofs.lemmas.Bool.{and_from, and_parts}
-use Rattle.cni_addr.specs.declared.address.Addr.{Addr}
-use Rattle.cni_addr.specs.declared.range.RangeSet.{RangeSet}
+use Rattle.std.specs.{List.{AllByRecursion, list_all}, Prelude.is_some}
+use Rattle.cni_addr.specs.declared.{address.Addr.Addr, range.RangeSet.RangeSet}
 use Rattle.cni_result.specs.declared.cached.PortMapping.{PortMapping}
 use Rattle.ip_pool.specs.Pool.{are_apart}
-use Rattle.net_conf.specs.declared.first.First.{First}
-use Rattle.net_conf.specs.declared.first.HostLocalConf.{HostLocalConf}
-use Rattle.net_conf.specs.declared.chained.Chained.{Chained}
+use Rattle.net_conf.specs.declared.{chained.Chained.Chained, first.{First.First, HostLocalConf.HostLocalConf}}
 use Rattle.net_conf.specs.declared.list.NetList.{NetList}
-use Rattle.kernel_types.proofs.Cases.{att_eq-refl}
-use Rattle.kernel_types.proofs.ListLemmas.{list_all-weaker, list_any-append_left, list_any-append_right}
-use Rattle.kernel_types.specs.Codes.{kind_eq}
-use Rattle.kernel_types.specs.declared.object.Att.{Att}
-use Rattle.kernel_types.specs.declared.call.Kind.{Kind}
+use Rattle.kernel_types.proofs.{Cases.att_eq-refl, ListLemmas.{list_all-weaker, list_any-append_left}}
+use Rattle.kernel_types.proofs.ListLemmas.{list_any-append_right}
+use Rattle.kernel_types.specs.{Codes.kind_eq, declared.call.Call.{Call, TheVariants.{VethAdd, MacvlanAdd, AddrAdd}}}
+use Rattle.kernel_types.specs.declared.call.Call.TheVariants.{RouteAdd, RuleAppend, SettingSet, LeaseNext, CachePut}
+use Rattle.kernel_types.specs.declared.{call.Kind.Kind, object.Att.Att}
 use Rattle.kernel_types.specs.declared.call.Kind.TheVariants as kinds
-use Rattle.kernel_types.specs.declared.call.Call.{Call}
-use Rattle.kernel_types.specs.declared.call.Call.TheVariants.{VethAdd, MacvlanAdd, AddrAdd, RouteAdd, RuleAppend, SettingSet, LeaseNext, CachePut}
-use Rattle.plugin_base.specs.Calls.{IsWellFormedCall, has_kind, is_beside_plugins, is_call_of, is_of_kinds, is_plugin_call_of}
-use Rattle.plugin_base.specs.PluginCalls.{makes_interface}
-use Rattle.plugin_base.specs.Share.{Share, no_objects, share_after_calls}
-use Rattle.plugin_base.proofs.CallLists.{share_after_calls-then}
-use Rattle.plugin_base.proofs.KeyLists.{list_all-append}
-use Rattle.plugin_base.proofs.PluginCalls.{interface-kinds}
-use Rattle.host_local.specs.Conf.{range_sets_of}
-use Rattle.host_local.specs.Leases.{lease_calls_from, lease_calls_of}
-use Rattle.plugin_chain.specs.Wanted.{back_calls, bridge_of, calls_after, calls_before, chained_calls, chained_kinds, chained_kinds_reversed, first_kinds, ipam_of, kinds_of, sets_of, wanted}
-use Rattle.plugin_chain.proofs.BackCalls.{PassesChained, passes-back}
-use Rattle.plugin_chain.proofs.OwnCalls.{own-back, own-before}
-use Rattle.plugin_chain.proofs.PluginLaws.{chained_laws, first_laws}
-use Rattle.plugin_chain.proofs.WantedShare.{adds-links, makes-wanted, share_with_leases}
+use Rattle.plugin_base.specs.Calls.{IsWellFormedCall, has_kind, is_beside_plugins, is_call_of, is_of_kinds}
+use Rattle.plugin_base.specs.{Calls.is_plugin_call_of, PluginCalls.makes_interface, Share.{Share, no_objects}}
+use Rattle.plugin_base.specs.Share.{share_after_calls}
+use Rattle.plugin_base.proofs.{CallLists.share_after_calls-then, KeyLists.list_all-append, PluginCalls.interface-kinds}
+use Rattle.host_local.specs.{Conf.range_sets_of, Leases.{lease_calls_from, lease_calls_of}}
+use Rattle.plugin_chain.specs.Wanted.{back_calls, bridge_of, calls_after, calls_before, chained_calls, chained_kinds}
+use Rattle.plugin_chain.specs.Wanted.{chained_kinds_reversed, first_kinds, ipam_of, kinds_of, sets_of, wanted}
+use Rattle.plugin_chain.proofs.{BackCalls.{PassesChained, passes-back}, OwnCalls.{own-back, own-before}}
+use Rattle.plugin_chain.proofs.{PluginLaws.{chained_laws, first_laws}, WantedShare.{adds-links, makes-wanted}}
+use Rattle.plugin_chain.proofs.WantedShare.{share_with_leases}
 use Rattle.pod_workers.specs.AddCalls.{AddCallsMakeTheWanted, only_leases}
-use Rattle.pod_workers.proofs.Each.{each-append}
-use Rattle.pod_workers.proofs.PluginCalls.{AllOfPlugins, of_plugins-back, of_plugins-before}
-use Rattle.pod_workers.proofs.Splits.{split_nil}
-use Rattle.pod_workers.proofs.WellFormedPlans.{first_apart}
+use Rattle.pod_workers.proofs.{Each.each-append, PluginCalls.{AllOfPlugins, of_plugins-back, of_plugins-before}}
+use Rattle.pod_workers.proofs.{Splits.split_nil, WellFormedPlans.first_apart}
 
 -- ---- whose they are
 

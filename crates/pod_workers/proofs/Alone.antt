@@ -1,14 +1,11 @@
 -- Exclusive commands of well-formed pods have their rounds for themselves.
 use Rattle.std.proofs.Common.{◌≡◌, ◌+◌, ℕ, zero, suc, true, List, [], ◌∷◌, ◌∙◌, ap, arith, inl, inr, Some, slice_get}
+use Rattle.std.proofs.lemmas.{List.Elements.{All-drop, All-get_or}, Option.{same_Some, none-some, slice_get_within}}
 use Rattle.std.specs.List.{All, list_any}
-use Rattle.std.proofs.lemmas.List.Elements.{All-drop, All-get_or}
-use Rattle.std.proofs.lemmas.Option.{same_Some, none-some, slice_get_within}
 use Rattle.pod_file.proofs.CommandFacts.{one_alone}
-use Rattle.pod_file.specs.Rounds.{is_exclusive}
-use Rattle.pod_file.specs.WellFormed.{IsWellFormedPods, IsWellFormedRound}
+use Rattle.pod_file.specs.{Rounds.is_exclusive, WellFormed.{IsWellFormedPods, IsWellFormedRound}}
 use Rattle.pod_file.specs.declared.command.Command.{Command}
-use Rattle.pod_workers.specs.Plans.{Placed, commands_of, placed_from}
-use Rattle.pod_workers.specs.declared.plan.Plan.{Plan}
+use Rattle.pod_workers.specs.{Plans.{Placed, commands_of, placed_from}, declared.plan.Plan.Plan}
 use Rattle.pod_workers.proofs.Rounds.{here_or_later, round-of}
 
 -- an exclusive command has its round for itself

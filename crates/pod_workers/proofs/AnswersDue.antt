@@ -1,30 +1,23 @@
 -- Each answer of a legal world is its script's, a stop, or out of memory.
-use Rattle.std.proofs.Common.{◌≡◌, ◌≢◌, ℕ, ◌+◌, ◌≤◌, ◌==◌, Bool, true, false, List, [], ◌∷◌, ◌++◌, length, Option, Some, None, slice_get, slice_set, refl, sym, ◌∙◌, ap, subst, inl, inr, ◌⊎◌, arith}
+use Rattle.std.proofs.Common.{◌≡◌, ◌≢◌, ℕ, ◌+◌, ◌≤◌, ◌==◌, Bool, true, false, List, [], ◌∷◌, ◌++◌, length, Option, Some}
+use Rattle.std.proofs.Common.{None, slice_get, slice_set, refl, sym, ◌∙◌, ap, subst, inl, inr, ◌⊎◌, arith}
+use Rattle.std.proofs.lemmas.{Bool.{and_parts, eqb-true, or_cases, Decides.{eqb_tells, nat_tests}}, List.append_assoc}
+use Rattle.std.proofs.lemmas.{List.length_push, Option.{same_Some, none-some, slice_get_within}}
 use Rattle.std.specs.Prelude.{if◌then◌else◌, ◌||◌}
-use Rattle.std.proofs.lemmas.List.{append_assoc, length_push}
-use Rattle.std.proofs.lemmas.Option.{same_Some, none-some, slice_get_within}
-use Rattle.std.proofs.lemmas.Bool.Decides.{eqb_tells, nat_tests}
-use Rattle.std.proofs.lemmas.Bool.{and_parts, eqb-true, or_cases}
-use Rattle.cni_verbs.specs.Progress.{turn_by, answer_by}
-use Rattle.cni_verbs.specs.Script.{Turn, Calls, Finishes, Finish}
-use Rattle.cni_errors.specs.declared.answer.Answer.{Answer}
-use Rattle.cni_errors.specs.declared.answer.Answer.TheVariants.{OutOfMemory, Stopped}
+use Rattle.cni_verbs.specs.{Progress.{turn_by, answer_by}, Script.{Turn, Calls, Finishes, Finish}}
+use Rattle.cni_errors.specs.declared.answer.Answer.{Answer, TheVariants.{OutOfMemory, Stopped}}
 use Rattle.kernel_types.specs.declared.call.Call.{Call}
 use Rattle.net_conf.specs.declared.list.NetList.{NetList}
 use Rattle.pod_file.specs.declared.command.Command.{Command}
 use Rattle.pod_workers.specs.Facts.{EachFollows, EntryIsInRound, IsScripts, IsStopped, AnswerIsDue, IsDue}
-use Rattle.pod_workers.specs.Legal.{Legal, starts, steps, refused_memory, turns}
-use Rattle.pod_workers.specs.Plans.{Placed, commands_of, list_for}
-use Rattle.pod_workers.specs.World.{World, IsReady, IsUpToStop, own_replies, host_of, is_faulty, is_stop, is_cut, is_cut_at, last_entry, done, answered, with_entry, entry_of, next_of, next_by, at_number}
-use Rattle.pod_workers.specs.declared.plan.Plan.{Plan}
-use Rattle.pod_workers.specs.declared.plan.Entry.{Entry}
-use Rattle.pod_workers.specs.declared.plan.Next.{Next}
+use Rattle.pod_workers.specs.{Legal.{Legal, starts, steps, refused_memory, turns}, Plans.{Placed, commands_of}}
+use Rattle.pod_workers.specs.{Plans.list_for, World.{World, IsReady, IsUpToStop, own_replies, host_of, is_faulty}}
+use Rattle.pod_workers.specs.World.{is_stop, is_cut, is_cut_at, last_entry, done, answered, with_entry, entry_of}
+use Rattle.pod_workers.specs.{World.{next_of, next_by, at_number}, declared.plan.{Entry.Entry, Next.Next, Plan.Plan}}
 use Rattle.pod_workers.specs.declared.plan.Next.TheVariants as next
-use Rattle.pod_workers.proofs.Order.{none_answered}
-use Rattle.pod_workers.proofs.Elements.{at_number-is}
-use Rattle.pod_workers.proofs.Facts.{each_follows, keeps_stop}
-use Rattle.pod_workers.proofs.Histories.{slice_get-set_same, slice_get-set_other, replies_of-other, last_entry-splits}
-use Rattle.pod_workers.proofs.Rounds.{is_in_round}
+use Rattle.pod_workers.proofs.{Elements.at_number-is, Facts.{each_follows, keeps_stop}, Histories.slice_get-set_same}
+use Rattle.pod_workers.proofs.Histories.{slice_get-set_other, replies_of-other, last_entry-splits}
+use Rattle.pod_workers.proofs.{Order.none_answered, Rounds.is_in_round}
 
 -- ---- a cut
 

@@ -1,19 +1,14 @@
 -- What a round by one thread appends is in file order.
-use Rattle.std.proofs.Common.{◌≡◌, ℕ, ◌+◌, ◌<◌, ◌≤◌, List, [], ◌∷◌, ◌++◌, Result, Ok, Err, refl, sym, ◌∙◌, ap, subst, inl, inr, arith}
+use Rattle.std.proofs.Common.{◌≡◌, ℕ, ◌+◌, ◌<◌, ◌≤◌, List, [], ◌∷◌, ◌++◌, Result, Ok, Err, refl, sym, ◌∙◌, ap, subst}
+use Rattle.std.proofs.{Common.{inl, inr, arith}, lemmas.List.{append-nil, append_assoc, Elements.All-append}}
+use Rattle.std.proofs.lemmas.List.Elements.{All-cons, All-head, All-nil, All-push, All-tail, All-weaker}
 use Rattle.std.specs.List.{All}
-use Rattle.std.proofs.lemmas.List.{append-nil, append_assoc}
-use Rattle.std.proofs.lemmas.List.Elements.{All-append, All-cons, All-head, All-nil, All-push, All-tail, All-weaker}
 use Rattle.cni_addr.specs.declared.memory.NoMemory.{NoMemory}
-use Rattle.pod_workers.specs.Extends.{Appends}
-use Rattle.pod_workers.specs.Order.{AppendsInFileOrder, IsEntryBy, StandInFileOrder}
-use Rattle.pod_workers.specs.World.{World, IsReadyNumber, done, entry_of, host_of, next_of, next_round, own_replies}
-use Rattle.pod_workers.specs.declared.plan.Entry.{Entry}
-use Rattle.pod_workers.specs.declared.plan.Next.{Next}
+use Rattle.pod_workers.specs.{Extends.Appends, Order.{AppendsInFileOrder, IsEntryBy, StandInFileOrder}, World.World}
+use Rattle.pod_workers.specs.World.{IsReadyNumber, done, entry_of, host_of, next_of, next_round, own_replies}
+use Rattle.pod_workers.specs.declared.plan.{Entry.Entry, Next.Next, Plan.Plan, StepEnd.StepEnd}
 use Rattle.pod_workers.specs.declared.plan.Next.TheVariants as next
-use Rattle.pod_workers.specs.declared.plan.Plan.{Plan}
-use Rattle.pod_workers.specs.declared.plan.StepEnd.{StepEnd}
-use Rattle.pod_workers.proofs.RoundDone.{IsStepped, appends-more, appends-none}
-use Rattle.pod_workers.proofs.Splits.{split_nil, two_snoc}
+use Rattle.pod_workers.proofs.{RoundDone.{IsStepped, appends-more, appends-none}, Splits.{split_nil, two_snoc}}
 
 -- ---- a step
 

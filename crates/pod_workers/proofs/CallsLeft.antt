@@ -4,8 +4,8 @@ use Rattle.kernel_types.specs.declared.object.CachedObj.{CachedObj}
 use Rattle.net_conf.specs.declared.list.NetList.{NetList}
 use Rattle.pod_file.specs.declared.command.Command.{Command}
 use Rattle.plugin_base.specs.Share.{Share}
-use Rattle.cni_verbs.specs.Questions.{check_questions}
-use Rattle.cni_verbs.specs.Script.{State, AtBegin, BeforeLeases, Leasing, AfterLeases, ReadingCache, Deleting, FindingEntry, Asking, Changing, Collecting, Over, before_of}
+use Rattle.cni_verbs.specs.{Questions.check_questions, Script.{State, AtBegin, BeforeLeases, Leasing, AfterLeases}}
+use Rattle.cni_verbs.specs.Script.{ReadingCache, Deleting, FindingEntry, Asking, Changing, Collecting, Over, before_of}
 use Rattle.plugin_chain.specs.Wanted.{kinds_of, sets_of}
 use Rattle.gc_sweep.specs.Deletions.{deletions_of}
 

@@ -1,15 +1,10 @@
 -- A legal world meets each clause.
 use Rattle.std.proofs.Common.{◌≡◌, ℕ, ◌+◌, ◌≤◌, length, sym, ap, subst, arith}
-use Rattle.pod_workers.specs.Facts.{IsLegalByClauses}
-use Rattle.pod_workers.specs.Legal.{Legal, starts, steps, refused_memory, turns}
-use Rattle.pod_workers.specs.World.{World, own_replies, done, next_of}
-use Rattle.pod_workers.specs.declared.plan.Next.{Next}
+use Rattle.pod_workers.specs.{Facts.IsLegalByClauses, Legal.{Legal, starts, steps, refused_memory, turns}, World.World}
+use Rattle.pod_workers.specs.{World.{own_replies, done, next_of}, declared.plan.Next.Next}
 use Rattle.pod_workers.specs.declared.plan.Next.TheVariants as next
-use Rattle.pod_workers.proofs.AnswersDue.{answer_is_due}
-use Rattle.pod_workers.proofs.DoneBefore.{goes_one_by_one}
-use Rattle.pod_workers.proofs.Facts.{each_follows, goes_by_rounds, stops}
-use Rattle.pod_workers.proofs.Order.{in_order}
-use Rattle.pod_workers.proofs.Sound.{fine}
+use Rattle.pod_workers.proofs.{AnswersDue.answer_is_due, DoneBefore.goes_one_by_one, Facts.each_follows}
+use Rattle.pod_workers.proofs.{Facts.{goes_by_rounds, stops}, Order.in_order, Sound.fine}
 
 abbrev IsWithinPlan : World → Type 0
 IsWithinPlan w = w.round ≤ length w.plan.pods.rounds

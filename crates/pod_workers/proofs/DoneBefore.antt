@@ -1,20 +1,15 @@
 -- Where a command made a call, each earlier one of its container is done.
-use Rattle.std.proofs.Common.{◌≡◌, ◌≢◌, ℕ, ◌+◌, ◌<◌, false, Option, Some, None, slice_get, refl, sym, ◌∙◌, ap, subst, inl, inr, arith}
-use Rattle.std.proofs.lemmas.Bool.Decides.{eqb_tells}
-use Rattle.cni_errors.specs.declared.answer.Answer.{Answer}
-use Rattle.cni_errors.specs.declared.answer.Answer.TheVariants.{OutOfMemory}
+use Rattle.std.proofs.Common.{◌≡◌, ◌≢◌, ℕ, ◌+◌, ◌<◌, false, Option, Some, None, slice_get, refl, sym, ◌∙◌, ap, subst}
+use Rattle.std.proofs.{Common.{inl, inr, arith}, lemmas.Bool.Decides.eqb_tells}
+use Rattle.cni_errors.specs.declared.answer.Answer.{Answer, TheVariants.OutOfMemory}
 use Rattle.pod_workers.specs.Facts.{EntryIsInRound, IsDone, EachIsDoneBefore, AreOfOneContainer, GoesOneByOne}
-use Rattle.pod_workers.specs.Legal.{Legal, starts, steps, refused_memory, turns}
-use Rattle.pod_workers.specs.Plans.{Placed, commands_of}
-use Rattle.pod_workers.specs.World.{World, IsReady, IsAnswered, own_replies, replies_of, host_of, is_cut, done, answered, with_entry, entry_of, next_of}
-use Rattle.pod_workers.specs.declared.plan.Entry.{Entry}
-use Rattle.pod_workers.specs.declared.plan.Next.{Next}
+use Rattle.pod_workers.specs.{Legal.{Legal, starts, steps, refused_memory, turns}, Plans.{Placed, commands_of}}
+use Rattle.pod_workers.specs.World.{World, IsReady, IsAnswered, own_replies, replies_of, host_of, is_cut, done}
+use Rattle.pod_workers.specs.{World.{answered, with_entry, entry_of, next_of}, declared.plan.{Entry.Entry, Next.Next}}
 use Rattle.pod_workers.specs.declared.plan.Next.TheVariants as next
-use Rattle.pod_workers.proofs.AnswersDue.{answer_is_due}
-use Rattle.pod_workers.proofs.Facts.{two_entries, each_follows, cut_before}
-use Rattle.pod_workers.proofs.Histories.{slice_get-set_other, replies_of-other}
-use Rattle.pod_workers.proofs.Order.{in_order, not_both, ready_is, before_ready, other_number}
-use Rattle.pod_workers.proofs.Sound.{goes_in}
+use Rattle.pod_workers.proofs.{AnswersDue.answer_is_due, Facts.{two_entries, each_follows, cut_before}}
+use Rattle.pod_workers.proofs.{Histories.{slice_get-set_other, replies_of-other}, Order.{in_order, not_both, ready_is}}
+use Rattle.pod_workers.proofs.{Order.{before_ready, other_number}, Sound.goes_in}
 
 -- ---- what is done stays done
 

@@ -1,6 +1,5 @@
 -- What holds of each element of a list, where lists are joined and made by a map.
-use Rattle.std.proofs.Common.{◌≡◌, Bool, true, List, [], ◌∷◌, ◌++◌, map, get_or}
-use Rattle.std.proofs.lemmas.Bool.{and_parts}
+use Rattle.std.proofs.{Common.{◌≡◌, Bool, true, List, [], ◌∷◌, ◌++◌, map, get_or}, lemmas.Bool.and_parts}
 use Rattle.std.proofs.lemmas.List.Elements.{All-append, All-from_recursion, All-map, recursion_from_All}
 use Rattle.std.specs.List.{AllByRecursion, list_all}
 

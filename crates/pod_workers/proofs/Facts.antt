@@ -1,25 +1,20 @@
 -- Each entry of a legal world follows, entries stand in their order, and stops are kept.
-use Rattle.std.proofs.Common.{◌≡◌, ◌≢◌, ℕ, ◌+◌, ◌<◌, ◌≤◌, ◌==◌, Bool, false, List, [], ◌∷◌, ◌++◌, length, Option, Some, None, slice_get, refl, sym, ◌∙◌, ap, subst, inl, inr, arith}
+use Rattle.std.proofs.Common.{◌≡◌, ◌≢◌, ℕ, ◌+◌, ◌<◌, ◌≤◌, ◌==◌, Bool, false, List, [], ◌∷◌, ◌++◌, length, Option, Some}
+use Rattle.std.proofs.{Common.{None, slice_get, refl, sym, ◌∙◌, ap, subst, inl, inr, arith}, lemmas.Bool.cases_lt}
+use Rattle.std.proofs.lemmas.{Bool.Decides.{eqb_tells, nat_tests}, List.{append_assoc, length_push}, Option.same_Some}
 use Rattle.std.specs.Prelude.{◌&&◌}
-use Rattle.std.proofs.lemmas.List.{append_assoc, length_push}
-use Rattle.std.proofs.lemmas.Option.{same_Some}
-use Rattle.std.proofs.lemmas.Bool.{cases_lt}
-use Rattle.std.proofs.lemmas.Bool.Decides.{eqb_tells, nat_tests}
 use Rattle.kernel_types.specs.declared.call.Call.{Call}
-use Rattle.pod_workers.specs.Facts.{Follows, EachFollows, IsEntryOf, EachTwo, EntryIsInRound, AreInRoundOrder, AreOfOneContainer, AreInContainerOrder, GoesByRounds, KeepsStop, IsAfterStop, Stops}
-use Rattle.pod_workers.specs.Legal.{Legal, starts, steps, refused_memory, turns}
-use Rattle.pod_workers.specs.Plans.{Placed, commands_of}
-use Rattle.pod_workers.specs.World.{World, IsReady, IsUpToStop, replies_of, own_replies, reply_to, host_of, is_stop, is_cut, is_cut_at, last_entry, done, entry_of, next_of, at_number}
-use Rattle.pod_workers.specs.declared.plan.Plan.{Plan}
-use Rattle.pod_workers.specs.declared.plan.Entry.{Entry}
-use Rattle.pod_workers.specs.declared.plan.Next.{Next}
+use Rattle.pod_workers.specs.Facts.{Follows, EachFollows, IsEntryOf, EachTwo, EntryIsInRound, AreInRoundOrder}
+use Rattle.pod_workers.specs.Facts.{AreOfOneContainer, AreInContainerOrder, GoesByRounds, KeepsStop, IsAfterStop, Stops}
+use Rattle.pod_workers.specs.{Legal.{Legal, starts, steps, refused_memory, turns}, Plans.{Placed, commands_of}}
+use Rattle.pod_workers.specs.World.{World, IsReady, IsUpToStop, replies_of, own_replies, reply_to, host_of, is_stop}
+use Rattle.pod_workers.specs.World.{is_cut, is_cut_at, last_entry, done, entry_of, next_of, at_number}
+use Rattle.pod_workers.specs.declared.plan.{Entry.Entry, Next.Next, Plan.Plan}
 use Rattle.pod_workers.specs.declared.plan.Next.TheVariants as next
-use Rattle.pod_workers.proofs.Elements.{at_number-is}
-use Rattle.pod_workers.proofs.Histories.{replies_of-own, replies_of-other, has_reply, last_entry-append}
-use Rattle.pod_workers.proofs.Order.{IsInOrder, in_order, not_both, other_number}
-use Rattle.pod_workers.proofs.Sound.{allowed_next, goes_in}
-use Rattle.pod_workers.proofs.Splits.{split_nil, split_snoc, two_snoc}
-use Rattle.pod_workers.proofs.Rounds.{is_in_round}
+use Rattle.pod_workers.proofs.{Elements.at_number-is, Histories.{replies_of-own, replies_of-other, has_reply}}
+use Rattle.pod_workers.proofs.{Histories.last_entry-append, Order.{IsInOrder, in_order, not_both, other_number}}
+use Rattle.pod_workers.proofs.{Rounds.is_in_round, Sound.{allowed_next, goes_in}, Splits.{split_nil, split_snoc}}
+use Rattle.pod_workers.proofs.Splits.{two_snoc}
 
 -- ---- each entry follows
 

@@ -1,39 +1,28 @@
 -- Each reply lowers the calls that are left to a run.
-use Rattle.std.proofs.Common.{◌≡◌, ℕ, ◌+◌, ◌<◌, ◌≤◌, Bool, true, false, List, [], ◌∷◌, ◌++◌, length, Option, Some, None, refl, sym, ◌∙◌, ap, subst, inl, inr, ◌⊎◌, arith}
-use Rattle.std.specs.Prelude.{find, filter}
-use Rattle.std.specs.Option.{option_map}
-use Rattle.std.proofs.lemmas.Option.{same_Some}
-use Rattle.cni_addr.specs.declared.address.Addr.{Addr}
-use Rattle.cni_addr.specs.declared.range.RangeSet.{RangeSet}
+use Rattle.std.proofs.Common.{◌≡◌, ℕ, ◌+◌, ◌<◌, ◌≤◌, Bool, true, false, List, [], ◌∷◌, ◌++◌, length, Option, Some, None}
+use Rattle.std.proofs.{Common.{refl, sym, ◌∙◌, ap, subst, inl, inr, ◌⊎◌, arith}, lemmas.Option.same_Some}
+use Rattle.std.specs.{Option.option_map, Prelude.{find, filter}}
+use Rattle.cni_addr.specs.declared.{address.Addr.Addr, range.RangeSet.RangeSet}
 use Rattle.cni_result.specs.declared.cached.Cached.{Cached}
-use Rattle.kernel_types.specs.Allowed.{IsAllowed}
-use Rattle.kernel_types.specs.Apply.{apply}
-use Rattle.kernel_types.specs.Sound.{IsSound}
-use Rattle.kernel_types.specs.Terms.{is_own}
-use Rattle.kernel_types.specs.declared.object.CachedObj.{CachedObj}
-use Rattle.kernel_types.specs.declared.object.Host.{Host}
-use Rattle.kernel_types.specs.declared.call.Call.{Call}
-use Rattle.kernel_types.specs.declared.call.Call.TheVariants.{Begin, LeaseNext, CacheGet}
-use Rattle.kernel_types.specs.declared.call.Kind.{Kind}
-use Rattle.kernel_types.specs.declared.call.Reply.{Reply}
+use Rattle.kernel_types.specs.{Allowed.IsAllowed, Apply.apply, Sound.IsSound, Terms.is_own, declared.call.Call.Call}
+use Rattle.kernel_types.specs.declared.call.{Call.TheVariants.{Begin, LeaseNext, CacheGet}, Kind.Kind, Reply.Reply}
 use Rattle.kernel_types.specs.declared.call.Reply.TheVariants.{Done, Leased, Gone, Has, Entry, Fault}
-use Rattle.net_conf.specs.declared.list.NetList.{NetList}
-use Rattle.net_conf.specs.Sets.{one_if}
+use Rattle.kernel_types.specs.declared.object.{CachedObj.CachedObj, Host.Host}
+use Rattle.net_conf.specs.{Sets.one_if, declared.list.NetList.NetList}
 use Rattle.pod_file.specs.declared.command.Command.{Command}
-use Rattle.plugin_base.specs.Calls.{is_plugin_call_of}
-use Rattle.plugin_base.specs.Share.{Share, share_of}
-use Rattle.cni_errors.specs.CommandFields.{att_of}
-use Rattle.cni_verbs.specs.Questions.{check_questions}
-use Rattle.cni_verbs.specs.Script.{State, AtBegin, BeforeLeases, Leasing, AfterLeases, ReadingCache, Deleting, FindingEntry, Asking, Changing, Collecting, Over, Calls, turn, advance, at_begin, at_cache, at_call_after, at_call_before, at_deletion, at_entry, at_lease, at_question, after_leases, leasing, before_leases, deleting, asking, checking, back_of, before_of}
+use Rattle.plugin_base.specs.{Calls.is_plugin_call_of, Share.{Share, share_of}}
+use Rattle.cni_errors.specs.{CommandFields.att_of, declared.answer.{Ending.Ending, Question.Question}}
+use Rattle.cni_verbs.specs.{Questions.check_questions, Script.{State, AtBegin, BeforeLeases, Leasing, AfterLeases}}
+use Rattle.cni_verbs.specs.Script.{ReadingCache, Deleting, FindingEntry, Asking, Changing, Collecting, Over, Calls}
+use Rattle.cni_verbs.specs.Script.{turn, advance, at_begin, at_cache, at_call_after, at_call_before, at_deletion}
+use Rattle.cni_verbs.specs.Script.{at_entry, at_lease, at_question, after_leases, leasing, before_leases, deleting}
+use Rattle.cni_verbs.specs.Script.{asking, checking, back_of, before_of}
 use Rattle.plugin_chain.specs.Wanted.{deletion, kinds_of, sets_of}
-use Rattle.cni_errors.specs.declared.answer.Ending.{Ending}
-use Rattle.cni_errors.specs.declared.answer.Question.{Question}
 use Rattle.gc_sweep.specs.Deletions.{deletions_of}
 use Rattle.gc_sweep.proofs.Deletable.{begin-none, call-more, deletion-falls, lease-more}
 use Rattle.pod_workers.specs.CallCounts.{AddsInAtMost}
-use Rattle.pod_workers.proofs.CallsLeft.{calls_left, making, most_after, questions_by}
-use Rattle.pod_workers.proofs.Elements.{find-first, first_of}
-use Rattle.pod_workers.proofs.MostCalls.{back-within, most-splits}
+use Rattle.pod_workers.proofs.{CallsLeft.{calls_left, making, most_after, questions_by}, Elements.find-first}
+use Rattle.pod_workers.proofs.{Elements.first_of, MostCalls.{back-within, most-splits}}
 
 -- ---- where work is left
 

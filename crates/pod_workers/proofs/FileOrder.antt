@@ -2,20 +2,14 @@
 use Rattle.std.proofs.Common.{◌≡◌, ℕ, ◌+◌, ◌≤◌, false, List, [], ◌∷◌, ◌++◌, refl, ◌∙◌, ap, inl, inr, arith}
 use Rattle.std.proofs.lemmas.Bool.{cases_lt}
 use Rattle.cni_errors.specs.declared.answer.Answer.{Answer}
-use Rattle.pod_workers.specs.Facts.{IsEntryOf}
-use Rattle.pod_workers.specs.Legal.{Legal}
-use Rattle.pod_workers.specs.Order.{AreInFileOrder, IsInFileOrder, EarlierAreAnswered}
-use Rattle.pod_workers.specs.Plans.{Placed}
-use Rattle.pod_workers.specs.World.{World, IsReady, own_replies, replies_of, host_of, is_cut, done, answered, with_entry, entry_of, next_of, next_round, stepped}
-use Rattle.pod_workers.specs.declared.plan.Entry.{Entry}
-use Rattle.pod_workers.specs.declared.plan.Next.{Next}
+use Rattle.pod_workers.specs.{Facts.IsEntryOf, Legal.Legal, Order.{AreInFileOrder, IsInFileOrder, EarlierAreAnswered}}
+use Rattle.pod_workers.specs.{Plans.Placed, World.{World, IsReady, own_replies, replies_of, host_of, is_cut, done}}
+use Rattle.pod_workers.specs.World.{answered, with_entry, entry_of, next_of, next_round, stepped}
+use Rattle.pod_workers.specs.declared.plan.{Entry.Entry, Next.Next}
 use Rattle.pod_workers.specs.declared.plan.Next.TheVariants as next
 use Rattle.pod_workers.proofs.DoneBefore.{done-not_ready, done_before_answered, done_before_entered}
-use Rattle.pod_workers.proofs.Facts.{each_two-grows, none_two, is_reached}
-use Rattle.pod_workers.proofs.Histories.{has_reply}
-use Rattle.pod_workers.proofs.Order.{in_order}
-use Rattle.pod_workers.proofs.RoundsAscend.{rounds_ascend}
-use Rattle.pod_workers.proofs.Sound.{goes_in}
+use Rattle.pod_workers.proofs.{Facts.{each_two-grows, none_two, is_reached}, Histories.has_reply, Order.in_order}
+use Rattle.pod_workers.proofs.{RoundsAscend.rounds_ascend, Sound.goes_in}
 
 -- ---- the first open command
 

@@ -1,18 +1,14 @@
 -- Histories with one entry more, and answers with one that is written.
-use Rattle.std.proofs.Common.{◌≡◌, ◌≢◌, ℕ, zero, suc, ◌+◌, ◌-◌, ◌<◌, ◌≤◌, true, false, List, [], ◌∷◌, ◌++◌, length, Some, slice_get, slice_set, refl, sym, ◌∙◌, ap, inl, inr, ◌⊎◌, arith}
-use Rattle.std.proofs.lemmas.List.{length-append, map-append, map_push, length-map}
-use Rattle.std.proofs.lemmas.List.Elements.{filter-append}
-use Rattle.std.proofs.lemmas.Option.{same_Some, none-some}
-use Rattle.std.proofs.lemmas.Bool.Decides.{eqb_tells}
-use Rattle.kernel_types.specs.declared.object.Host.{Host}
-use Rattle.kernel_types.specs.declared.call.Call.{Call}
-use Rattle.kernel_types.specs.declared.call.Reply.{Reply}
+use Rattle.std.proofs.Common.{◌≡◌, ◌≢◌, ℕ, zero, suc, ◌+◌, ◌-◌, ◌<◌, ◌≤◌, true, false, List, [], ◌∷◌, ◌++◌, length}
+use Rattle.std.proofs.Common.{Some, slice_get, slice_set, refl, sym, ◌∙◌, ap, inl, inr, ◌⊎◌, arith}
+use Rattle.std.proofs.lemmas.{Bool.Decides.eqb_tells, List.{length-append, map-append, map_push, length-map}}
+use Rattle.std.proofs.lemmas.{List.{Elements.filter-append, Sums.{count_by-le-length, length-filter}}, Option.same_Some}
+use Rattle.std.proofs.lemmas.Option.{none-some}
+use Rattle.kernel_types.specs.declared.{call.{Call.Call, Reply.Reply}, object.Host.Host}
 use Rattle.plugin_base.proofs.KeyLists.{filter-push_dropped, filter-push_kept}
-use Rattle.pod_workers.specs.declared.plan.Entry.{Entry}
 use Rattle.pod_workers.specs.World.{is_of, own_entries, replies_in, replies_of, after, after_entry, last_entry}
-use Rattle.pod_workers.proofs.Splits.{split_nil}
-use Rattle.std.proofs.lemmas.List.Sums.{count_by-le-length, length-filter}
-use Rattle.pod_workers.proofs.Elements.{slice_get-middle}
+use Rattle.pod_workers.specs.declared.plan.Entry.{Entry}
+use Rattle.pod_workers.proofs.{Elements.slice_get-middle, Splits.split_nil}
 
 -- ---- a place that is written
 

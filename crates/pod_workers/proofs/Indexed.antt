@@ -1,20 +1,16 @@
 -- What the index of a plan says of one more command, and of who may step.
-use Rattle.std.proofs.Common.{◌≡◌, ℕ, suc, ◌+◌, ◌<◌, ◌≤◌, Bool, true, false, cond, List, [], ◌∷◌, ◌++◌, length, get_or, map, take, Option, Some, None, option_and_then, slice_get, refl, sym, ◌∙◌, ap, subst, arith, inl, inr, Bor}
-use Rattle.std.proofs.lemmas.List.{append-nil, append_assoc, length-append, map-append, length-take-le, take_more, take_all}
-use Rattle.std.proofs.lemmas.Option.{none-some, slice_get_read, slice_get-get_or}
-use Rattle.std.proofs.lemmas.Bool.{false≢true}
-use Rattle.std.proofs.lemmas.Slice.Eq.{bytes_eq-Decides}
+use Rattle.std.proofs.Common.{◌≡◌, ℕ, suc, ◌+◌, ◌<◌, ◌≤◌, Bool, true, false, cond, List, [], ◌∷◌, ◌++◌, length, get_or}
+use Rattle.std.proofs.Common.{map, take, Option, Some, None, option_and_then, slice_get, refl, sym, ◌∙◌, ap, subst}
+use Rattle.std.proofs.{Common.{arith, inl, inr, Bor}, lemmas.{Bool.false≢true, List.{append-nil, append_assoc}}}
+use Rattle.std.proofs.lemmas.{List.{length-append, map-append, length-take-le, take_more, take_all}, Option.none-some}
+use Rattle.std.proofs.lemmas.{Option.{slice_get_read, slice_get-get_or}, Slice.Eq.bytes_eq-Decides}
 use Rattle.std.specs.BTreeMap as tree
-use Rattle.std.specs.BTreeMap.{BTreeMap}
-use Rattle.std.specs.Cmp.Lexicographic.{slice_cmp}
-use Rattle.std.specs.Ordering.{nat_cmp}
-use Rattle.std.specs.Str.{bytes_eq}
+use Rattle.std.specs.{BTreeMap.BTreeMap, Cmp.Lexicographic.slice_cmp, Ordering.nat_cmp, Str.bytes_eq}
 use Rattle.pod_file.specs.declared.command.Command.{Command}
-use Rattle.pod_workers.specs.Index.{AreBefore, IsIndex, IsLatest, IsPlaced, NoneOf}
-use Rattle.pod_workers.specs.Plans.{Placed, in_round, placed_from, IsOf}
-use Rattle.pod_workers.specs.declared.index.Place.{Place}
-use Rattle.pod_workers.proofs.Elements.{at_snoc, slice_get-before, slice_get-middle}
-use Rattle.pod_workers.proofs.Rounds.{placed-fits, placed_from-more, rounds-before}
+use Rattle.pod_workers.specs.{Index.{AreBefore, IsIndex, IsLatest, IsPlaced, NoneOf}, Plans.{Placed, in_round}}
+use Rattle.pod_workers.specs.{Plans.{placed_from, IsOf}, declared.index.Place.Place}
+use Rattle.pod_workers.proofs.{Elements.{at_snoc, slice_get-before, slice_get-middle}, Rounds.placed-fits}
+use Rattle.pod_workers.proofs.Rounds.{placed_from-more, rounds-before}
 
 -- ---- one more command
 

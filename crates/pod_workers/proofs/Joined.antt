@@ -1,20 +1,16 @@
 -- A plan that was joined is well formed.
-use Rattle.std.proofs.Common.{◌≡◌, ℕ, ◌+◌, ◌<◌, Bool, true, false, not, cond, List, [], ◌∷◌, ◌++◌, length, take, drop, get_or, Option, Some, None, Ok, refl, sym, ◌∙◌, ap, subst, arith}
-use Rattle.std.specs.Prelude.{if◌then◌else◌, ◌&&◌, option_map, position}
-use Rattle.std.specs.List.{list_any, list_all, position_from}
-use Rattle.std.specs.Option.{option_or}
-use Rattle.std.specs.Str.{bytes_eq}
-use Rattle.std.proofs.lemmas.Iterator.Adapters.{position_from-zero}
-use Rattle.std.proofs.lemmas.List.{drop_more, take_more}
-use Rattle.std.proofs.lemmas.Option.{none-some}
+use Rattle.std.proofs.Common.{◌≡◌, ℕ, ◌+◌, ◌<◌, Bool, true, false, not, cond, List, [], ◌∷◌, ◌++◌, length, take, drop}
+use Rattle.std.proofs.Common.{get_or, Option, Some, None, Ok, refl, sym, ◌∙◌, ap, subst, arith}
+use Rattle.std.proofs.lemmas.{Iterator.Adapters.position_from-zero, List.{drop_more, take_more}, Option.none-some}
+use Rattle.std.specs.{List.{list_any, list_all, position_from}, Option.option_or, Prelude.{if◌then◌else◌, ◌&&◌}}
+use Rattle.std.specs.{Prelude.{option_map, position}, Str.bytes_eq}
 use Rattle.cni_addr.specs.Lists.{distinct}
 use Rattle.net_conf.specs.declared.list.NetList.{NetList}
 use Rattle.ip_pool.proofs.Lists.{is_some-find}
 use Rattle.pod_workers.specs.Join.{joined, plan_unless, first_repeat_after, first_without_list}
-use Rattle.pod_workers.specs.Laws.{JoinedPlansAreWellFormed}
-use Rattle.pod_workers.specs.Plans.{Placed, placed_from, IsWellFormed, commands_of, has_list, lacks_list}
-use Rattle.pod_workers.specs.declared.plan.Plan.{Plan}
-use Rattle.pod_workers.specs.declared.plan.PlanError.TheVariants.{SameName, NoNetwork}
+use Rattle.pod_workers.specs.{Laws.JoinedPlansAreWellFormed, Plans.{Placed, placed_from, IsWellFormed, commands_of}}
+use Rattle.pod_workers.specs.{Plans.{has_list, lacks_list}, declared.plan.{Plan.Plan, PlanError.TheVariants.SameName}}
+use Rattle.pod_workers.specs.declared.plan.PlanError.TheVariants.{NoNetwork}
 
 -- where none passes a test, all pass another one
 all-from : {X : Type 0} (q p : X → Bool) → ((x : X) → q x ≡ false → p x ≡ true) → (i : ℕ) (xs : List X) → position_from q i xs ≡ None → list_all p xs ≡ true

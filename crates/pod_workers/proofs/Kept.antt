@@ -1,35 +1,29 @@
 -- Each change of a step keeps what a book keeps.
-use Rattle.std.proofs.Common.{◌≡◌, ℕ, ◌+◌, ◌-◌, ◌<◌, ◌≤◌, ◌^◌, Bool, true, List, [], ◌∷◌, ◌++◌, length, Option, Some, None, slice_get, slice_set, refl, sym, ◌∙◌, ap, subst, arith, inl, inr}
+use Rattle.std.proofs.Common.{◌≡◌, ℕ, ◌+◌, ◌-◌, ◌<◌, ◌≤◌, ◌^◌, Bool, true, List, [], ◌∷◌, ◌++◌, length, Option, Some}
+use Rattle.std.proofs.Common.{None, slice_get, slice_set, refl, sym, ◌∙◌, ap, subst, arith, inl, inr}
+use Rattle.std.proofs.lemmas.{Bool.Decides.eqb_tells, List.{length-set, length_push}, Option.{same_Some, none-some}}
+use Rattle.std.proofs.lemmas.Option.{slice_get_within}
 use Rattle.std.specs.Prelude.{IsSome}
-use Rattle.std.proofs.lemmas.List.{length-set, length_push}
-use Rattle.std.proofs.lemmas.Option.{same_Some, none-some, slice_get_within}
-use Rattle.std.proofs.lemmas.Bool.Decides.{eqb_tells}
-use Rattle.cni_verbs.specs.Progress.{Progress, RunView, progress, advanced, turn_by}
-use Rattle.cni_verbs.specs.Script.{State, turn, state_from, start_state, advance, outside_advance, outside_from, outside_start}
+use Rattle.cni_verbs.specs.{Progress.{Progress, RunView, progress, advanced, turn_by}, Script.{State, turn, state_from}}
+use Rattle.cni_verbs.specs.Script.{start_state, advance, outside_advance, outside_from, outside_start}
 use Rattle.cni_verbs.proofs.AfterReplies.{after_replies-append}
-use Rattle.cni_errors.specs.declared.answer.Answer.{Answer}
-use Rattle.cni_errors.specs.declared.answer.Answer.TheVariants.{OutOfMemory}
-use Rattle.kernel_types.specs.declared.call.Reply.{Reply}
-use Rattle.kernel_types.specs.declared.object.Host.{Host}
+use Rattle.cni_errors.specs.declared.answer.Answer.{Answer, TheVariants.OutOfMemory}
+use Rattle.kernel_types.specs.declared.{call.Reply.Reply, object.Host.Host}
 use Rattle.net_conf.specs.declared.list.NetList.{NetList}
 use Rattle.pod_file.specs.declared.command.Command.{Command}
-use Rattle.pod_workers.specs.Index.{command_at_place, is_cut_by}
-use Rattle.pod_workers.specs.Legal.{Legal, steps, refused_memory}
-use Rattle.pod_workers.specs.Plans.{Placed, commands_of, list_for}
-use Rattle.pod_workers.specs.Slots.{Fits, IsKept, MayBeMade, MayStepTask, DoesNext, begun_by, begun_with, next_in}
-use Rattle.pod_workers.specs.World.{World, IsReady, IsReadyNumber, IsUpToStop, RunsOut, StepsTo, after_entry, answered, done, end_of, end_of_step, entry_by, entry_of, host_of, is_cut, next_by, next_of, own_replies, stepped, with_entry}
-use Rattle.pod_workers.specs.declared.index.Place.{Place}
-use Rattle.pod_workers.specs.declared.plan.Entry.{Entry}
-use Rattle.pod_workers.specs.declared.plan.Next.{Next}
-use Rattle.pod_workers.specs.declared.plan.Next.TheVariants as next
-use Rattle.pod_workers.specs.declared.plan.StepEnd.{StepEnd}
-use Rattle.pod_workers.specs.declared.plan.StepEnd.TheVariants as ends
+use Rattle.pod_workers.specs.{Index.{command_at_place, is_cut_by}, Legal.{Legal, steps, refused_memory}, Plans.Placed}
+use Rattle.pod_workers.specs.{Plans.{commands_of, list_for}, Slots.{Fits, IsKept, MayBeMade, MayStepTask, DoesNext}}
+use Rattle.pod_workers.specs.{Slots.{begun_by, begun_with, next_in}, World.{World, IsReady, IsReadyNumber, IsUpToStop}}
+use Rattle.pod_workers.specs.World.{RunsOut, StepsTo, after_entry, answered, done, end_of, end_of_step, entry_by}
+use Rattle.pod_workers.specs.World.{entry_of, host_of, is_cut, next_by, next_of, own_replies, stepped, with_entry}
+use Rattle.pod_workers.specs.declared.{index.Place.Place, plan.{Entry.Entry, Next.Next, StepEnd.StepEnd}}
 use Rattle.pod_workers.specs.declared.step.Stepped.{Stepped}
+use Rattle.pod_workers.specs.declared.plan.Next.TheVariants as next
+use Rattle.pod_workers.specs.declared.plan.StepEnd.TheVariants as ends
 use Rattle.pod_workers.specs.declared.step.Stepped.TheVariants as step
-use Rattle.pod_workers.proofs.Facts.{none-made, within-more}
-use Rattle.pod_workers.proofs.Histories.{slice_get-set_same, slice_get-set_other, replies_of-own, replies_of-other, after-append, length-replies_of}
-use Rattle.pod_workers.proofs.ReadyByIndex.{cut-is}
-use Rattle.pod_workers.proofs.Sound.{allowed_next, fine, goes_in, list_for-found}
+use Rattle.pod_workers.proofs.{Facts.{none-made, within-more}, Histories.{slice_get-set_same, slice_get-set_other}}
+use Rattle.pod_workers.proofs.Histories.{replies_of-own, replies_of-other, after-append, length-replies_of}
+use Rattle.pod_workers.proofs.{ReadyByIndex.cut-is, Sound.{allowed_next, fine, goes_in, list_for-found}}
 use Rattle.pod_workers.proofs.WellFormedPlans.{are_numbered}
 
 -- ---- a run and its replies

@@ -1,21 +1,16 @@
 -- A book as it is begun keeps what a book keeps.
-use Rattle.std.proofs.Common.{◌≡◌, ℕ, zero, suc, List, [], ◌∷◌, length, map, Option, Some, None, slice_get, refl, sym, ◌∙◌, ap, subst, arith}
+use Rattle.std.proofs.Common.{◌≡◌, ℕ, zero, suc, List, [], ◌∷◌, length, map, Option, Some, None, slice_get, refl, sym}
+use Rattle.std.proofs.{Common.{◌∙◌, ap, subst, arith}, lemmas.{List.{length-map, length-replicate}, Option.same_Some}}
+use Rattle.std.proofs.lemmas.Option.{none-some}
 use Rattle.std.specs.Prelude.{replicate}
-use Rattle.std.proofs.lemmas.List.{length-map, length-replicate}
-use Rattle.std.proofs.lemmas.Option.{same_Some, none-some}
 use Rattle.cni_verbs.specs.Progress.{RunView}
 use Rattle.cni_errors.specs.declared.answer.Answer.{Answer}
 use Rattle.kernel_types.specs.declared.object.Host.{Host}
 use Rattle.net_conf.specs.declared.list.NetList.{NetList}
 use Rattle.pod_file.specs.declared.command.Command.{Command}
-use Rattle.pod_workers.specs.Index.{IsIndex}
-use Rattle.pod_workers.specs.Legal.{IsBegun, starts}
-use Rattle.pod_workers.specs.Plans.{IsWellFormed, Placed, commands_of, placed_from}
-use Rattle.pod_workers.specs.Slots.{Fits, IsKept}
-use Rattle.pod_workers.specs.World.{begun}
-use Rattle.pod_workers.specs.declared.index.Place.{Place}
-use Rattle.pod_workers.specs.declared.plan.Entry.{Entry}
-use Rattle.pod_workers.specs.declared.plan.Plan.{Plan}
+use Rattle.pod_workers.specs.{Index.IsIndex, Legal.{IsBegun, starts}, Plans.{IsWellFormed, Placed, commands_of}}
+use Rattle.pod_workers.specs.{Plans.placed_from, Slots.{Fits, IsKept}, World.begun, declared.index.Place.Place}
+use Rattle.pod_workers.specs.declared.plan.{Entry.Entry, Plan.Plan}
 
 replicate-none : {X : Type 0} (n : ℕ) (i : ℕ) (o : Option X) → slice_get (replicate n None) i ≡ Some o → o ≡ None
 replicate-none zero i o is = absurd (none-some o is)

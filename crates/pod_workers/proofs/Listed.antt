@@ -1,22 +1,15 @@
 -- The list of a command's network.
 use Rattle.std.proofs.Common.{◌≡◌, ℕ, Bool, true, false, not, List, Option, Some, None, slice_get, refl, sym, ap, subst}
-use Rattle.std.specs.Prelude.{◌&&◌, is_some, if◌then◌else◌}
 use Rattle.std.proofs.lemmas.Bool.{false≢true}
+use Rattle.std.specs.Prelude.{◌&&◌, is_some, if◌then◌else◌}
 use Rattle.cni_verbs.specs.Progress.{RunView, is_gc}
 use Rattle.kernel_types.specs.declared.object.Host.{Host}
 use Rattle.net_conf.specs.declared.list.NetList.{NetList}
-use Rattle.pod_file.specs.declared.command.Command.{Command}
-use Rattle.pod_file.specs.declared.command.Verb.{Verb}
+use Rattle.pod_file.specs.{Commands.is_of_network, declared.command.{Command.Command, Verb.Verb}}
 use Rattle.pod_file.specs.declared.command.Verb.TheVariants as verbs
-use Rattle.pod_workers.specs.Laws.{EachNetworkCommandHasItsList}
-use Rattle.pod_workers.specs.Legal.{Legal}
-use Rattle.pod_file.specs.Commands.{is_of_network}
-use Rattle.pod_workers.specs.Plans.{Placed, commands_of, list_for, list_named, lacks_list}
-use Rattle.pod_workers.specs.Tasks.{IsListed}
-use Rattle.pod_workers.specs.World.{World}
-use Rattle.pod_workers.specs.declared.index.Place.{Place}
-use Rattle.pod_workers.proofs.Kept.{IsFound}
-use Rattle.pod_workers.proofs.Sound.{fine, list_all-at}
+use Rattle.pod_workers.specs.{Laws.EachNetworkCommandHasItsList, Legal.Legal, Plans.{Placed, commands_of, list_for}}
+use Rattle.pod_workers.specs.{Plans.{list_named, lacks_list}, Tasks.IsListed, World.World, declared.index.Place.Place}
+use Rattle.pod_workers.proofs.{Kept.IsFound, Sound.{fine, list_all-at}}
 
 named-list : (b : Bool) (o : Option NetList) → b ≡ true → not (b && not (is_some o)) ≡ true → (list : NetList) × ((if b then o else None) ≡ Some list)
 named-list true (Some list) network there = (list, refl)

@@ -1,28 +1,18 @@
 -- A plan that is carried out in file order has one history and one list of answers.
-use Rattle.std.proofs.Common.{◌≡◌, ℕ, zero, suc, ◌+◌, ◌<◌, ◌≤◌, true, List, [], ◌∷◌, ◌++◌, length, Option, Some, None, slice_get, refl, sym, ◌∙◌, ap, subst, inl, inr, ◌⊎◌, arith}
-use Rattle.std.proofs.lemmas.List.{append-nil, append_assoc}
-use Rattle.std.proofs.lemmas.Option.{same_Some, slice_get_within}
-use Rattle.std.proofs.lemmas.Bool.{cases_lt, cases_order}
-use Rattle.std.proofs.lemmas.Bool.Decides.{eqb_tells}
-use Rattle.cni_verbs.specs.Progress.{turn_by, answer_by}
-use Rattle.cni_verbs.specs.Script.{Turn, Calls, Finishes, Finish}
-use Rattle.cni_errors.specs.declared.answer.Answer.{Answer}
-use Rattle.cni_errors.specs.declared.answer.Answer.TheVariants.{Stopped}
-use Rattle.kernel_types.specs.declared.call.Call.{Call}
-use Rattle.kernel_types.specs.declared.call.Reply.{Reply}
-use Rattle.pod_workers.specs.Facts.{Follows, IsEntryOf, EntryIsInRound}
-use Rattle.pod_workers.specs.Legal.{Legal}
-use Rattle.pod_workers.specs.Order.{IsInFileOrder, IsDoneInFileOrder, OneOutcome}
-use Rattle.pod_workers.specs.Plans.{Placed, commands_of, list_for}
-use Rattle.pod_workers.specs.World.{World, replies_of, own_replies, reply_to, after, is_faulty, is_stop}
-use Rattle.pod_workers.specs.declared.plan.Plan.{Plan}
-use Rattle.pod_workers.specs.declared.plan.Entry.{Entry}
-use Rattle.pod_workers.proofs.AnswersDue.{answer_is_due, at_own_stop}
-use Rattle.pod_workers.proofs.Facts.{each_follows, two_entries, one_command, uncut_at}
-use Rattle.pod_workers.proofs.Histories.{replies_of-append, has_reply, same_entry}
-use Rattle.pod_workers.proofs.Order.{in_order}
-use Rattle.pod_workers.proofs.RoundsAscend.{rounds_ascend, all_answered, command_at}
-use Rattle.pod_workers.proofs.Splits.{cons_parts}
+use Rattle.std.proofs.Common.{◌≡◌, ℕ, zero, suc, ◌+◌, ◌<◌, ◌≤◌, true, List, [], ◌∷◌, ◌++◌, length, Option, Some, None}
+use Rattle.std.proofs.{Common.{slice_get, refl, sym, ◌∙◌, ap, subst, inl, inr, ◌⊎◌, arith}, lemmas.Bool.cases_lt}
+use Rattle.std.proofs.lemmas.{Bool.{cases_order, Decides.eqb_tells}, List.{append-nil, append_assoc}, Option.same_Some}
+use Rattle.std.proofs.lemmas.Option.{slice_get_within}
+use Rattle.cni_verbs.specs.{Progress.{turn_by, answer_by}, Script.{Turn, Calls, Finishes, Finish}}
+use Rattle.cni_errors.specs.declared.answer.Answer.{Answer, TheVariants.Stopped}
+use Rattle.kernel_types.specs.declared.call.{Call.Call, Reply.Reply}
+use Rattle.pod_workers.specs.{Facts.{Follows, IsEntryOf, EntryIsInRound}, Legal.Legal, Order.IsInFileOrder}
+use Rattle.pod_workers.specs.{Order.{IsDoneInFileOrder, OneOutcome}, Plans.{Placed, commands_of, list_for}, World.World}
+use Rattle.pod_workers.specs.World.{replies_of, own_replies, reply_to, after, is_faulty, is_stop}
+use Rattle.pod_workers.specs.declared.plan.{Entry.Entry, Plan.Plan}
+use Rattle.pod_workers.proofs.{AnswersDue.{answer_is_due, at_own_stop}, Facts.{each_follows, two_entries, one_command}}
+use Rattle.pod_workers.proofs.{Facts.uncut_at, Histories.{replies_of-append, has_reply, same_entry}, Order.in_order}
+use Rattle.pod_workers.proofs.{RoundsAscend.{rounds_ascend, all_answered, command_at}, Splits.cons_parts}
 
 -- ---- the next entry is a function of the history so far
 

@@ -1,25 +1,18 @@
 -- In which order commands go: round after round, and in a round one after another in each container.
-use Rattle.std.proofs.Common.{◌≡◌, ◌≢◌, ℕ, zero, suc, ◌+◌, ◌<◌, true, List, [], ◌∷◌, length, map, Option, Some, None, slice_get, refl, sym, ◌∙◌, ap, subst, inl, inr, ◌⊎◌, arith}
+use Rattle.std.proofs.Common.{◌≡◌, ◌≢◌, ℕ, zero, suc, ◌+◌, ◌<◌, true, List, [], ◌∷◌, length, map, Option, Some, None}
+use Rattle.std.proofs.{Common.{slice_get, refl, sym, ◌∙◌, ap, subst, inl, inr, ◌⊎◌, arith}, lemmas.Bool.cases_Bool}
+use Rattle.std.proofs.lemmas.{Bool.{cases_order, Decides.eqb_tells}, List.{length-map, length-set}, Option.same_Some}
+use Rattle.std.proofs.lemmas.{Option.{none-some, slice_get_within, slice_get-get_or}, Slice.Eq.bytes_eq-Decides}
 use Rattle.std.specs.Str.{bytes_eq}
-use Rattle.std.proofs.lemmas.List.{length-map, length-set}
-use Rattle.std.proofs.lemmas.Option.{same_Some, none-some, slice_get_within, slice_get-get_or}
-use Rattle.std.proofs.lemmas.Bool.{cases_Bool, cases_order}
-use Rattle.std.proofs.lemmas.Bool.Decides.{eqb_tells}
-use Rattle.std.proofs.lemmas.Slice.Eq.{bytes_eq-Decides}
-use Rattle.cni_errors.specs.declared.answer.Answer.{Answer}
-use Rattle.cni_errors.specs.declared.answer.Answer.TheVariants.{OutOfMemory}
+use Rattle.cni_errors.specs.declared.answer.Answer.{Answer, TheVariants.OutOfMemory}
 use Rattle.pod_file.specs.Rounds.{is_exclusive}
-use Rattle.pod_workers.specs.Facts.{EachWaits, IsUntouched, LaterAreUntouched, PastAreAnswered}
-use Rattle.pod_workers.specs.Legal.{Legal, IsBegun, starts, steps, refused_memory, turns}
-use Rattle.pod_workers.specs.Plans.{Placed, commands_of}
-use Rattle.pod_workers.specs.World.{World, IsAnswered, IsReady, IsRoundOver, own_replies, answered, with_entry, entry_of, host_of, done, next_of, next_round}
-use Rattle.pod_workers.specs.declared.plan.Entry.{Entry}
-use Rattle.pod_workers.specs.declared.plan.Next.{Next}
+use Rattle.pod_workers.specs.{Facts.{EachWaits, IsUntouched, LaterAreUntouched, PastAreAnswered}, Legal.Legal}
+use Rattle.pod_workers.specs.{Legal.{IsBegun, starts, steps, refused_memory, turns}, Plans.{Placed, commands_of}}
+use Rattle.pod_workers.specs.World.{World, IsAnswered, IsReady, IsRoundOver, own_replies, answered, with_entry}
+use Rattle.pod_workers.specs.{World.{entry_of, host_of, done, next_of, next_round}, declared.plan.Entry.Entry}
+use Rattle.pod_workers.specs.declared.plan.{Next.Next, Plan.Plan}
 use Rattle.pod_workers.specs.declared.plan.Next.TheVariants as next
-use Rattle.pod_workers.specs.declared.plan.Plan.{Plan}
-use Rattle.pod_workers.proofs.Histories.{slice_get-set_other, replies_of-other}
-use Rattle.pod_workers.proofs.Sound.{fine}
-use Rattle.pod_workers.proofs.Alone.{AreAlone}
+use Rattle.pod_workers.proofs.{Alone.AreAlone, Histories.{slice_get-set_other, replies_of-other}, Sound.fine}
 use Rattle.pod_workers.proofs.WellFormedPlans.{stand_alone}
 
 pub record IsInOrder (w : World) : Type 0 where

@@ -1,23 +1,16 @@
 -- The moments of a legal history: each prefix is the history of a legal world.
-use Rattle.std.proofs.Common.{◌≡◌, ◌≢◌, ℕ, ◌+◌, ◌≤◌, Bool, List, [], ◌∷◌, ◌++◌, Some, None, slice_get, slice_set, refl, sym, ◌∙◌, ap, subst, inl, inr, ◌⊎◌, arith}
-use Rattle.std.proofs.lemmas.List.{append-nil, append_assoc}
-use Rattle.std.proofs.lemmas.Option.{same_Some, none-some, slice_get_within}
-use Rattle.std.proofs.lemmas.Bool.Decides.{eqb_tells}
-use Rattle.cni_errors.specs.declared.answer.Answer.{Answer}
-use Rattle.cni_errors.specs.declared.answer.Answer.TheVariants.{OutOfMemory}
+use Rattle.std.proofs.Common.{◌≡◌, ◌≢◌, ℕ, ◌+◌, ◌≤◌, Bool, List, [], ◌∷◌, ◌++◌, Some, None, slice_get, slice_set, refl}
+use Rattle.std.proofs.{Common.{sym, ◌∙◌, ap, subst, inl, inr, ◌⊎◌, arith}, lemmas.Bool.Decides.eqb_tells}
+use Rattle.std.proofs.lemmas.{List.{append-nil, append_assoc}, Option.{same_Some, none-some, slice_get_within}}
+use Rattle.cni_errors.specs.declared.answer.Answer.{Answer, TheVariants.OutOfMemory}
 use Rattle.kernel_types.specs.declared.call.Call.{Call}
-use Rattle.pod_workers.specs.Extends.{KeepsAnswers}
-use Rattle.pod_workers.specs.Facts.{HasPrefix, IsMadeAt, IsOpenAfter, IsAnsweredAt}
-use Rattle.pod_workers.specs.Legal.{Legal, starts, steps, refused_memory, turns}
-use Rattle.pod_workers.specs.Plans.{Placed, commands_of}
-use Rattle.pod_workers.specs.World.{World, IsReady, own_replies, host_of, done, answered, with_entry, entry_of, next_of, next_round}
-use Rattle.pod_workers.specs.declared.plan.Entry.{Entry}
-use Rattle.pod_workers.specs.declared.plan.Next.{Next}
+use Rattle.pod_workers.specs.{Extends.KeepsAnswers, Facts.{HasPrefix, IsMadeAt, IsOpenAfter, IsAnsweredAt}, Legal.Legal}
+use Rattle.pod_workers.specs.{Legal.{starts, steps, refused_memory, turns}, Plans.{Placed, commands_of}, World.World}
+use Rattle.pod_workers.specs.World.{IsReady, own_replies, host_of, done, answered, with_entry, entry_of, next_of}
+use Rattle.pod_workers.specs.{World.next_round, declared.plan.{Entry.Entry, Next.Next}}
 use Rattle.pod_workers.specs.declared.plan.Next.TheVariants as next
-use Rattle.pod_workers.proofs.Order.{none_answered}
 use Rattle.pod_workers.proofs.Histories.{slice_get-set_same, slice_get-set_other, replies_of-other}
-use Rattle.pod_workers.proofs.Splits.{split_nil, split_snoc}
-use Rattle.pod_workers.proofs.Sound.{goes_in}
+use Rattle.pod_workers.proofs.{Order.none_answered, Sound.goes_in, Splits.{split_nil, split_snoc}}
 
 -- ---- one world after another
 

@@ -1,20 +1,17 @@
 -- Each world that meets the clauses is reached by allowed steps: event after event is taken back.
-use Rattle.std.proofs.Common.{◌≡◌, ◌≢◌, ℕ, zero, suc, ◌+◌, ◌<◌, ◌≤◌, List, [], ◌∷◌, ◌++◌, length, map, Option, Some, None, slice_get, slice_set, refl, sym, ◌∙◌, ap, subst, inl, inr, ◌⊎◌, arith}
-use Rattle.std.proofs.lemmas.Option.{same_Some, none-some, slice_get_within}
-use Rattle.std.proofs.lemmas.Bool.Decides.{eqb_tells}
-use Rattle.std.proofs.lemmas.List.{length_push}
+use Rattle.std.proofs.Common.{◌≡◌, ◌≢◌, ℕ, zero, suc, ◌+◌, ◌<◌, ◌≤◌, List, [], ◌∷◌, ◌++◌, length, map, Option, Some}
+use Rattle.std.proofs.Common.{None, slice_get, slice_set, refl, sym, ◌∙◌, ap, subst, inl, inr, ◌⊎◌, arith}
+use Rattle.std.proofs.lemmas.{Bool.Decides.eqb_tells, List.length_push, Option.{same_Some, none-some, slice_get_within}}
 use Rattle.cni_errors.specs.declared.answer.Answer.{Answer}
-use Rattle.pod_workers.specs.Facts.{IsEntryOf, IsUntouched, AreOfOneContainer, IsLegalByClauses}
-use Rattle.pod_workers.specs.Legal.{Legal, IsBegun, starts}
-use Rattle.pod_workers.specs.Plans.{Placed, commands_of}
-use Rattle.pod_workers.specs.World.{World, IsAnswered, own_replies, replies_of, answered, begun, with_entry, next_round}
+use Rattle.pod_workers.specs.{Facts.{IsEntryOf, IsUntouched, AreOfOneContainer, IsLegalByClauses}, Legal.Legal}
+use Rattle.pod_workers.specs.{Legal.{IsBegun, starts}, Plans.{Placed, commands_of}, World.{World, IsAnswered}}
+use Rattle.pod_workers.specs.World.{own_replies, replies_of, answered, begun, with_entry, next_round}
 use Rattle.pod_workers.specs.declared.plan.Entry.{Entry}
-use Rattle.pod_workers.proofs.Facts.{one_command}
-use Rattle.pod_workers.proofs.Histories.{slice_get-set_same, slice_get-set_other, has_reply, set-back, entry_or_none, empty_or_last}
-use Rattle.pod_workers.proofs.Order.{not_both, answered_or_open, same_or_other}
-use Rattle.pod_workers.proofs.RoundsAscend.{command_at}
-use Rattle.pod_workers.proofs.Splits.{none-or-some, split_snoc}
-use Rattle.pod_workers.proofs.TakenBack.{MayAnswer, MayEnter, clauses_before_answer, clauses_before_entry, clauses_before_round, legal_answered, legal_entered, legal_turned}
+use Rattle.pod_workers.proofs.{Facts.one_command, Histories.{slice_get-set_same, slice_get-set_other, has_reply}}
+use Rattle.pod_workers.proofs.{Histories.{set-back, entry_or_none, empty_or_last}, Order.{not_both, answered_or_open}}
+use Rattle.pod_workers.proofs.{Order.same_or_other, RoundsAscend.command_at, Splits.{none-or-some, split_snoc}}
+use Rattle.pod_workers.proofs.TakenBack.{MayAnswer, MayEnter, clauses_before_answer, clauses_before_entry}
+use Rattle.pod_workers.proofs.TakenBack.{clauses_before_round, legal_answered, legal_entered, legal_turned}
 
 -- ---- how much was done
 

@@ -1,21 +1,18 @@
 -- Who may step, by the index.
-use Rattle.std.proofs.Common.{◌≡◌, ◌≢◌, ℕ, ◌+◌, ◌-◌, ◌<◌, ◌==◌, Bool, true, false, List, [], ◌∷◌, length, get_or, Option, Some, None, slice_get, refl, sym, ◌∙◌, ap, subst, arith, inl, inr}
-use Rattle.std.specs.Prelude.{MatchBool, ◌&&◌, is_some, if◌then◌else◌}
-use Rattle.std.proofs.lemmas.Bool.{false≢true, and_parts, cases_order, eqb-true, eq-eqb}
-use Rattle.std.specs.Option.{option_flatten, option_map_or}
-use Rattle.std.proofs.lemmas.Option.{same_Some, none-some, slice_get-get_or, slice_get_within}
+use Rattle.std.proofs.Common.{◌≡◌, ◌≢◌, ℕ, ◌+◌, ◌-◌, ◌<◌, ◌==◌, Bool, true, false, List, [], ◌∷◌, length, get_or}
+use Rattle.std.proofs.Common.{Option, Some, None, slice_get, refl, sym, ◌∙◌, ap, subst, arith, inl, inr}
+use Rattle.std.proofs.lemmas.{Bool.{false≢true, and_parts, cases_order, eqb-true, eq-eqb}, Option.same_Some}
+use Rattle.std.proofs.lemmas.Option.{none-some, slice_get-get_or, slice_get_within}
+use Rattle.std.specs.{Option.{option_flatten, option_map_or}, Prelude.{MatchBool, ◌&&◌, is_some, if◌then◌else◌}}
 use Rattle.cni_verbs.specs.Progress.{RunView}
 use Rattle.cni_errors.specs.declared.answer.Answer.{Answer}
 use Rattle.kernel_types.specs.declared.object.Host.{Host}
 use Rattle.pod_file.specs.declared.command.Command.{Command}
-use Rattle.pod_workers.specs.Index.{IsIndex, IsLatest, IsPlaced, is_cut_after, is_cut_by, is_entry_in, is_open, lets_through, may_step_by}
-use Rattle.pod_workers.specs.Plans.{Placed, commands_of, IsOf}
-use Rattle.pod_workers.specs.Slots.{IsKept}
-use Rattle.pod_workers.specs.World.{World, Blocks, IsAnswered, IsReady, IsReadyNumber, at_number, is_cut, is_cut_at, last_entry, is_of_round}
-use Rattle.pod_workers.specs.declared.index.Place.{Place}
-use Rattle.pod_workers.specs.declared.plan.Entry.{Entry}
-use Rattle.pod_workers.proofs.Elements.{at_number-is, numbered}
-use Rattle.pod_workers.proofs.Order.{IsInOrder, in_order, not_both}
+use Rattle.pod_workers.specs.Index.{IsIndex, IsLatest, IsPlaced, is_cut_after, is_cut_by, is_entry_in, is_open}
+use Rattle.pod_workers.specs.{Index.{lets_through, may_step_by}, Plans.{Placed, commands_of, IsOf}, Slots.IsKept}
+use Rattle.pod_workers.specs.World.{World, Blocks, IsAnswered, IsReady, IsReadyNumber, at_number, is_cut, is_cut_at}
+use Rattle.pod_workers.specs.{World.{last_entry, is_of_round}, declared.{index.Place.Place, plan.Entry.Entry}}
+use Rattle.pod_workers.proofs.{Elements.{at_number-is, numbered}, Order.{IsInOrder, in_order, not_both}}
 use Rattle.pod_workers.proofs.Rounds.{is_in_round}
 
 is-open : (o : Option (Option Answer)) → is_open o ≡ true → o ≡ Some None

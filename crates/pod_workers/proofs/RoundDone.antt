@@ -1,37 +1,27 @@
 -- A round's commands are stepped to their answers one after another, and the next round is current.
-use Rattle.std.proofs.Common.{◌≡◌, ℕ, zero, suc, ◌+◌, ◌-◌, ◌<◌, ◌≤◌, true, List, [], ◌∷◌, ◌++◌, length, map, take, Option, Some, None, Result, Ok, Err, IfOk, OnErr, slice_get, refl, sym, ◌∙◌, ap, subst, arith, inl, inr}
-use Rattle.std.specs.List.{All}
-use Rattle.std.proofs.lemmas.List.{append-nil, append_assoc, length-append, length-map}
-use Rattle.std.proofs.lemmas.List.Elements.{All-append, All-cons, All-nil}
-use Rattle.std.proofs.lemmas.Bool.{cases_lt}
-use Rattle.std.proofs.lemmas.Bool.Decides.{eqb_tells}
+use Rattle.std.proofs.Common.{◌≡◌, ℕ, zero, suc, ◌+◌, ◌-◌, ◌<◌, ◌≤◌, true, List, [], ◌∷◌, ◌++◌, length, map, take}
+use Rattle.std.proofs.Common.{Option, Some, None, Result, Ok, Err, IfOk, OnErr, slice_get, refl, sym, ◌∙◌, ap, subst}
+use Rattle.std.proofs.{Common.{arith, inl, inr}, lemmas.{Bool.{cases_lt, Decides.eqb_tells}, List.append-nil}}
+use Rattle.std.proofs.lemmas.List.{append_assoc, length-append, length-map, Elements.{All-append, All-cons, All-nil}}
 use Rattle.std.proofs.lemmas.Option.{same_Some, none-some, slice_get_within}
+use Rattle.std.specs.List.{All}
 use Rattle.cni_addr.specs.declared.memory.NoMemory.{NoMemory}
 use Rattle.cni_verbs.specs.Progress.{RunView}
-use Rattle.cni_errors.specs.declared.answer.Answer.{Answer}
-use Rattle.cni_errors.specs.declared.answer.Answer.TheVariants.{OutOfMemory}
+use Rattle.cni_errors.specs.declared.answer.Answer.{Answer, TheVariants.OutOfMemory}
 use Rattle.kernel_types.specs.declared.object.Host.{Host}
-use Rattle.pod_file.specs.Rounds.{file_limit}
-use Rattle.pod_file.specs.declared.command.Command.{Command}
-use Rattle.pod_workers.specs.Extends.{Appends, Extends, IsOfRound, Rounds}
-use Rattle.pod_workers.specs.Legal.{Legal, turns}
-use Rattle.pod_workers.specs.Order.{EarlierAreAnswered, IsInFileOrder}
-use Rattle.pod_workers.specs.Plans.{Placed, commands_of, in_round, placed_from}
-use Rattle.pod_workers.specs.Slots.{AreNumbersOf, IsKept}
-use Rattle.pod_workers.specs.World.{World, IsAnswered, IsReady, IsReadyNumber, IsRoundOver, RunsOut, StepsTo, answered, done, entry_of, host_of, next_of, next_round, own_replies}
-use Rattle.pod_workers.specs.declared.index.Place.{Place}
-use Rattle.pod_workers.specs.declared.plan.Entry.{Entry}
-use Rattle.pod_workers.specs.declared.plan.Next.{Next}
+use Rattle.pod_file.specs.{Rounds.file_limit, declared.command.Command.Command}
+use Rattle.pod_workers.specs.{Extends.{Appends, Extends, IsOfRound, Rounds}, Legal.{Legal, turns}}
+use Rattle.pod_workers.specs.{Order.{EarlierAreAnswered, IsInFileOrder}, Plans.{Placed, commands_of, in_round}}
+use Rattle.pod_workers.specs.{Plans.placed_from, Slots.{AreNumbersOf, IsKept}, World.{World, IsAnswered, IsReady}}
+use Rattle.pod_workers.specs.World.{IsReadyNumber, IsRoundOver, RunsOut, StepsTo, answered, done, entry_of, host_of}
+use Rattle.pod_workers.specs.{World.{next_of, next_round, own_replies}, declared.{index.Place.Place, plan.Entry.Entry}}
+use Rattle.pod_workers.specs.declared.plan.{Next.Next, Plan.Plan, StepEnd.StepEnd}
 use Rattle.pod_workers.specs.declared.plan.Next.TheVariants as next
-use Rattle.pod_workers.specs.declared.plan.Plan.{Plan}
-use Rattle.pod_workers.specs.declared.plan.StepEnd.{StepEnd}
-use Rattle.pod_workers.proofs.FileOrder.{file_order_answered, file_order_next_round, file_order_stepped}
-use Rattle.pod_workers.proofs.Histories.{slice_get-set_other}
-use Rattle.pod_workers.proofs.Order.{in_order, not_both, open_or_answered, other_round}
-use Rattle.pod_workers.proofs.Rounds.{is_in_round, placed-fits, placed_from-more, placed_from-prefix, round-of, rounds-before}
 use Rattle.pod_workers.proofs.Elements.{at_number-is, slice_get-right, slice_get-before}
-use Rattle.pod_workers.proofs.Sound.{fine}
-use Rattle.pod_workers.proofs.WellFormedPlans.{few_commands}
+use Rattle.pod_workers.proofs.FileOrder.{file_order_answered, file_order_next_round, file_order_stepped}
+use Rattle.pod_workers.proofs.{Histories.slice_get-set_other, Order.{in_order, not_both, open_or_answered, other_round}}
+use Rattle.pod_workers.proofs.Rounds.{is_in_round, placed-fits, placed_from-more, placed_from-prefix, round-of}
+use Rattle.pod_workers.proofs.{Rounds.rounds-before, Sound.fine, WellFormedPlans.few_commands}
 
 -- ---- entries behind entries
 

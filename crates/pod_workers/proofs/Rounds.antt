@@ -1,12 +1,11 @@
 -- The commands of a plan, round by round.
-use Rattle.std.proofs.Common.{◌≡◌, ◌==◌, ℕ, Bool, false, Option, zero, suc, ◌+◌, ◌<◌, ◌≤◌, ◌⊎◌, List, [], ◌∷◌, ◌++◌, length, map, take, Some, slice_get, refl, sym, ◌∙◌, ap, arith, inl, inr}
+use Rattle.std.proofs.Common.{◌≡◌, ◌==◌, ℕ, Bool, false, Option, zero, suc, ◌+◌, ◌<◌, ◌≤◌, ◌⊎◌, List, [], ◌∷◌, ◌++◌}
+use Rattle.std.proofs.Common.{length, map, take, Some, slice_get, refl, sym, ◌∙◌, ap, arith, inl, inr}
+use Rattle.std.proofs.{Math.Nat.min-le_left, lemmas.List.{append-nil, append_assoc, length-append, length-map}}
+use Rattle.std.proofs.lemmas.{List.length-take, Option.{same_Some, none-some}}
 use Rattle.std.specs.Option.{option_map_or}
-use Rattle.std.proofs.lemmas.List.{append-nil, append_assoc, length-append, length-map, length-take}
-use Rattle.std.proofs.Math.Nat.{min-le_left}
-use Rattle.std.proofs.lemmas.Option.{same_Some, none-some}
 use Rattle.pod_file.specs.declared.command.Command.{Command}
-use Rattle.pod_workers.specs.Index.{AreBefore}
-use Rattle.pod_workers.specs.Plans.{Placed, in_round, placed_from}
+use Rattle.pod_workers.specs.{Index.AreBefore, Plans.{Placed, in_round, placed_from}}
 use Rattle.pod_workers.proofs.Elements.{slice_get-map_some}
 
 -- the command is there, and of this round

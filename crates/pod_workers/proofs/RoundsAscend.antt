@@ -2,11 +2,9 @@
 use Rattle.std.proofs.Common.{◌≡◌, ℕ, ◌+◌, ◌<◌, ◌≤◌, List, [], ◌∷◌, length, Some, slice_get, inl, inr, arith}
 use Rattle.std.proofs.lemmas.Option.{none-some, slice_get_cases, slice_get_within}
 use Rattle.pod_file.specs.declared.command.Command.{Command}
-use Rattle.pod_workers.specs.Plans.{Placed, commands_of, placed_from}
-use Rattle.pod_workers.specs.World.{World, IsAnswered}
+use Rattle.pod_workers.specs.{Plans.{Placed, commands_of, placed_from}, World.{World, IsAnswered}}
 use Rattle.pod_workers.specs.declared.plan.Plan.{Plan}
-use Rattle.pod_workers.proofs.Order.{IsInOrder}
-use Rattle.pod_workers.proofs.Rounds.{here_or_later, round-of}
+use Rattle.pod_workers.proofs.{Order.IsInOrder, Rounds.{here_or_later, round-of}}
 
 rounds_ascend_from : (round : ℕ) (rounds : List (List Command)) (m n : ℕ) (d c : Placed) → m < n → slice_get (placed_from round rounds) m ≡ Some d → slice_get (placed_from round rounds) n ≡ Some c → d.round ≤ c.round
 rounds_ascend_from round [] m n d c less at_m at_n = absurd (none-some d at_m)

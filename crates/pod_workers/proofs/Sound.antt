@@ -1,64 +1,43 @@
 -- Every host that a legal world comes to is sound, each last address is a candidate of its pool, and each call that a
 -- run makes may be made.
-use Rattle.std.proofs.Common.{◌≡◌, ℕ, zero, suc, Bool, true, false, cond, List, [], ◌∷◌, ◌++◌, map, length, Option, Some, None, refl, sym, ◌∙◌, ap, subst, arith, inl, inr}
-use Rattle.std.proofs.lemmas.Option.{same_Some, none-some}
-use Rattle.std.proofs.lemmas.Bool.{or_parts}
-use Rattle.std.proofs.lemmas.Bool.Decides.{eqb_tells}
-use Rattle.std.proofs.lemmas.Slice.Eq.{bytes_eq-Decides}
-use Rattle.std.specs.Prelude.{◌||◌, if◌then◌else◌, find, slice_get}
-use Rattle.std.specs.List.{list_all}
-use Rattle.std.specs.Option.{option_map}
-use Rattle.std.specs.Str.{bytes_eq}
-use Rattle.cni_addr.specs.declared.address.Addr.{Addr}
-use Rattle.cni_addr.specs.declared.range.RangeSet.{RangeSet}
-use Rattle.ip_pool.specs.NextAddress.{is_candidate, is_candidate_or_none}
-use Rattle.ip_pool.specs.Pool.{are_apart, pick_of}
+use Rattle.std.proofs.Common.{◌≡◌, ℕ, zero, suc, Bool, true, false, cond, List, [], ◌∷◌, ◌++◌, map, length, Option}
+use Rattle.std.proofs.{Common.{Some, None, refl, sym, ◌∙◌, ap, subst, arith, inl, inr}, lemmas.Bool.or_parts}
+use Rattle.std.proofs.lemmas.{Bool.Decides.eqb_tells, Option.{same_Some, none-some}, Slice.Eq.bytes_eq-Decides}
+use Rattle.std.specs.{List.list_all, Option.option_map, Prelude.{◌||◌, if◌then◌else◌, find, slice_get}, Str.bytes_eq}
+use Rattle.cni_addr.specs.declared.{address.Addr.Addr, range.RangeSet.RangeSet}
+use Rattle.ip_pool.specs.{NextAddress.{is_candidate, is_candidate_or_none}, Pool.{are_apart, pick_of}}
 use Rattle.net_conf.specs.declared.list.NetList.{NetList}
-use Rattle.pod_file.specs.declared.command.Command.{Command}
-use Rattle.kernel_types.specs.Allowed.{IsAllowed}
-use Rattle.kernel_types.specs.Apply.{apply}
-use Rattle.kernel_types.specs.Apply.Calls.{is_of_pool, last_leased, moved_last, lease_taken, leased_addresses}
-use Rattle.kernel_types.specs.Replies.{is_fault}
-use Rattle.kernel_types.specs.Sound.{IsSound, NoAddressTwice}
-use Rattle.kernel_types.specs.Touch.{Touches, TouchesTag}
-use Rattle.kernel_types.proofs.EveryCall.{IsSound-apply, Touches-apply}
-use Rattle.kernel_types.proofs.SoundHosts.{NoAddressTwice-sound}
-use Rattle.kernel_types.proofs.LeasedAddress.{leased-candidate}
-use Rattle.kernel_types.proofs.ListLemmas.{passes-find, passes-list_all}
-use Rattle.kernel_types.specs.declared.object.Att.{Att}
-use Rattle.kernel_types.specs.declared.object.Host.{Host}
-use Rattle.kernel_types.specs.declared.object.Last.{Last}
+use Rattle.pod_file.specs.{Commands.is_of_network, declared.command.Command.Command}
+use Rattle.kernel_types.specs.{Allowed.IsAllowed, Apply.{apply, Calls.{is_of_pool, last_leased, moved_last}}}
+use Rattle.kernel_types.specs.{Apply.Calls.{lease_taken, leased_addresses}, Replies.is_fault, Sound.IsSound}
+use Rattle.kernel_types.specs.{Sound.NoAddressTwice, Touch.{Touches, TouchesTag}, declared.call.Call.Call}
+use Rattle.kernel_types.specs.declared.call.Call.TheVariants.{Begin, BridgeEnsure, GatewayEnsure, ForwardEnsure}
+use Rattle.kernel_types.specs.declared.call.Call.TheVariants.{VethAdd, MacvlanAdd, LinkSet, AddrAdd, RouteAdd}
+use Rattle.kernel_types.specs.declared.call.Call.TheVariants.{RuleAppend, SettingSet, LeaseNext, CachePut, LinkDel}
+use Rattle.kernel_types.specs.declared.call.Call.TheVariants.{RuleDel, SettingDel, LeaseDel, CacheDel, HasObj, CacheGet}
+use Rattle.kernel_types.specs.declared.call.{Call.TheVariants.{OwnersOf, PoolFree, NsChange, Outside}, Kind.Kind}
+use Rattle.kernel_types.specs.declared.{call.Reply.{Reply, TheVariants.Leased}, object.{Att.Att, Host.Host, Last.Last}}
 use Rattle.kernel_types.specs.declared.object.Tag.{Tag}
+use Rattle.kernel_types.proofs.{EveryCall.{IsSound-apply, Touches-apply}, LeasedAddress.leased-candidate}
+use Rattle.kernel_types.proofs.{ListLemmas.{passes-find, passes-list_all}, SoundHosts.NoAddressTwice-sound}
 use Rattle.kernel_types.specs.declared.object.Tag.TheVariants as tags
-use Rattle.kernel_types.specs.declared.call.Call.{Call}
-use Rattle.kernel_types.specs.declared.call.Call.TheVariants.{Begin, BridgeEnsure, GatewayEnsure, ForwardEnsure, VethAdd, MacvlanAdd, LinkSet, AddrAdd, RouteAdd, RuleAppend, SettingSet, LeaseNext, CachePut, LinkDel, RuleDel, SettingDel, LeaseDel, CacheDel, HasObj, CacheGet, OwnersOf, PoolFree, NsChange, Outside}
-use Rattle.kernel_types.specs.declared.call.Kind.{Kind}
 use Rattle.kernel_types.specs.declared.call.Kind.TheVariants as kinds
-use Rattle.kernel_types.specs.declared.call.Reply.{Reply}
-use Rattle.kernel_types.specs.declared.call.Reply.TheVariants.{Leased}
 use Rattle.plugin_base.specs.Calls.{IsWellFormedCall, is_plugin_call_of}
-use Rattle.cni_errors.specs.CommandFields.{att_of}
-use Rattle.cni_errors.specs.declared.answer.Answer.{Answer}
-use Rattle.cni_errors.specs.declared.answer.Answer.TheVariants.{Stopped}
-use Rattle.cni_verbs.specs.Script.{State, AtBegin, BeforeLeases, Leasing, AfterLeases, ReadingCache, Deleting, FindingEntry, Asking, Changing, Collecting, Over, Turn, Calls, Finishes, turn, turn_of_work, state_after, outside_after}
-use Rattle.cni_verbs.specs.Sweep.{Job, Step, Sweep, AskCached, Delete, step_call}
-use Rattle.cni_verbs.specs.Progress.{turn_by}
+use Rattle.cni_errors.specs.{CommandFields.att_of, declared.answer.Answer.{Answer, TheVariants.Stopped}}
+use Rattle.cni_verbs.specs.{Progress.turn_by, Script.{State, AtBegin, BeforeLeases, Leasing, AfterLeases, ReadingCache}}
+use Rattle.cni_verbs.specs.Script.{Deleting, FindingEntry, Asking, Changing, Collecting, Over, Turn, Calls, Finishes}
+use Rattle.cni_verbs.specs.{Script.{turn, turn_of_work, state_after, outside_after}, Sweep.{Job, Step, Sweep}}
+use Rattle.cni_verbs.specs.Sweep.{AskCached, Delete, step_call}
 use Rattle.plugin_chain.specs.Wanted.{sets_of, deletion}
-use Rattle.pod_workers.specs.Lasts.{AreLastsOfSets, IsLastOfSet}
-use Rattle.pod_workers.specs.Legal.{Legal, IsBegun, starts, steps, refused_memory, turns}
-use Rattle.pod_file.specs.Commands.{is_of_network}
-use Rattle.pod_workers.specs.Plans.{Placed, IsWellFormed, list_for, list_in, list_named}
-use Rattle.pod_workers.specs.World.{World, IsReady, host_of, own_replies, next_by, next_of, is_cut, is_faulty, is_stop, entry_of, done}
-use Rattle.pod_workers.specs.declared.plan.Next.{Next}
+use Rattle.pod_workers.specs.{Lasts.{AreLastsOfSets, IsLastOfSet}, Legal.{Legal, IsBegun, starts, steps}}
+use Rattle.pod_workers.specs.{Legal.{refused_memory, turns}, Plans.{Placed, IsWellFormed, list_for, list_in}}
+use Rattle.pod_workers.specs.{Plans.list_named, World.{World, IsReady, host_of, own_replies, next_by, next_of, is_cut}}
+use Rattle.pod_workers.specs.{World.{is_faulty, is_stop, entry_of, done}, declared.plan.{Next.Next, Plan.Plan}}
 use Rattle.pod_workers.specs.declared.plan.Next.TheVariants as next
-use Rattle.pod_workers.specs.declared.plan.Plan.{Plan}
-use Rattle.pod_workers.proofs.Asked.{IsQuestionOf}
-use Rattle.pod_workers.proofs.Each.{each-append}
-use Rattle.pod_workers.proofs.Elements.{slice_get-middle}
-use Rattle.pod_workers.proofs.OfPlugins.{IsOutside, IsRest, LeftAreOfPlugins, LeftIsOutside, left-are-of_plugins, left-is-outside}
-use Rattle.pod_workers.proofs.PluginCalls.{IsOfPlugins}
-use Rattle.pod_workers.proofs.WellFormedPlans.{has_pools_apart, pools_apart}
-use Rattle.pod_workers.proofs.Histories.{after-append}
+use Rattle.pod_workers.proofs.{Asked.IsQuestionOf, Each.each-append, Elements.slice_get-middle, Histories.after-append}
+use Rattle.pod_workers.proofs.OfPlugins.{IsOutside, IsRest, LeftAreOfPlugins, LeftIsOutside, left-are-of_plugins}
+use Rattle.pod_workers.proofs.{OfPlugins.left-is-outside, PluginCalls.IsOfPlugins, WellFormedPlans.has_pools_apart}
+use Rattle.pod_workers.proofs.WellFormedPlans.{pools_apart}
 
 -- ---- lists
 

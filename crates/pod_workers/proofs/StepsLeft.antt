@@ -1,48 +1,35 @@
 -- The steps that are left to a command: as many as the calls of its run, and one for its answer.
-use Rattle.std.proofs.Common.{◌≡◌, ℕ, ◌+◌, ◌-◌, ◌<◌, Bool, true, false, List, [], ◌∷◌, ◌++◌, length, Option, Some, None, Result, Ok, Err, slice_get, refl, sym, ◌∙◌, ap, subst, arith}
-use Rattle.std.specs.Prelude.{if◌then◌else◌}
+use Rattle.std.proofs.Common.{◌≡◌, ℕ, ◌+◌, ◌-◌, ◌<◌, Bool, true, false, List, [], ◌∷◌, ◌++◌, length, Option, Some, None}
+use Rattle.std.proofs.Common.{Result, Ok, Err, slice_get, refl, sym, ◌∙◌, ap, subst, arith}
 use Rattle.std.proofs.lemmas.Option.{slice_get_within}
-use Rattle.cni_addr.specs.declared.address.Addr.{Addr}
-use Rattle.cni_addr.specs.declared.memory.NoMemory.{NoMemory}
-use Rattle.cni_addr.specs.declared.range.RangeSet.{RangeSet}
-use Rattle.cni_errors.specs.CommandFields.{att_of}
-use Rattle.cni_verbs.specs.Progress.{turn_by}
-use Rattle.cni_verbs.specs.Questions.{check_questions}
-use Rattle.cni_verbs.specs.Script.{State, AtBegin, BeforeLeases, Leasing, AfterLeases, ReadingCache, Deleting, FindingEntry, Asking, Changing, Collecting, Over, Calls, turn, turn_of_work, call_of_work, gc_of, advance, start_state, state_after, outside_advance, outside_start, outside_after, after_leases, leasing, before_leases, asking, back_of, before_of}
-use Rattle.cni_verbs.specs.Sweep.{Gc, Job, Sweep, Work, work_after}
-use Rattle.plugin_chain.specs.Wanted.{sets_of}
-use Rattle.cni_errors.specs.declared.answer.Answer.{Answer}
-use Rattle.cni_errors.specs.declared.answer.Answer.TheVariants.{OutOfMemory}
+use Rattle.std.specs.Prelude.{if◌then◌else◌}
+use Rattle.cni_addr.specs.declared.{address.Addr.Addr, memory.NoMemory.NoMemory, range.RangeSet.RangeSet}
+use Rattle.cni_errors.specs.{CommandFields.att_of, declared.answer.Answer.{Answer, TheVariants.OutOfMemory}}
 use Rattle.cni_errors.specs.declared.answer.Question.{Question}
-use Rattle.kernel_types.specs.Allowed.{IsAllowed}
-use Rattle.kernel_types.specs.Apply.{apply}
-use Rattle.kernel_types.specs.Sound.{IsSound}
+use Rattle.cni_verbs.specs.{Progress.turn_by, Questions.check_questions, Script.{State, AtBegin, BeforeLeases, Leasing}}
+use Rattle.cni_verbs.specs.Script.{AfterLeases, ReadingCache, Deleting, FindingEntry, Asking, Changing, Collecting}
+use Rattle.cni_verbs.specs.Script.{Over, Calls, turn, turn_of_work, call_of_work, gc_of, advance, start_state}
+use Rattle.cni_verbs.specs.Script.{state_after, outside_advance, outside_start, outside_after, after_leases, leasing}
+use Rattle.cni_verbs.specs.{Script.{before_leases, asking, back_of, before_of}, Sweep.{Gc, Job, Sweep, Work}}
+use Rattle.cni_verbs.specs.Sweep.{work_after}
+use Rattle.plugin_chain.specs.Wanted.{sets_of}
+use Rattle.kernel_types.specs.{Allowed.IsAllowed, Apply.apply, Sound.IsSound, declared.call.{Call.Call, Reply.Reply}}
+use Rattle.kernel_types.specs.declared.{call.Reply.TheVariants.Fault, object.Host.Host}
 use Rattle.kernel_types.proofs.Replies.{IsReplyOf-apply}
-use Rattle.kernel_types.specs.declared.object.Host.{Host}
-use Rattle.kernel_types.specs.declared.call.Call.{Call}
-use Rattle.kernel_types.specs.declared.call.Reply.{Reply}
-use Rattle.kernel_types.specs.declared.call.Reply.TheVariants.{Fault}
 use Rattle.net_conf.specs.declared.list.NetList.{NetList}
 use Rattle.pod_file.specs.declared.command.Command.{Command}
 use Rattle.plugin_base.specs.Share.{share_of}
-use Rattle.gc_sweep.proofs.Collected.{fault-falls, work-falls}
-use Rattle.gc_sweep.proofs.Weights.{collection_left}
-use Rattle.pod_workers.specs.CallCounts.{AddsInAtMost, most_calls}
-use Rattle.pod_workers.proofs.CallsLeft.{calls_left}
-use Rattle.pod_workers.specs.Legal.{Legal}
-use Rattle.pod_workers.specs.Plans.{Placed, commands_of, list_for}
-use Rattle.pod_workers.specs.World.{World, IsReady, IsReadyNumber, answered, done, entry_of, host_of, after_entry, next_of, own_replies, reply_to, with_entry}
-use Rattle.pod_workers.specs.declared.plan.Next.{Next}
-use Rattle.pod_workers.specs.declared.plan.Next.TheVariants as next
+use Rattle.gc_sweep.proofs.{Collected.{fault-falls, work-falls}, Weights.collection_left}
+use Rattle.pod_workers.specs.{CallCounts.{AddsInAtMost, most_calls}, Legal.Legal, Plans.{Placed, commands_of, list_for}}
+use Rattle.pod_workers.specs.World.{World, IsReady, IsReadyNumber, answered, done, entry_of, host_of, after_entry}
+use Rattle.pod_workers.specs.{World.{next_of, own_replies, reply_to, with_entry}, declared.plan.Next.Next}
 use Rattle.pod_workers.specs.declared.plan.StepEnd.{StepEnd}
-use Rattle.pod_workers.proofs.Falls.{IsOwnNext, fault-as, falls-advance, replies-as}
-use Rattle.pod_workers.proofs.Histories.{after-append, replies_of-own, slice_get-set_same}
-use Rattle.pod_workers.proofs.MostCalls.{adds_in_most_calls}
-use Rattle.pod_workers.proofs.OfPlugins.{LeftAreOfPlugins, LeftIsOutside, left-are-of_plugins, left-is-outside}
-use Rattle.pod_workers.proofs.RoundDone.{IsStepped}
-use Rattle.pod_workers.proofs.Sound.{allowed_next, goes_in, sound_host}
-use Rattle.pod_workers.proofs.Kept.{outside_from-append, state_from-append}
-use Rattle.pod_workers.proofs.Replies.{StaysTrue, true-advance}
+use Rattle.pod_workers.proofs.{CallsLeft.calls_left, Falls.{IsOwnNext, fault-as, falls-advance, replies-as}}
+use Rattle.pod_workers.proofs.{Histories.{after-append, replies_of-own, slice_get-set_same}, Kept.outside_from-append}
+use Rattle.pod_workers.proofs.{Kept.state_from-append, MostCalls.adds_in_most_calls, OfPlugins.LeftAreOfPlugins}
+use Rattle.pod_workers.proofs.{OfPlugins.{LeftIsOutside, left-are-of_plugins, left-is-outside}, Replies.StaysTrue}
+use Rattle.pod_workers.proofs.{Replies.true-advance, RoundDone.IsStepped, Sound.{allowed_next, goes_in, sound_host}}
+use Rattle.pod_workers.specs.declared.plan.Next.TheVariants as next
 
 -- ---- a GC
 

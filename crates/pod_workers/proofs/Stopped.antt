@@ -1,22 +1,19 @@
 -- A stopped command is answered how many calls it made, and they are no more than what stopped it allows.
-use Rattle.std.proofs.Common.{◌≡◌, ℕ, ◌+◌, ◌≤◌, ◌⊎◌, List, [], ◌∷◌, ◌++◌, length, Option, Some, None, slice_get, refl, sym, ◌∙◌, ap, subst, arith, inl, inr}
-use Rattle.std.proofs.lemmas.List.{append-nil, append_assoc, length_push}
+use Rattle.std.proofs.Common.{◌≡◌, ℕ, ◌+◌, ◌≤◌, ◌⊎◌, List, [], ◌∷◌, ◌++◌, length, Option, Some, None, slice_get, refl}
+use Rattle.std.proofs.{Common.{sym, ◌∙◌, ap, subst, arith, inl, inr}, lemmas.List.{append-nil, append_assoc}}
+use Rattle.std.proofs.lemmas.List.{length_push}
 use Rattle.cni_addr.specs.declared.address.Addr.{Addr}
-use Rattle.cni_verbs.specs.Endings.{answer_of, answer_of_ending, answer_outside, outside_by}
-use Rattle.cni_verbs.specs.Progress.{answer_by}
+use Rattle.cni_verbs.specs.{Endings.{answer_of, answer_of_ending, answer_outside, outside_by}, Progress.answer_by}
 use Rattle.cni_verbs.specs.Script.{Finish}
-use Rattle.cni_errors.specs.declared.answer.Answer.TheVariants.{OutOfMemory, Stopped}
-use Rattle.cni_errors.specs.declared.answer.Ending.{Ending}
+use Rattle.cni_errors.specs.declared.answer.{Answer.TheVariants.{OutOfMemory, Stopped}, Ending.Ending}
 use Rattle.cni_errors.specs.declared.answer.Ending.TheVariants.{Added, Yes, Skipped, Versions, Refused}
 use Rattle.net_conf.specs.declared.list.NetList.{NetList}
 use Rattle.pod_file.specs.declared.command.Command.{Command}
 use Rattle.pod_workers.specs.Facts.{EachStopIsCounted, EntryIsInRound, IsEntryOf, IsStopped, IsWithinStop, Stops}
-use Rattle.pod_workers.specs.Plans.{Placed, commands_of, list_for}
-use Rattle.pod_workers.specs.World.{World, own_replies, replies_of}
+use Rattle.pod_workers.specs.{Plans.{Placed, commands_of, list_for}, World.{World, own_replies, replies_of}}
 use Rattle.pod_workers.specs.declared.plan.Entry.{Entry}
-use Rattle.pod_workers.proofs.AnswersDue.{answer_is_due}
-use Rattle.pod_workers.proofs.Facts.{stops}
-use Rattle.pod_workers.proofs.Histories.{entry_or_none, length-replies_of, replies_of-append}
+use Rattle.pod_workers.proofs.{AnswersDue.answer_is_due, Facts.stops, Histories.{entry_or_none, length-replies_of}}
+use Rattle.pod_workers.proofs.Histories.{replies_of-append}
 
 -- ---- no script ends with a stop
 

@@ -1,26 +1,22 @@
 -- Of a world that meets the clauses, an answer, an entry or a round is taken back.
-use Rattle.std.proofs.Common.{◌≡◌, ◌≢◌, ℕ, ◌+◌, ◌<◌, ◌≤◌, ◌==◌, Bool, true, false, List, [], ◌∷◌, ◌++◌, length, Option, Some, None, slice_get, slice_set, refl, sym, ◌∙◌, ap, subst, inl, inr, ◌⊎◌, arith}
+use Rattle.std.proofs.Common.{◌≡◌, ◌≢◌, ℕ, ◌+◌, ◌<◌, ◌≤◌, ◌==◌, Bool, true, false, List, [], ◌∷◌, ◌++◌, length, Option}
+use Rattle.std.proofs.Common.{Some, None, slice_get, slice_set, refl, sym, ◌∙◌, ap, subst, inl, inr, ◌⊎◌, arith}
+use Rattle.std.proofs.lemmas.{Bool.{cases_Bool, or_right, Decides.{eqb_tells, nat_tests}}, List.append_assoc}
+use Rattle.std.proofs.lemmas.{List.{length-set, length_push}, Option.{same_Some, none-some, slice_get_within}}
 use Rattle.std.specs.Prelude.{if◌then◌else◌, ◌||◌, ◌&&◌}
-use Rattle.std.proofs.lemmas.List.{append_assoc, length-set, length_push}
-use Rattle.std.proofs.lemmas.Option.{same_Some, none-some, slice_get_within}
-use Rattle.std.proofs.lemmas.Bool.{cases_Bool, or_right}
-use Rattle.std.proofs.lemmas.Bool.Decides.{eqb_tells, nat_tests}
-use Rattle.cni_errors.specs.declared.answer.Answer.{Answer}
-use Rattle.cni_errors.specs.declared.answer.Answer.TheVariants.{Stopped}
-use Rattle.pod_workers.specs.Facts.{Follows, IsEntryOf, EachTwo, EntryIsInRound, IsUntouched, AreInRoundOrder, AreOfOneContainer, AreInContainerOrder, IsAfterStop, IsScripts, IsStopOf, IsDone, IsLegalByClauses, IsDue}
-use Rattle.pod_workers.specs.Legal.{Legal, steps, refused_memory, turns}
-use Rattle.pod_workers.specs.Plans.{Placed, commands_of, list_for}
-use Rattle.pod_workers.specs.World.{World, IsReady, IsAnswered, IsUpToStop, own_replies, host_of, is_faulty, is_stop, is_cut, is_cut_at, last_entry, answered, with_entry, entry_of, next_of, next_by, next_round, done, at_number}
-use Rattle.pod_workers.specs.declared.plan.Plan.{Plan}
-use Rattle.pod_workers.specs.declared.plan.Entry.{Entry}
+use Rattle.cni_errors.specs.declared.answer.Answer.{Answer, TheVariants.Stopped}
+use Rattle.pod_workers.specs.Facts.{Follows, IsEntryOf, EachTwo, EntryIsInRound, IsUntouched, AreInRoundOrder}
+use Rattle.pod_workers.specs.Facts.{AreOfOneContainer, AreInContainerOrder, IsAfterStop, IsScripts, IsStopOf, IsDone}
+use Rattle.pod_workers.specs.{Facts.{IsLegalByClauses, IsDue}, Legal.{Legal, steps, refused_memory, turns}}
+use Rattle.pod_workers.specs.{Plans.{Placed, commands_of, list_for}, World.{World, IsReady, IsAnswered, IsUpToStop}}
+use Rattle.pod_workers.specs.World.{own_replies, host_of, is_faulty, is_stop, is_cut, is_cut_at, last_entry, answered}
+use Rattle.pod_workers.specs.World.{with_entry, entry_of, next_of, next_by, next_round, done, at_number}
+use Rattle.pod_workers.specs.declared.plan.{Entry.Entry, Plan.Plan}
 use Rattle.pod_workers.specs.declared.plan.Next.TheVariants as next
-use Rattle.pod_workers.proofs.AnswersDue.{cut_stands, at_own_stop}
-use Rattle.pod_workers.proofs.Elements.{at_number-is}
-use Rattle.pod_workers.proofs.Facts.{one_command, uncut_at}
-use Rattle.pod_workers.proofs.Histories.{slice_get-set_same, slice_get-set_other, replies_of-own, replies_of-other, has_reply, last_entry-append, same_entry}
-use Rattle.pod_workers.proofs.Order.{not_both, other_number, other_round}
-use Rattle.pod_workers.proofs.Splits.{split_snoc}
-use Rattle.pod_workers.proofs.Rounds.{is_in_round}
+use Rattle.pod_workers.proofs.{AnswersDue.{cut_stands, at_own_stop}, Elements.at_number-is, Facts.one_command}
+use Rattle.pod_workers.proofs.{Facts.uncut_at, Histories.{slice_get-set_same, slice_get-set_other, replies_of-own}}
+use Rattle.pod_workers.proofs.{Histories.{replies_of-other, has_reply, last_entry-append, same_entry}, Order.not_both}
+use Rattle.pod_workers.proofs.{Order.{other_number, other_round}, Rounds.is_in_round, Splits.split_snoc}
 
 -- ---- an answer
 

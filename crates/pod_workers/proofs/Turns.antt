@@ -1,28 +1,19 @@
 -- What a run does next, by its state.
-use Rattle.std.proofs.Common.{◌≡◌, ℕ, Bool, true, false, List, [], ◌∷◌, ◌++◌, Option, Some, None, refl, sym, ◌∙◌, ap, subst, inl, inr, ◌⊎◌}
+use Rattle.std.proofs.Common.{◌≡◌, ℕ, Bool, true, false, List, [], ◌∷◌, ◌++◌, Option, Some, None, refl, sym, ◌∙◌, ap}
+use Rattle.std.proofs.{Common.{subst, inl, inr, ◌⊎◌}, lemmas.{Bool.false≢true, Option.{same_Some, none-some}}}
 use Rattle.std.specs.Prelude.{option_map, if◌then◌else◌, ◌||◌}
-use Rattle.std.proofs.lemmas.Bool.{false≢true}
-use Rattle.std.proofs.lemmas.Option.{same_Some, none-some}
 use Rattle.cni_verbs.proofs.CallsOrOver.{calls_or_over}
-use Rattle.cni_verbs.specs.Progress.{Progress, RunView, advanced, answer_by}
-use Rattle.cni_verbs.specs.Replies.{host_after, reply_to}
+use Rattle.cni_verbs.specs.{Progress.{Progress, RunView, advanced, answer_by}, Replies.{host_after, reply_to}}
 use Rattle.cni_verbs.specs.Script.{IsOpen, State, Turn, Calls, Finishes, Finish, turn, next_call, finish_of}
-use Rattle.cni_errors.specs.declared.answer.Answer.{Answer}
-use Rattle.cni_errors.specs.declared.answer.Answer.TheVariants.{Stopped}
-use Rattle.kernel_types.specs.Allowed.{IsAllowed}
-use Rattle.kernel_types.specs.Apply.{apply}
-use Rattle.kernel_types.specs.Replies.{holds_text_or_list, is_fault}
-use Rattle.kernel_types.specs.declared.call.Call.{Call}
-use Rattle.kernel_types.specs.declared.call.Reply.{Reply}
-use Rattle.kernel_types.specs.declared.object.Host.{Host}
+use Rattle.cni_errors.specs.declared.answer.Answer.{Answer, TheVariants.Stopped}
+use Rattle.kernel_types.specs.{Allowed.IsAllowed, Apply.apply, Replies.{holds_text_or_list, is_fault}}
+use Rattle.kernel_types.specs.declared.{call.{Call.Call, Reply.Reply}, object.Host.Host}
 use Rattle.kernel_types.proofs.Replies.{IsReplyOf-apply}
 use Rattle.net_conf.specs.declared.list.NetList.{NetList}
 use Rattle.pod_file.specs.declared.command.Command.{Command}
-use Rattle.pod_workers.specs.Slots.{MayBeMade, DoesNext, next_in}
-use Rattle.pod_workers.specs.World.{after_entry, entry_by, is_faulty, is_stop, next_by}
-use Rattle.pod_workers.specs.declared.plan.Next.{Next}
+use Rattle.pod_workers.specs.{Slots.{MayBeMade, DoesNext, next_in}, World.{after_entry, entry_by, is_faulty, is_stop}}
+use Rattle.pod_workers.specs.{World.next_by, declared.plan.{Entry.Entry, Next.Next}}
 use Rattle.pod_workers.specs.declared.plan.Next.TheVariants as next
-use Rattle.pod_workers.specs.declared.plan.Entry.{Entry}
 use Rattle.pod_workers.specs.declared.step.Stepped.TheVariants as step
 
 -- ---- by the state

@@ -1,15 +1,11 @@
 -- What the calls of an ADD are, whatever the host (CNI specification, section 3, "Adding an attachment").
-use Rattle.std.specs.Prelude.{◌≡◌, ℕ, true, false, List, ◌++◌, map}
-use Rattle.std.specs.List.{AllByRecursion, list_all}
+use Rattle.std.specs.{List.{AllByRecursion, list_all}, Prelude.{◌≡◌, ℕ, true, false, List, ◌++◌, map}}
 use Rattle.cni_addr.specs.declared.address.Addr.{Addr}
 use Rattle.cni_result.specs.declared.cached.PortMapping.{PortMapping}
-use Rattle.kernel_types.specs.Terms.{is_host_ns, lease_of}
-use Rattle.kernel_types.specs.declared.object.Att.{Att}
-use Rattle.kernel_types.specs.declared.call.Call.{Call}
-use Rattle.net_conf.specs.WellFormed.{IsWellFormedList}
-use Rattle.net_conf.specs.declared.list.NetList.{NetList}
-use Rattle.plugin_base.specs.Calls.{IsWellFormedCall, is_call_of, is_of_kinds, is_plugin_call_of}
-use Rattle.plugin_base.specs.Share.{Share, no_objects, share_after_calls}
+use Rattle.kernel_types.specs.{Terms.{is_host_ns, lease_of}, declared.{call.Call.Call, object.Att.Att}}
+use Rattle.net_conf.specs.{WellFormed.IsWellFormedList, declared.list.NetList.NetList}
+use Rattle.plugin_base.specs.{Calls.{IsWellFormedCall, is_call_of, is_of_kinds, is_plugin_call_of}, Share.Share}
+use Rattle.plugin_base.specs.Share.{no_objects, share_after_calls}
 use Rattle.plugin_chain.specs.Wanted.{add_calls, back_calls, calls_before, kinds_of, wanted}
 
 -- those of the plugins: all but the Begin and the leases

@@ -2,14 +2,10 @@
 use Rattle.std.specs.Prelude.{ℕ, ◌+◌, ◌≤◌, List, length, sum_by}
 use Rattle.cni_addr.specs.declared.address.Addr.{Addr}
 use Rattle.cni_result.specs.declared.cached.PortMapping.{PortMapping}
-use Rattle.net_conf.specs.declared.chained.Chained.{Chained}
-use Rattle.net_conf.specs.declared.list.NetList.{NetList}
+use Rattle.net_conf.specs.declared.{chained.Chained.Chained, list.NetList.NetList}
 use Rattle.pod_file.specs.declared.command.Command.{Command}
-use Rattle.cni_verbs.specs.AddCalls.{calls_of_add}
-use Rattle.cni_verbs.specs.Mappings.{mappings_of}
-use Rattle.plugin_chain.specs.Plugins.{chained_plugin_of, plugin_of}
-use Rattle.cni_verbs.specs.Script.{before_of}
-use Rattle.plugin_chain.specs.Wanted.{sets_of}
+use Rattle.cni_verbs.specs.{AddCalls.calls_of_add, Mappings.mappings_of, Script.before_of}
+use Rattle.plugin_chain.specs.{Plugins.{chained_plugin_of, plugin_of}, Wanted.sets_of}
 
 -- whatever addresses it is leased, an ADD makes no more calls than so many
 abbrev pub AddsInAtMost : NetList → Command → ℕ → Type 0

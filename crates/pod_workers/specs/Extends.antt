@@ -1,11 +1,8 @@
 -- One world goes on from another.
-use Rattle.std.specs.Prelude.{◌≡◌, ℕ, true, List, ◌++◌, Option, Some, slice_get}
-use Rattle.std.specs.List.{All}
+use Rattle.std.specs.{List.All, Prelude.{◌≡◌, ℕ, true, List, ◌++◌, Option, Some, slice_get}}
 use Rattle.cni_errors.specs.declared.answer.Answer.{Answer}
-use Rattle.pod_workers.specs.Legal.{Legal}
-use Rattle.pod_workers.specs.World.{World, EachCommand, IsRoundOver, is_of_round, next_round}
-use Rattle.pod_workers.specs.declared.plan.Entry.{Entry}
-use Rattle.pod_workers.specs.declared.plan.Plan.{Plan}
+use Rattle.pod_workers.specs.{Legal.Legal, World.{World, EachCommand, IsRoundOver, is_of_round, next_round}}
+use Rattle.pod_workers.specs.declared.plan.{Entry.Entry, Plan.Plan}
 
 -- the entry is of a command of this round
 abbrev pub IsOfRound : Plan → ℕ → Entry → Type 0

@@ -1,17 +1,13 @@
 -- What is true of every legal world, clause by clause.
-use Rattle.std.specs.Prelude.{◌≡◌, ℕ, ◌+◌, ◌≤◌, ◌<◌, ◌⊎◌, false, List, [], ◌∷◌, ◌++◌, length, Option, Some, None, slice_get}
-use Rattle.cni_verbs.specs.Script.{Calls, Finishes, Finish}
-use Rattle.cni_errors.specs.declared.answer.Answer.{Answer}
-use Rattle.cni_errors.specs.declared.answer.Answer.TheVariants.{OutOfMemory, Stopped}
-use Rattle.kernel_types.specs.Allowed.{IsAllowed}
-use Rattle.kernel_types.specs.declared.call.Call.{Call}
-use Rattle.pod_workers.specs.Extends.{KeepsAnswers}
-use Rattle.pod_workers.specs.Legal.{Legal}
-use Rattle.pod_workers.specs.Plans.{Placed, IsWellFormed, commands_of, list_for, IsOf}
-use Rattle.cni_verbs.specs.Progress.{turn_by, answer_by}
-use Rattle.pod_workers.specs.World.{World, EachCommand, EachTwoCommands, after, replies_of, own_replies, reply_to, is_faulty, is_stop, next_of, stepped, with_entry, IsAnswered, IsReady, IsUpToStop}
-use Rattle.pod_workers.specs.declared.plan.Plan.{Plan}
-use Rattle.pod_workers.specs.declared.plan.Entry.{Entry}
+use Rattle.std.specs.Prelude.{◌≡◌, ℕ, ◌+◌, ◌≤◌, ◌<◌, ◌⊎◌, false, List, [], ◌∷◌, ◌++◌, length, Option, Some, None}
+use Rattle.std.specs.Prelude.{slice_get}
+use Rattle.cni_verbs.specs.{Progress.{turn_by, answer_by}, Script.{Calls, Finishes, Finish}}
+use Rattle.cni_errors.specs.declared.answer.Answer.{Answer, TheVariants.{OutOfMemory, Stopped}}
+use Rattle.kernel_types.specs.{Allowed.IsAllowed, declared.call.Call.Call}
+use Rattle.pod_workers.specs.{Extends.KeepsAnswers, Legal.Legal, Plans.{Placed, IsWellFormed, commands_of, list_for}}
+use Rattle.pod_workers.specs.{Plans.IsOf, World.{World, EachCommand, EachTwoCommands, after, replies_of, own_replies}}
+use Rattle.pod_workers.specs.World.{reply_to, is_faulty, is_stop, next_of, stepped, with_entry, IsAnswered, IsReady}
+use Rattle.pod_workers.specs.{World.IsUpToStop, declared.plan.{Entry.Entry, Plan.Plan}}
 use Rattle.pod_workers.specs.declared.plan.Next.TheVariants as next
 
 -- ---- entries

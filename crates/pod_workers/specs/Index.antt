@@ -1,12 +1,10 @@
 -- Where each command stands, and the command before it of its container in its round. It serves proofs of private
 -- functions.
-use Rattle.std.specs.Prelude.{◌≡◌, ℕ, ◌+◌, ◌<◌, ◌≤◌, ◌==◌, ◌&&◌, Bool, true, false, List, Option, Some, None, is_some, length, option_and_then, slice_get}
-use Rattle.std.specs.Option.{option_flatten, option_map_or}
+use Rattle.std.specs.{Option.{option_flatten, option_map_or}, Prelude.{◌≡◌, ℕ, ◌+◌, ◌<◌, ◌≤◌, ◌==◌, ◌&&◌, Bool, true}}
+use Rattle.std.specs.Prelude.{false, List, Option, Some, None, is_some, length, option_and_then, slice_get}
 use Rattle.cni_errors.specs.declared.answer.Answer.{Answer}
 use Rattle.pod_file.specs.declared.command.Command.{Command}
-use Rattle.pod_workers.specs.Plans.{Placed, IsOf}
-use Rattle.pod_workers.specs.World.{at_number, last_entry}
-use Rattle.pod_workers.specs.declared.index.Place.{Place}
+use Rattle.pod_workers.specs.{Plans.{Placed, IsOf}, World.{at_number, last_entry}, declared.index.Place.Place}
 use Rattle.pod_workers.specs.declared.plan.Entry.{Entry}
 
 -- no command at a place from `start` on and before `end` is of this round and container

@@ -1,11 +1,9 @@
 -- When lists and a pod file make a plan, and why they make none.
-use Rattle.std.specs.Prelude.{ℕ, ◌+◌, List, [], ◌∷◌, ◌++◌, position, Option, Some, None, option_map, Result, Ok, Err, if◌then◌else◌}
-use Rattle.std.specs.Option.{option_or}
+use Rattle.std.specs.{Option.option_or, Prelude.{ℕ, ◌+◌, List, [], ◌∷◌, ◌++◌, position, Option, Some, None, option_map}}
+use Rattle.std.specs.Prelude.{Result, Ok, Err, if◌then◌else◌}
 use Rattle.net_conf.specs.declared.list.NetList.{NetList}
 use Rattle.pod_file.specs.declared.command.Command.{Command}
-use Rattle.pod_workers.specs.Plans.{has_list, lacks_list, placed_from}
-use Rattle.pod_workers.specs.declared.plan.Plan.{Plan}
-use Rattle.pod_workers.specs.declared.plan.PlanError.{PlanError}
+use Rattle.pod_workers.specs.{Plans.{has_list, lacks_list, placed_from}, declared.plan.{Plan.Plan, PlanError.PlanError}}
 use Rattle.pod_workers.specs.declared.plan.PlanError.TheVariants.{SameName, NoNetwork}
 
 -- the place, from 0, of the first list that has the name of an earlier one

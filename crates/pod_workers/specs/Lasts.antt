@@ -1,13 +1,11 @@
 -- The addresses that pools leased last.
-use Rattle.std.specs.Prelude.{◌≡◌, true, List, Some, slice_get}
-use Rattle.std.specs.List.{AllByRecursion}
+use Rattle.std.specs.{List.AllByRecursion, Prelude.{◌≡◌, true, List, Some, slice_get}}
 use Rattle.cni_addr.specs.declared.range.RangeSet.{RangeSet}
 use Rattle.plugin_chain.specs.Wanted.{sets_of}
 use Rattle.ip_pool.specs.NextAddress.{is_candidate}
 use Rattle.kernel_types.specs.declared.object.Last.{Last}
 use Rattle.net_conf.specs.declared.list.NetList.{NetList}
-use Rattle.pod_workers.specs.declared.plan.Plan.{Plan}
-use Rattle.pod_workers.specs.Plans.{list_named}
+use Rattle.pod_workers.specs.{Plans.list_named, declared.plan.Plan.Plan}
 
 -- the network has a list, the list a set of this number, and the address is a candidate of it
 pub record IsLastOfSet (p : Plan) (last : Last) : Type 0 where

@@ -1,19 +1,11 @@
 -- Laws over every legal world, whatever was interleaved, stopped or refused memory.
-use Rattle.std.specs.Prelude.{◌≡◌, ℕ, true, false, List, Ok, Some, slice_get}
-use Rattle.std.specs.List.{All}
-use Rattle.kernel_types.specs.Allowed.{IsAllowed}
-use Rattle.kernel_types.specs.Sound.{IsSound, NoAddressTwice}
-use Rattle.kernel_types.specs.declared.call.Call.{Call}
-use Rattle.net_conf.specs.WellFormed.{IsWellFormedList}
-use Rattle.net_conf.specs.declared.list.NetList.{NetList}
-use Rattle.pod_file.specs.Commands.{is_of_network}
-use Rattle.pod_file.specs.WellFormed.{IsWellFormedPods}
-use Rattle.pod_workers.specs.Join.{joined}
-use Rattle.pod_workers.specs.Legal.{Legal}
-use Rattle.pod_workers.specs.Plans.{Placed, IsWellFormed, commands_of, list_for}
-use Rattle.pod_workers.specs.World.{World, IsReady, host_of, own_replies, next_of}
+use Rattle.std.specs.{List.All, Prelude.{◌≡◌, ℕ, true, false, List, Ok, Some, slice_get}}
+use Rattle.kernel_types.specs.{Allowed.IsAllowed, Sound.{IsSound, NoAddressTwice}, declared.call.Call.Call}
+use Rattle.net_conf.specs.{WellFormed.IsWellFormedList, declared.list.NetList.NetList}
+use Rattle.pod_file.specs.{Commands.is_of_network, WellFormed.IsWellFormedPods}
+use Rattle.pod_workers.specs.{Join.joined, Legal.Legal, Plans.{Placed, IsWellFormed, commands_of, list_for}}
+use Rattle.pod_workers.specs.{World.{World, IsReady, host_of, own_replies, next_of}, declared.plan.Plan.Plan}
 use Rattle.pod_workers.specs.declared.plan.Next.TheVariants as next
-use Rattle.pod_workers.specs.declared.plan.Plan.{Plan}
 
 -- each host that a plan comes to is sound
 abbrev pub EveryHostIsSound : Type 0

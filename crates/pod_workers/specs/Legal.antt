@@ -1,8 +1,8 @@
 -- The worlds that allowed steps can reach.
 use Rattle.std.specs.Prelude.{◌≡◌, ℕ, ◌<◌, length}
 use Rattle.cni_errors.specs.declared.answer.Answer.TheVariants.{OutOfMemory}
-use Rattle.pod_workers.specs.Plans.{Placed, IsWellFormed}
-use Rattle.pod_workers.specs.World.{World, IsReady, IsRoundOver, answered, begun, next_round, stepped}
+use Rattle.pod_workers.specs.{Plans.{Placed, IsWellFormed}, World.{World, IsReady, IsRoundOver, answered, begun}}
+use Rattle.pod_workers.specs.World.{next_round, stepped}
 
 pub record IsBegun (w : World) : Type 0 where
   pub plan : IsWellFormed w.plan

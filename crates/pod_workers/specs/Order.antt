@@ -1,12 +1,8 @@
 -- Worlds in which commands go in the order of the file, as on one thread, and what is true of them.
 use Rattle.std.specs.Prelude.{◌≡◌, ◌≢◌, ℕ, ◌<◌, ◌≤◌, List, length, Some, slice_get}
 use Rattle.cni_errors.specs.declared.answer.Answer.TheVariants.{OutOfMemory}
-use Rattle.pod_workers.specs.Extends.{Appends}
-use Rattle.pod_workers.specs.Facts.{EachTwo, EachIsDoneBefore}
-use Rattle.pod_workers.specs.Legal.{Legal}
-use Rattle.pod_workers.specs.Plans.{Placed}
-use Rattle.pod_workers.specs.World.{World, EachCommand, IsAnswered, IsReady, stepped}
-use Rattle.pod_workers.specs.declared.plan.Entry.{Entry}
+use Rattle.pod_workers.specs.{Extends.Appends, Facts.{EachTwo, EachIsDoneBefore}, Legal.Legal, Plans.Placed}
+use Rattle.pod_workers.specs.{World.{World, EachCommand, IsAnswered, IsReady, stepped}, declared.plan.Entry.Entry}
 use Rattle.pod_workers.specs.declared.plan.Plan.{Plan}
 
 -- an earlier entry is of no later command

@@ -1,13 +1,9 @@
 -- What a plan says: its commands with their rounds, their lists, and when it is well formed.
-use Rattle.std.specs.Prelude.{◌≡◌, ℕ, ◌+◌, Bool, true, not, ◌&&◌, List, [], ◌∷◌, ◌++◌, map, find, is_some, Option, None, if◌then◌else◌}
-use Rattle.std.specs.List.{All, list_all}
-use Rattle.std.specs.Str.{bytes_eq}
+use Rattle.std.specs.{List.{All, list_all}, Prelude.{◌≡◌, ℕ, ◌+◌, Bool, true, not, ◌&&◌, List, [], ◌∷◌, ◌++◌, map}}
+use Rattle.std.specs.{Prelude.{find, is_some, Option, None, if◌then◌else◌}, Str.bytes_eq}
 use Rattle.cni_addr.specs.Lists.{distinct}
-use Rattle.net_conf.specs.WellFormed.{IsWellFormedList}
-use Rattle.net_conf.specs.declared.list.NetList.{NetList}
-use Rattle.pod_file.specs.Commands.{is_of_network}
-use Rattle.pod_file.specs.WellFormed.{IsWellFormedPods}
-use Rattle.pod_file.specs.declared.command.Command.{Command}
+use Rattle.net_conf.specs.{WellFormed.IsWellFormedList, declared.list.NetList.NetList}
+use Rattle.pod_file.specs.{Commands.is_of_network, WellFormed.IsWellFormedPods, declared.command.Command.Command}
 use Rattle.pod_workers.specs.declared.plan.Plan.{Plan}
 
 -- ---- commands

@@ -1,21 +1,15 @@
 -- What the tasks of a book stand for, and what a book keeps. It serves proofs of private functions.
-use Rattle.std.specs.Prelude.{◌≡◌, ℕ, ◌+◌, ◌<◌, ◌≤◌, ◌^◌, Bool, true, false, List, [], ◌∷◌, ◌++◌, length, take, Option, Some, None, slice_get}
-use Rattle.cni_verbs.specs.Progress.{Progress, RunView, progress, advanced}
-use Rattle.cni_verbs.specs.Script.{turn}
-use Rattle.kernel_types.specs.Allowed.{IsAllowed}
-use Rattle.kernel_types.specs.declared.call.Reply.{Reply}
-use Rattle.kernel_types.specs.declared.object.Host.{Host}
+use Rattle.std.specs.Prelude.{◌≡◌, ℕ, ◌+◌, ◌<◌, ◌≤◌, ◌^◌, Bool, true, false, List, [], ◌∷◌, ◌++◌, length, take, Option}
+use Rattle.std.specs.Prelude.{Some, None, slice_get}
+use Rattle.cni_verbs.specs.{Progress.{Progress, RunView, progress, advanced}, Script.turn}
+use Rattle.kernel_types.specs.{Allowed.IsAllowed, declared.{call.Reply.Reply, object.Host.Host}}
 use Rattle.net_conf.specs.declared.list.NetList.{NetList}
 use Rattle.pod_file.specs.declared.command.Command.{Command}
-use Rattle.pod_workers.specs.Index.{IsIndex}
-use Rattle.pod_workers.specs.Legal.{Legal}
-use Rattle.pod_workers.specs.Plans.{commands_of, list_for, list_in, placed_from}
-use Rattle.pod_workers.specs.World.{World, EachCommand, IsUpToStop, after_entry, entry_by, host_of, next_by, own_replies, reply_to}
-use Rattle.pod_workers.specs.declared.index.Place.{Place}
-use Rattle.pod_workers.specs.declared.plan.Entry.{Entry}
-use Rattle.pod_workers.specs.declared.plan.Next.{Next}
+use Rattle.pod_workers.specs.{Index.IsIndex, Legal.Legal, Plans.{commands_of, list_for, list_in, placed_from}}
+use Rattle.pod_workers.specs.World.{World, EachCommand, IsUpToStop, after_entry, entry_by, host_of, next_by}
+use Rattle.pod_workers.specs.{World.{own_replies, reply_to}, declared.{index.Place.Place, plan.Entry.Entry}}
+use Rattle.pod_workers.specs.declared.{plan.Next.Next, step.Stepped.Stepped}
 use Rattle.pod_workers.specs.declared.plan.Next.TheVariants as next
-use Rattle.pod_workers.specs.declared.step.Stepped.{Stepped}
 use Rattle.pod_workers.specs.declared.step.Stepped.TheVariants as step
 
 -- ---- one task

@@ -2,12 +2,9 @@
 use Rattle.std.specs.Prelude.{◌≡◌, ℕ, true, List, is_some}
 use Rattle.cni_verbs.specs.Progress.{RunView, is_gc}
 use Rattle.net_conf.specs.declared.list.NetList.{NetList}
-use Rattle.pod_file.specs.Faults.{are_after}
-use Rattle.pod_file.specs.declared.command.Command.{Command}
-use Rattle.pod_workers.specs.Plans.{list_in}
-use Rattle.pod_workers.specs.World.{is_faulty}
-use Rattle.pod_workers.specs.declared.task.Carried.{Carried}
-use Rattle.pod_workers.specs.declared.task.Carried.TheVariants.{Verb, Collection}
+use Rattle.pod_file.specs.{Faults.are_after, declared.command.Command.Command}
+use Rattle.pod_workers.specs.{Plans.list_in, World.is_faulty, declared.task.Carried.{Carried, TheVariants.Verb}}
+use Rattle.pod_workers.specs.declared.task.Carried.TheVariants.{Collection}
 
 -- a GC has nothing to prepare
 abbrev pub view_of : Carried → RunView

@@ -1,7 +1,7 @@
 -- A plan, its history and answers, and what one step makes of them.
-use Rattle.std.specs.Prelude.{◌≡◌, ℕ, ◌+◌, ◌-◌, ◌<◌, ◌≤◌, ◌==◌, Bool, false, ◌||◌, ◌&&◌, List, [], ◌∷◌, ◌++◌, length, map, filter, Option, Some, None, IfSome, slice_get, slice_set, nat_le, if◌then◌else◌}
-use Rattle.std.specs.List.{list_any}
-use Rattle.std.specs.Option.{option_flatten, option_map_or}
+use Rattle.std.specs.{List.list_any, Option.{option_flatten, option_map_or}, Prelude.{◌≡◌, ℕ, ◌+◌, ◌-◌, ◌<◌, ◌≤◌, ◌==◌}}
+use Rattle.std.specs.Prelude.{Bool, false, ◌||◌, ◌&&◌, List, [], ◌∷◌, ◌++◌, length, map, filter, Option, Some, None}
+use Rattle.std.specs.Prelude.{IfSome, slice_get, slice_set, nat_le, if◌then◌else◌}
 use Rattle.cni_verbs.specs.Progress.{turn_by, answer_by}
 pub use Rattle.cni_verbs.specs.Replies.{reply_to}
 use Rattle.cni_verbs.specs.Script.{Turn, Calls, Finishes}

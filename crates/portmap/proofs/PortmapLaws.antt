@@ -1,27 +1,19 @@
 -- `portmap` keeps the laws of a chained plugin.
-use Rattle.std.proofs.Common.{◌≡◌, ◌*◌, ◌≤◌, Bool, true, false, List, ◌∷◌, ◌++◌, length, Option, Some, None, refl, sym, ap, ◌∙◌, arith}
-use Rattle.std.proofs.lemmas.List.{append-nil, length-append, length-map}
-use Rattle.std.specs.Prelude.{flat_map}
-use Rattle.std.specs.List.{list_all}
-use Rattle.cni_addr.specs.declared.address.Addr.{Addr}
-use Rattle.cni_addr.specs.declared.address.Family.{Family}
-use Rattle.cni_addr.specs.declared.address.Family.TheVariants.{V4, V6}
-use Rattle.cni_result.specs.declared.cached.PortMapping.{PortMapping}
-use Rattle.cni_result.specs.declared.result.IpEntry.{IpEntry}
+use Rattle.std.proofs.Common.{◌≡◌, ◌*◌, ◌≤◌, Bool, true, false, List, ◌∷◌, ◌++◌, length, Option, Some, None, refl, sym}
+use Rattle.std.proofs.{Common.{ap, ◌∙◌, arith}, lemmas.List.{append-nil, length-append, length-map}}
+use Rattle.std.specs.{List.list_all, Prelude.flat_map}
+use Rattle.cni_addr.specs.declared.address.{Addr.Addr, Family.{Family, TheVariants.{V4, V6}}}
+use Rattle.cni_result.specs.declared.{cached.PortMapping.PortMapping, result.IpEntry.IpEntry}
 use Rattle.net_conf.specs.declared.chained.PortmapConf.{PortmapConf}
-use Rattle.kernel_types.specs.Equal.{rule_eq}
-use Rattle.kernel_types.specs.Terms.{is_own}
-use Rattle.kernel_types.proofs.Cases.{att_eq-refl}
-use Rattle.kernel_types.specs.declared.object.Att.{Att}
+use Rattle.kernel_types.specs.{Equal.rule_eq, Terms.is_own, declared.{call.Call.TheVariants.RuleAppend, object.Att.Att}}
 use Rattle.kernel_types.specs.declared.rule.Rule.{Rule}
-use Rattle.kernel_types.specs.declared.call.Call.TheVariants.{RuleAppend}
-use Rattle.plugin_base.specs.Families.{first_of_family}
-use Rattle.plugin_base.specs.PluginLaws.{ChainedLaws}
-use Rattle.plugin_base.proofs.CallLists.{share_after_calls-rules}
-use Rattle.plugin_base.proofs.Counts.{length-each, length-if}
-use Rattle.plugin_base.proofs.KeyLists.{length-each_key_once, list_all-append, list_all-flat, list_all-if, list_all-each_key_once}
-use Rattle.plugin_base.proofs.PluginCalls.{rule-calls}
-use Rattle.portmap.specs.Portmap.{host_ip_allows, dnat_of, from_host, masquerades_of, rules_for, mapping_rules, portmap_calls_of, portmap_plugin, portmap_rules}
+use Rattle.kernel_types.proofs.Cases.{att_eq-refl}
+use Rattle.plugin_base.specs.{Families.first_of_family, PluginLaws.ChainedLaws}
+use Rattle.plugin_base.proofs.{CallLists.share_after_calls-rules, Counts.{length-each, length-if}}
+use Rattle.plugin_base.proofs.KeyLists.{length-each_key_once, list_all-append, list_all-flat, list_all-if}
+use Rattle.plugin_base.proofs.{KeyLists.list_all-each_key_once, PluginCalls.rule-calls}
+use Rattle.portmap.specs.Portmap.{host_ip_allows, dnat_of, from_host, masquerades_of, rules_for, mapping_rules}
+use Rattle.portmap.specs.Portmap.{portmap_calls_of, portmap_plugin, portmap_rules}
 
 -- ---- each rule is its attachment's
 

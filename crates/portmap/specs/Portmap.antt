@@ -1,29 +1,17 @@
 -- The `portmap` plugin: ports of the host that lead to the container. The rule sets are this project's own, after
 -- iptables.
-use Rattle.std.specs.Prelude.{◌+◌, ◌*◌, ◌^◌, Bool, true, false, List, [], ◌∷◌, ◌++◌, map, flat_map, Option, Some, None, option_map, if◌then◌else◌}
-use Rattle.cni_addr.specs.Codes.{family_eq}
-use Rattle.cni_addr.specs.Network.{whole, network_of}
-use Rattle.cni_addr.specs.declared.address.Family.{Family}
-use Rattle.cni_addr.specs.declared.address.Family.TheVariants.{V4, V6}
-use Rattle.cni_addr.specs.declared.address.Addr.{Addr}
-use Rattle.cni_addr.specs.declared.address.Cidr.{Cidr}
-use Rattle.cni_result.specs.declared.cached.PortMapping.{PortMapping}
-use Rattle.cni_result.specs.declared.result.IpEntry.{IpEntry}
+use Rattle.std.specs.Prelude.{◌+◌, ◌*◌, ◌^◌, Bool, true, false, List, [], ◌∷◌, ◌++◌, map, flat_map, Option, Some, None}
+use Rattle.std.specs.Prelude.{option_map, if◌then◌else◌}
+use Rattle.cni_addr.specs.{Codes.family_eq, Lists.each_key_once, Network.{whole, network_of}}
+use Rattle.cni_addr.specs.declared.address.{Addr.Addr, Cidr.Cidr, Family.{Family, TheVariants.{V4, V6}}}
+use Rattle.cni_result.specs.declared.{cached.PortMapping.PortMapping, result.IpEntry.IpEntry}
 use Rattle.net_conf.specs.declared.chained.PortmapConf.{PortmapConf}
-use Rattle.kernel_types.specs.Equal.{rule_eq}
-use Rattle.kernel_types.specs.declared.object.Att.{Att}
-use Rattle.kernel_types.specs.declared.rule.Rule.{Rule}
+use Rattle.kernel_types.specs.{Equal.rule_eq, declared.call.{Call.{Call, TheVariants.RuleAppend}, Kind.Kind}}
+use Rattle.kernel_types.specs.declared.{call.Kind.TheVariants.Rules, object.Att.Att, rule.Rule.Rule}
 use Rattle.kernel_types.specs.declared.rule.Table.TheVariants.{Nat}
 use Rattle.kernel_types.specs.declared.rule.Chain.TheVariants as chains
 use Rattle.kernel_types.specs.declared.rule.Target.TheVariants as targets
-use Rattle.kernel_types.specs.declared.call.Call.{Call}
-use Rattle.kernel_types.specs.declared.call.Call.TheVariants.{RuleAppend}
-use Rattle.kernel_types.specs.declared.call.Kind.{Kind}
-use Rattle.kernel_types.specs.declared.call.Kind.TheVariants.{Rules}
-use Rattle.cni_addr.specs.Lists.{each_key_once}
-use Rattle.plugin_base.specs.Families.{first_of_family}
-use Rattle.plugin_base.specs.Plugins.{ChainedPlugin}
-use Rattle.plugin_base.specs.Shapes.{rule_for_all}
+use Rattle.plugin_base.specs.{Families.first_of_family, Plugins.ChainedPlugin, Shapes.rule_for_all}
 
 -- `127.0.0.1/32`
 abbrev pub loopback : Cidr

@@ -4,17 +4,12 @@ use Rattle.std.proofs.lemmas.Option.{same_Some}
 use Rattle.cni_io.specs.Files.{StoredFiles}
 use Rattle.pod_text.specs.declared.asked.Asked.{Asked}
 use Rattle.pod_workers.specs.declared.plan.Plan.{Plan}
-use Rattle.tool_words.specs.Words.{words_given}
-use Rattle.tool_words.specs.declared.source.Named.{Named}
-use Rattle.tool_words.specs.declared.source.Source.TheVariants.{Files, Generated}
+use Rattle.tool_words.specs.{Words.words_given, declared.source.{Named.Named, Source.TheVariants.{Files, Generated}}}
 use Rattle.tool_words.specs.declared.words.Words.{Words}
-use Rattle.tool_plan.specs.Causes.{AreFilesFor, GivesInput, GivesStored, ReachesFile, files_named}
-use Rattle.tool_plan.specs.Dues.{AreFiles, ComesTo, ComesToNoPlan, NameNoFile}
-use Rattle.tool_plan.specs.Seen.{FilesSeen}
-use Rattle.tool_plan.specs.Verdict.{IsAskedBy, IsInputBy, asked_of, carry, generated_input, input_of_files, verdict_if, verdict_on}
-use Rattle.tool_plan.specs.declared.plan.Input.{Input}
-use Rattle.tool_plan.specs.declared.plan.NoPlan.{NoPlan}
-use Rattle.tool_plan.specs.declared.plan.NoPlan.TheVariants.{Usage, Line, Unread, NoMemory}
+use Rattle.tool_plan.specs.{Causes.{AreFilesFor, GivesInput, GivesStored, ReachesFile, files_named}, Dues.AreFiles}
+use Rattle.tool_plan.specs.{Dues.{ComesTo, ComesToNoPlan, NameNoFile}, Seen.FilesSeen, Verdict.{IsAskedBy, IsInputBy}}
+use Rattle.tool_plan.specs.Verdict.{asked_of, carry, generated_input, input_of_files, verdict_if, verdict_on}
+use Rattle.tool_plan.specs.declared.plan.{Input.Input, NoPlan.{NoPlan, TheVariants.{Usage, Line, Unread, NoMemory}}}
 
 -- words that name no file have a source that names none
 pub names_none : (given : List (List ℕ)) (by : Words) → words_given given ≡ Some by → NameNoFile given → files_named by.source ≡ []

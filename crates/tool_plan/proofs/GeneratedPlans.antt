@@ -1,18 +1,11 @@
 -- The plan of generated pods is well formed.
-use Rattle.std.proofs.Common.{◌≡◌, ◌∙◌, ℕ, ◌+◌, ◌≤◌, ◌&&◌, Bool, true, false, not, List, [], ◌∷◌, map, refl, sym, ap, subst, rules, Option}
-use Rattle.std.specs.List.{list_all}
-use Rattle.std.specs.Str.{bytes_eq}
-use Rattle.std.proofs.lemmas.Bool.{and_from, and_parts}
-use Rattle.std.proofs.lemmas.List.Elements.{All-push}
-use Rattle.std.proofs.lemmas.List.Folds.{list_all-append, list_all-map}
-use Rattle.std.proofs.lemmas.Slice.Eq.{bytes_eq-Decides}
-use Rattle.net_conf.specs.WellFormed.{IsWellFormedList}
-use Rattle.net_conf.specs.declared.list.NetList.{NetList}
-use Rattle.pod_file.specs.Commands.{is_of_network}
-use Rattle.pod_file.specs.Generator.{generated, generated_list, most_containers, network_name}
-use Rattle.pod_file.specs.Rounds.{in_file_order}
-use Rattle.pod_file.specs.WellFormed.{IsWellFormedPods}
-use Rattle.pod_file.specs.declared.command.Command.{Command}
+use Rattle.std.proofs.Common.{◌≡◌, ◌∙◌, ℕ, ◌+◌, ◌≤◌, ◌&&◌, Bool, true, false, not, List, [], ◌∷◌, map, refl, sym, ap}
+use Rattle.std.proofs.{Common.{subst, rules, Option}, lemmas.{Bool.{and_from, and_parts}, List.Elements.All-push}}
+use Rattle.std.proofs.lemmas.{List.Folds.{list_all-append, list_all-map}, Slice.Eq.bytes_eq-Decides}
+use Rattle.std.specs.{List.list_all, Str.bytes_eq}
+use Rattle.net_conf.specs.{WellFormed.IsWellFormedList, declared.list.NetList.NetList}
+use Rattle.pod_file.specs.{Commands.is_of_network, Generator.{generated, generated_list, most_containers, network_name}}
+use Rattle.pod_file.specs.{Rounds.in_file_order, WellFormed.IsWellFormedPods, declared.command.Command.Command}
 use Rattle.pod_file.specs.declared.generator.Generated.{Generated}
 use Rattle.pod_workers.specs.Plans.{IsWellFormed, Placed, commands_of, has_list, in_round, lacks_list, placed_from}
 use Rattle.pod_workers.specs.declared.plan.Plan.{Plan}

@@ -1,20 +1,18 @@
 -- What pod file, lists and packet file come to, one after another.
-use Rattle.std.proofs.Common.{◌≡◌, ◌∙◌, ◌+◌, ◌<◌, ◌≤◌, ℕ, Bool, true, false, List, [], ◌∷◌, ◌++◌, length, take, inl, inr, refl, sym, ap, subst, arith, Ok, Err, IsOk, Option, Some, option_map}
-use Rattle.std.specs.Bool.{then_some}
-use Rattle.std.specs.List.{slice_index_or}
+use Rattle.std.proofs.Common.{◌≡◌, ◌∙◌, ◌+◌, ◌<◌, ◌≤◌, ℕ, Bool, true, false, List, [], ◌∷◌, ◌++◌, length, take, inl}
+use Rattle.std.proofs.Common.{inr, refl, sym, ap, subst, arith, Ok, Err, IsOk, Option, Some, option_map}
 use Rattle.std.proofs.lemmas.List.{map-append, take_more}
+use Rattle.std.specs.{Bool.then_some, List.slice_index_or}
 use Rattle.cni_io.specs.Files.{StoredFiles}
 use Rattle.cni_json.specs.Outcome.{◌>>=◌}
 use Rattle.plugin_requests.specs.Raw.{RawView}
 use Rattle.packet_probe.specs.declared.packet.Packet.{Packet}
 use Rattle.pod_file.specs.declared.pods.Pods.{Pods}
 use Rattle.pod_workers.specs.declared.plan.Plan.{Plan}
-use Rattle.tool_words.specs.declared.source.Named.{Named}
-use Rattle.tool_words.specs.declared.source.Source.TheVariants.{Files}
+use Rattle.tool_words.specs.declared.source.{Named.Named, Source.TheVariants.Files}
 use Rattle.tool_plan.specs.Causes.{GivesJudged, GivesStored, ReachesFile, ReachesList, WhereTold}
-use Rattle.tool_plan.specs.Verdict.{AreRequestsOf, Judged, input_of_files, judged_plan, lists_of, stored_lists, stored_packets, stored_pods}
-use Rattle.tool_plan.specs.declared.plan.Input.{Input}
-use Rattle.tool_plan.specs.declared.plan.NoPlan.{NoPlan}
+use Rattle.tool_plan.specs.Verdict.{AreRequestsOf, Judged, input_of_files, judged_plan, lists_of, stored_lists}
+use Rattle.tool_plan.specs.{Verdict.{stored_packets, stored_pods}, declared.plan.{Input.Input, NoPlan.NoPlan}}
 use Rattle.tool_plan.specs.declared.plan.NoPlan.TheVariants.{Usage, Line, Unread, NoMemory}
 use Rattle.tool_plan.proofs.Steps.{stops}
 

@@ -2,14 +2,9 @@
 use Rattle.std.proofs.Common.{◌≡◌, ℕ, List, Option, Some, None, Ok, ap, sym}
 use Rattle.std.specs.List.{All}
 use Rattle.net_conf.specs.WellFormed.{IsWellFormedList}
-use Rattle.pod_file.specs.PodFile.{pods_of}
-use Rattle.pod_file.specs.WellFormed.{IsWellFormedPods}
-use Rattle.pod_file.specs.declared.pods.Pods.{Pods}
-use Rattle.pod_workers.specs.Join.{joined, plan_unless, refusal_of}
-use Rattle.pod_workers.specs.Laws.{JoinedPlansAreWellFormed}
-use Rattle.pod_workers.specs.Plans.{IsWellFormed}
-use Rattle.pod_workers.specs.declared.plan.Plan.{Plan}
-use Rattle.pod_workers.specs.declared.plan.PlanError.{PlanError}
+use Rattle.pod_file.specs.{PodFile.pods_of, WellFormed.IsWellFormedPods, declared.pods.Pods.Pods}
+use Rattle.pod_workers.specs.{Join.{joined, plan_unless, refusal_of}, Laws.JoinedPlansAreWellFormed, Plans.IsWellFormed}
+use Rattle.pod_workers.specs.declared.plan.{Plan.Plan, PlanError.PlanError}
 use Rattle.tool_plan.specs.Causes.{IsReadPods}
 
 abbrev pub PodsLaw : Type 0

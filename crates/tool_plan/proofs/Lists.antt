@@ -1,12 +1,12 @@
 -- Lists that are read one after another.
-use Rattle.std.proofs.Common.{◌≡◌, ◌∙◌, ◌<◌, ◌≤◌, ℕ, List, [], ◌∷◌, ◌++◌, refl, sym, ap, subst, append-nil, append_assoc, Ok, Err, IsOk, length, drop, take, ◌+◌, Option}
+use Rattle.std.proofs.Common.{◌≡◌, ◌∙◌, ◌<◌, ◌≤◌, ℕ, List, [], ◌∷◌, ◌++◌, refl, sym, ap, subst, append-nil}
+use Rattle.std.proofs.{Common.{append_assoc, Ok, Err, IsOk, length, drop, take, ◌+◌, Option}, lemmas.List.drop_more}
+use Rattle.std.proofs.lemmas.List.{take-append-drop, take_all, take_more}
 use Rattle.std.specs.List.{slice_index_or}
-use Rattle.std.proofs.lemmas.List.{drop_more, take-append-drop, take_all, take_more}
 use Rattle.cni_io.specs.Files.{StoredFiles}
 use Rattle.cni_json.specs.Outcome.{◌>>=◌}
 use Rattle.plugin_requests.specs.Raw.{RawView}
-use Rattle.tool_plan.specs.Causes.{GivesStored, ReachesList, WhereTold}
-use Rattle.tool_plan.specs.Verdict.{Judged, stored_list, stored_lists}
+use Rattle.tool_plan.specs.{Causes.{GivesStored, ReachesList, WhereTold}, Verdict.{Judged, stored_list, stored_lists}}
 use Rattle.tool_plan.specs.declared.plan.NoPlan.{NoPlan}
 use Rattle.tool_plan.proofs.Steps.{stops}
 

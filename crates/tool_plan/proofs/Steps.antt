@@ -1,9 +1,7 @@
 -- Steps of reading that go on from one another.
 use Rattle.std.proofs.Common.{◌≡◌, ◌∙◌, ◌≤◌, ℕ, List, Option, Err}
 use Rattle.cni_io.specs.Files.{StoredFiles}
-use Rattle.tool_plan.specs.Causes.{GivesStored, WhereTold}
-use Rattle.tool_plan.specs.Verdict.{Judged}
-use Rattle.tool_plan.specs.declared.plan.NoPlan.{NoPlan}
+use Rattle.tool_plan.specs.{Causes.{GivesStored, WhereTold}, Verdict.Judged, declared.plan.NoPlan.NoPlan}
 use Rattle.tool_plan.specs.declared.plan.NoPlan.TheVariants.{Usage, Line, Unread, NoMemory}
 use Rattle.cni_io.proofs.Counts.{Rose-from_start}
 

@@ -1,12 +1,8 @@
 -- How a step of reading ends with a line.
 use Rattle.std.proofs.Common.{◌≡◌, ℕ, List, Option, Some, Err, refl, sym, ap, ◌∙◌}
-use Rattle.std.specs.Prelude.{Vec}
-use Rattle.std.specs.declared.alloc.Global.{Global}
-use Rattle.cni_io.specs.Failures.{Rose}
-use Rattle.cni_io.specs.Files.{StoredFiles}
-use Rattle.tool_plan.specs.Causes.{GivesJudged, GivesStored}
-use Rattle.tool_plan.specs.Lines.{unread_line}
-use Rattle.tool_plan.specs.Verdict.{Judged}
+use Rattle.std.specs.{Prelude.Vec, declared.alloc.Global.Global}
+use Rattle.cni_io.specs.{Failures.Rose, Files.StoredFiles}
+use Rattle.tool_plan.specs.{Causes.{GivesJudged, GivesStored}, Lines.unread_line, Verdict.Judged}
 use Rattle.tool_plan.specs.declared.plan.NoPlan.TheVariants.{Line, Unread}
 
 -- the line that is defined

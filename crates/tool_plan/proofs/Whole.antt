@@ -1,7 +1,6 @@
 -- A line on a file has no number but those of its error.
 use Rattle.std.proofs.Common.{◌≡◌, ℕ, List, false}
-use Rattle.serde_json.specs.Data.{Data}
-use Rattle.serde_json.specs.Written.{has_float}
+use Rattle.serde_json.specs.{Data.Data, Written.has_float}
 use Rattle.cni_result.proofs.WholeNumbers.{puts_are_whole}
 use Rattle.tool_plan.specs.Lines.{file_data}
 

@@ -1,18 +1,10 @@
 -- What a step of reading gives, and why it gives nothing.
 use Rattle.std.specs.Prelude.{◌≡◌, ◌⊎◌, ℕ, List, [], ◌∷◌, ◌++◌, Option, Some, option_to_list, Result, Ok, Err, IsOk, ⊤}
-use Rattle.cni_io.specs.Failures.{Rose}
-use Rattle.cni_io.specs.Files.{StoredFiles}
-use Rattle.pod_file.specs.PodFile.{pods_of}
-use Rattle.pod_file.specs.declared.pods.Pods.{Pods}
-use Rattle.tool_words.specs.declared.source.Named.{Named}
-use Rattle.tool_words.specs.declared.source.Source.{Source}
-use Rattle.tool_words.specs.declared.source.Source.TheVariants.{Files, Generated}
-use Rattle.tool_plan.specs.Lines.{unread_line}
-use Rattle.tool_plan.specs.Seen.{FilesSeen}
-use Rattle.tool_plan.specs.Verdict.{Judged, input_of, stored_lists, stored_pods}
-use Rattle.tool_plan.specs.declared.plan.Input.{Input}
-use Rattle.tool_plan.specs.declared.plan.NoPlan.{NoPlan}
-use Rattle.tool_plan.specs.declared.plan.NoPlan.TheVariants.{Usage, Line, Unread, NoMemory}
+use Rattle.cni_io.specs.{Failures.Rose, Files.StoredFiles}
+use Rattle.pod_file.specs.{PodFile.pods_of, declared.pods.Pods.Pods}
+use Rattle.tool_words.specs.declared.source.{Named.Named, Source.{Source, TheVariants.{Files, Generated}}}
+use Rattle.tool_plan.specs.{Lines.unread_line, Seen.FilesSeen, Verdict.{Judged, input_of, stored_lists, stored_pods}}
+use Rattle.tool_plan.specs.declared.plan.{Input.Input, NoPlan.{NoPlan, TheVariants.{Usage, Line, Unread, NoMemory}}}
 
 -- this holds of the files, where they are told
 abbrev pub WhereTold : Option StoredFiles → (StoredFiles → Type 0) → Type 0

@@ -2,13 +2,9 @@
 use Rattle.std.specs.Prelude.{◌≡◌, ◌≤◌, ◌⊎◌, ℕ, List, [], Some, None, Result, Ok, Err, ⊤}
 use Rattle.cni_io.specs.Files.{StoredFiles}
 use Rattle.pod_workers.specs.Plans.{IsWellFormed}
-use Rattle.tool_words.specs.Words.{words_given}
-use Rattle.tool_words.specs.declared.words.Words.{Words}
-use Rattle.tool_plan.specs.Causes.{IsUnread, ReachesFile, files_named}
-use Rattle.tool_plan.specs.Seen.{FilesSeen}
-use Rattle.tool_plan.specs.Verdict.{IsAskedBy, Verdict, carry, line, verdict_of}
-use Rattle.tool_plan.specs.declared.due.Due.{Due}
-use Rattle.tool_plan.specs.declared.plan.NoPlan.{NoPlan}
+use Rattle.tool_words.specs.{Words.words_given, declared.words.Words.Words}
+use Rattle.tool_plan.specs.{Causes.{IsUnread, ReachesFile, files_named}, Seen.FilesSeen, Verdict.{IsAskedBy, Verdict}}
+use Rattle.tool_plan.specs.{Verdict.{carry, line, verdict_of}, declared.{due.Due.Due, plan.NoPlan.NoPlan}}
 use Rattle.tool_plan.specs.declared.plan.NoPlan.TheVariants.{Usage, Line, Unread, NoMemory}
 
 -- the words are taken, and name no file, since they ask for generated pods

@@ -1,10 +1,8 @@
 -- The lines that are written where there is no book.
 use Rattle.std.specs.Prelude.{ℕ, List, codes}
 use Rattle.serde_json.specs.Data.{Data, object, no_members, put}
-use Rattle.cni_json.specs.Json.{line_of}
-use Rattle.cni_json.specs.Members.{text_data, ◌▷◌}
-use Rattle.cni_result.specs.Results.{error_data}
-use Rattle.cni_result.specs.declared.error.CniError.{CniError}
+use Rattle.cni_json.specs.{Json.line_of, Members.{text_data, ◌▷◌}}
+use Rattle.cni_result.specs.{Results.error_data, declared.error.CniError.CniError}
 
 -- the words aren't taken
 abbrev pub usage_line : List ℕ

@@ -1,7 +1,6 @@
 -- What reading sees of its files.
 use Rattle.std.specs.Prelude.{ℕ, Option}
-use Rattle.cni_io.specs.Failures.{Rose}
-use Rattle.cni_io.specs.Files.{StoredFiles}
+use Rattle.cni_io.specs.{Failures.Rose, Files.StoredFiles}
 
 -- the files, where they are told, and the count of their failures before and now
 pub record FilesSeen : Type 0 where

@@ -1,31 +1,20 @@
 -- What words and files come to, before anything runs.
-use Rattle.std.specs.Prelude.{◌≡◌, ℕ, Bool, false, List, [], ◌∷◌, codes, map, Option, Some, None, option_map, Result, Ok, Err}
-use Rattle.std.specs.Bool.{then_some}
-use Rattle.cni_io.specs.Files.{StoredFiles, file_of}
-use Rattle.cni_io.specs.declared.files.FileFault.{FileFault}
+use Rattle.std.specs.{Bool.then_some, Prelude.{◌≡◌, ℕ, Bool, false, List, [], ◌∷◌, codes, map, Option, Some, None}}
+use Rattle.std.specs.Prelude.{option_map, Result, Ok, Err}
+use Rattle.cni_io.specs.{Files.{StoredFiles, file_of}, declared.files.FileFault.FileFault}
 use Rattle.cni_io.specs.declared.files.FileFault.TheVariants as fault
 use Rattle.cni_json.specs.Outcome.{◌>>=◌}
 use Rattle.cni_result.specs.declared.error.CniError.{CniError}
 use Rattle.plugin_requests.specs.Raw.{RawView, raw_of}
 use Rattle.net_conf.specs.declared.list.NetList.{NetList}
-use Rattle.packet_probe.specs.PacketFile.{packets_of}
-use Rattle.packet_probe.specs.declared.packet.Packet.{Packet}
-use Rattle.pod_file.specs.Generator.{generated}
-use Rattle.pod_file.specs.PodFile.{pods_of}
-use Rattle.pod_file.specs.declared.pods.Pods.{Pods}
-use Rattle.pod_text.specs.declared.asked.Asked.{Asked}
-use Rattle.pod_text.specs.declared.asked.CommandPart.{CommandPart}
-use Rattle.pod_text.specs.declared.asked.CommandPart.TheVariants.{Lines, Summary}
-use Rattle.pod_workers.specs.Join.{joined}
-use Rattle.pod_workers.specs.declared.plan.Plan.{Plan}
-use Rattle.tool_words.specs.Words.{words_given}
-use Rattle.tool_words.specs.declared.source.Named.{Named}
-use Rattle.tool_words.specs.declared.source.Source.{Source}
-use Rattle.tool_words.specs.declared.source.Source.TheVariants.{Files, Generated}
-use Rattle.tool_words.specs.declared.words.Words.{Words}
-use Rattle.tool_plan.specs.Lines.{reason_line, unread_line, error_line}
-use Rattle.tool_plan.specs.Refusals.{list_error, packets_error, pods_error, plan_error, blamed_file}
-use Rattle.tool_plan.specs.declared.plan.Input.{Input}
+use Rattle.packet_probe.specs.{PacketFile.packets_of, declared.packet.Packet.Packet}
+use Rattle.pod_file.specs.{Generator.generated, PodFile.pods_of, declared.pods.Pods.Pods}
+use Rattle.pod_text.specs.declared.asked.{Asked.Asked, CommandPart.{CommandPart, TheVariants.{Lines, Summary}}}
+use Rattle.pod_workers.specs.{Join.joined, declared.plan.Plan.Plan}
+use Rattle.tool_words.specs.{Words.words_given, declared.source.{Named.Named, Source.{Source, TheVariants.Files}}}
+use Rattle.tool_words.specs.declared.{source.Source.TheVariants.Generated, words.Words.Words}
+use Rattle.tool_plan.specs.{Lines.{reason_line, unread_line, error_line}, Refusals.{list_error, packets_error}}
+use Rattle.tool_plan.specs.{Refusals.{pods_error, plan_error, blamed_file}, declared.plan.Input.Input}
 
 -- a value, or the line that tells why there is none
 abbrev pub Judged : Type 0 → Type 0

@@ -2,18 +2,10 @@
 use Rattle.std.proofs.Common.{◌≡◌, ◌∙◌, ◌≤◌, ℕ, List, length, sym, ap, subst, Ok, Err, Result, IfOk}
 use Rattle.std.proofs.lemmas.Option.{same_Some}
 use Rattle.pod_text.specs.Lines.{text_of}
-use Rattle.pod_workers.specs.Legal.{Legal}
-use Rattle.pod_workers.specs.Order.{IsInFileOrder}
-use Rattle.pod_workers.specs.World.{World}
-use Rattle.pod_workers.specs.declared.plan.Plan.{Plan}
+use Rattle.pod_workers.specs.{Legal.Legal, Order.IsInFileOrder, World.World, declared.plan.Plan.Plan}
 use Rattle.tool_words.specs.declared.words.Words.{Words}
-use Rattle.tool_plan.specs.Dues.{IsDueOf}
-use Rattle.tool_plan.specs.Seen.{FilesSeen}
-use Rattle.tool_plan.specs.Verdict.{IsAskedBy, carry}
-use Rattle.tool_plan.specs.declared.due.Due.{Due}
-use Rattle.tool_run.specs.Reports.{CarriesOut, Settles}
-use Rattle.tool_run.specs.Runs.{AskForOneThread}
-use Rattle.tool_run.specs.declared.carry.CarriedOut.{CarriedOut}
+use Rattle.tool_plan.specs.{Dues.IsDueOf, Seen.FilesSeen, Verdict.{IsAskedBy, carry}, declared.due.Due.Due}
+use Rattle.tool_run.specs.{Reports.{CarriesOut, Settles}, Runs.AskForOneThread, declared.carry.CarriedOut.CarriedOut}
 
 -- what was due is what is to be reported
 pub settles_made : {K : Type 0} (words : List (List ℕ)) (files : FilesSeen) (due : Due) (made : CarriedOut K) → IsDueOf words files due → CarriesOut due made → Settles words files (Ok made)

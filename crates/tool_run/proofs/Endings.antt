@@ -1,41 +1,27 @@
 -- How a run ends, from what it was to report, and what follows of it.
-use Rattle.std.proofs.Common.{◌≡◌, ◌≢◌, ◌∙◌, ℕ, zero, suc, List, [], ◌∷◌, ◌++◌, refl, sym, ap, ap₂, subst, arith, inl, inr, Bool, true, cond, Option, Some, None, Result, Ok, Err, IfOk, IfSome, slice_get}
-use Rattle.std.specs.List.{list_any}
+use Rattle.std.proofs.Common.{◌≡◌, ◌≢◌, ◌∙◌, ℕ, zero, suc, List, [], ◌∷◌, ◌++◌, refl, sym, ap, ap₂, subst, arith, inl}
+use Rattle.std.proofs.Common.{inr, Bool, true, cond, Option, Some, None, Result, Ok, Err, IfOk, IfSome, slice_get}
 use Rattle.std.proofs.lemmas.Option.{none-some, same_Some}
+use Rattle.std.specs.List.{list_any}
 use Rattle.cni_io.specs.Files.{StoredFiles}
-use Rattle.cni_errors.specs.declared.answer.Answer.{Answer}
-use Rattle.cni_errors.specs.declared.answer.Answer.TheVariants.{OutOfMemory}
+use Rattle.cni_errors.specs.declared.answer.Answer.{Answer, TheVariants.OutOfMemory}
 use Rattle.packet_laws.specs.Packets.{EveryPacketGoesAsCached, PacketsGoAsCached}
 use Rattle.pod_laws.specs.Guaranteed.{EveryLegalHistoryIsGuaranteed, IsGuaranteed}
 use Rattle.plugin_requests.specs.Raw.{RawView}
 use Rattle.kernel_text.specs.Dump.{dump_of}
-use Rattle.pod_text.specs.Fates.{fates_from}
-use Rattle.pod_text.specs.Lines.{command_part, requests_asked, text_of, trace_lines, where_asked}
-use Rattle.pod_text.specs.Summary.{summary_data}
-use Rattle.pod_text.specs.declared.asked.Asked.{Asked}
-use Rattle.pod_text.specs.declared.asked.CommandPart.{CommandPart}
-use Rattle.pod_text.specs.declared.asked.CommandPart.TheVariants.{Lines, Summary}
-use Rattle.pod_text.specs.Statuses.{is_failure, is_out_of_memory, status_of}
-use Rattle.pod_workers.specs.Order.{IsDoneInFileOrder, IsInFileOrder, OneOutcome}
-use Rattle.pod_workers.specs.World.{World, host_of}
-use Rattle.pod_workers.specs.declared.plan.Entry.{Entry}
-use Rattle.pod_workers.specs.declared.plan.Plan.{Plan}
-use Rattle.tool_words.specs.declared.source.Source.{Source}
-use Rattle.tool_words.specs.declared.source.Source.TheVariants.{Files, Generated}
-use Rattle.tool_words.specs.declared.words.Words.{Words}
-use Rattle.tool_plan.specs.Causes.{ReachesFile, files_named}
-use Rattle.tool_plan.specs.Dues.{AreFiles, IsUnreadOf}
-use Rattle.tool_plan.specs.Lines.{usage_line}
-use Rattle.tool_plan.specs.Seen.{FilesSeen}
-use Rattle.tool_plan.specs.Verdict.{Verdict, carry, verdict_of}
-use Rattle.tool_plan.specs.declared.plan.NoPlan.{NoPlan}
+use Rattle.pod_text.specs.{Fates.fates_from, Lines.{command_part, requests_asked, text_of, trace_lines, where_asked}}
+use Rattle.pod_text.specs.{Statuses.{is_failure, is_out_of_memory, status_of}, Summary.summary_data}
+use Rattle.pod_text.specs.declared.asked.{Asked.Asked, CommandPart.{CommandPart, TheVariants.{Lines, Summary}}}
+use Rattle.pod_workers.specs.{Order.{IsDoneInFileOrder, IsInFileOrder, OneOutcome}, World.{World, host_of}}
+use Rattle.pod_workers.specs.declared.plan.{Entry.Entry, Plan.Plan}
+use Rattle.tool_words.specs.declared.{source.Source.{Source, TheVariants.{Files, Generated}}, words.Words.Words}
+use Rattle.tool_plan.specs.{Causes.{ReachesFile, files_named}, Dues.{AreFiles, IsUnreadOf}, Lines.usage_line}
+use Rattle.tool_plan.specs.{Seen.FilesSeen, Verdict.{Verdict, carry, verdict_of}, declared.plan.NoPlan.NoPlan}
 use Rattle.tool_plan.specs.declared.plan.NoPlan.TheVariants as no_plan
-use Rattle.tool_run.specs.Reports.{Reported, Reports, Settles}
-use Rattle.tool_run.specs.Runs.{IsRunOf}
-use Rattle.tool_run.specs.Seen.{SinkSeen}
-use Rattle.tool_run.specs.Statuses.{Ends, HasReadAll, IsCarriedOut, IsDetermined, IsReport, IsUndisturbed, ReportsWorld, Wrote, cut_short, of_book, of_failed_read, of_refusal, of_usage, out_of_memory, reported}
-use Rattle.tool_run.specs.declared.carry.CarriedOut.{CarriedOut}
-use Rattle.tool_run.specs.declared.top.Ended.{Ended}
+use Rattle.tool_run.specs.{Reports.{Reported, Reports, Settles}, Runs.IsRunOf, Seen.SinkSeen, Statuses.Ends}
+use Rattle.tool_run.specs.Statuses.{HasReadAll, IsCarriedOut, IsDetermined, IsReport, IsUndisturbed, ReportsWorld}
+use Rattle.tool_run.specs.Statuses.{Wrote, cut_short, of_book, of_failed_read, of_refusal, of_usage, out_of_memory}
+use Rattle.tool_run.specs.{Statuses.reported, declared.{carry.CarriedOut.CarriedOut, top.Ended.Ended}}
 
 -- ---- from what was to be reported to how it ends
 

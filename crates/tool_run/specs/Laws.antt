@@ -2,14 +2,10 @@
 use Rattle.std.specs.Prelude.{◌≡◌, ◌≢◌, ◌≤◌, ◌⊎◌, ℕ, List, [], ◌∷◌, length, Option, Some, None}
 use Rattle.cni_addr.specs.Lists.{IsAmong}
 use Rattle.cni_io.specs.Files.{StoredFiles}
-use Rattle.pod_workers.specs.Legal.{Legal}
-use Rattle.pod_workers.specs.World.{EachCommand, IsAnswered, World}
+use Rattle.pod_workers.specs.{Legal.Legal, World.{EachCommand, IsAnswered, World}}
 use Rattle.tool_words.specs.Words.{words_given}
-use Rattle.tool_plan.specs.Dues.{AreFiles}
-use Rattle.tool_plan.specs.Seen.{FilesSeen}
-use Rattle.tool_plan.specs.Verdict.{Verdict, usage, line, carry, verdict_of}
-use Rattle.tool_run.specs.Seen.{HasWriteFailure, SinkSeen}
-use Rattle.tool_run.specs.Statuses.{Ends, HasReadAll}
+use Rattle.tool_plan.specs.{Dues.AreFiles, Seen.FilesSeen, Verdict.{Verdict, usage, line, carry, verdict_of}}
+use Rattle.tool_run.specs.{Seen.{HasWriteFailure, SinkSeen}, Statuses.{Ends, HasReadAll}}
 
 -- a status that a run may have where words and files come to this
 abbrev pub IsStatusOf : Verdict → ℕ → Type 0

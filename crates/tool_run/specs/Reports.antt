@@ -1,19 +1,11 @@
 -- What is to be reported, and how a report ends.
 use Rattle.std.specs.Prelude.{◌≡◌, ◌≤◌, ◌⊎◌, ℕ, List, length, Some, None, Result, Ok, Err}
-use Rattle.pod_text.specs.Lines.{text_of}
-use Rattle.pod_text.specs.Statuses.{status_of}
-use Rattle.pod_text.specs.declared.asked.Asked.{Asked}
+use Rattle.pod_text.specs.{Lines.text_of, Statuses.status_of, declared.asked.Asked.Asked}
 use Rattle.pod_workers.specs.Legal.{Legal}
-use Rattle.tool_plan.specs.Dues.{ComesToNoPlan}
-use Rattle.tool_plan.specs.Lines.{usage_line}
-use Rattle.tool_plan.specs.Seen.{FilesSeen}
-use Rattle.tool_plan.specs.declared.due.Due.{Due}
-use Rattle.tool_plan.specs.declared.plan.NoPlan.{NoPlan}
-use Rattle.tool_plan.specs.declared.plan.NoPlan.TheVariants.{Usage, Line, Unread, NoMemory}
-use Rattle.tool_run.specs.Seen.{HasWriteFailure, SinkSeen}
-use Rattle.tool_run.specs.Statuses.{IsCarriedOut, Wrote, WrotePrefix, WroteNothing}
-use Rattle.tool_run.specs.declared.carry.CarriedOut.{CarriedOut}
-use Rattle.tool_run.specs.declared.top.Ended.{Ended}
+use Rattle.tool_plan.specs.{Dues.ComesToNoPlan, Lines.usage_line, Seen.FilesSeen, declared.due.Due.Due}
+use Rattle.tool_plan.specs.declared.plan.NoPlan.{NoPlan, TheVariants.{Usage, Line, Unread, NoMemory}}
+use Rattle.tool_run.specs.{Seen.{HasWriteFailure, SinkSeen}, Statuses.{IsCarriedOut, Wrote, WrotePrefix, WroteNothing}}
+use Rattle.tool_run.specs.declared.{carry.CarriedOut.CarriedOut, top.Ended.Ended}
 
 -- ---- before it is reported
 

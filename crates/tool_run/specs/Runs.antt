@@ -2,13 +2,10 @@
 use Rattle.std.specs.Prelude.{◌≡◌, ℕ, List, Option, Some, IfSome}
 use Rattle.packet_laws.specs.Packets.{PacketsGoAsCached}
 use Rattle.pod_laws.specs.Guaranteed.{IsGuaranteed}
-use Rattle.pod_workers.specs.Order.{IsInFileOrder}
-use Rattle.pod_workers.specs.World.{World}
-use Rattle.tool_words.specs.Words.{words_given}
-use Rattle.tool_words.specs.declared.words.Words.{Words}
+use Rattle.pod_workers.specs.{Order.IsInFileOrder, World.World}
+use Rattle.tool_words.specs.{Words.words_given, declared.words.Words.Words}
 use Rattle.tool_plan.specs.Seen.{FilesSeen}
-use Rattle.tool_run.specs.Seen.{SinkSeen}
-use Rattle.tool_run.specs.Statuses.{Ends, IsDetermined}
+use Rattle.tool_run.specs.{Seen.SinkSeen, Statuses.{Ends, IsDetermined}}
 
 -- the words are taken, and ask for one thread
 abbrev pub AskForOneThread : List (List ℕ) → Type 0

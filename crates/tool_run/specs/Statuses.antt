@@ -1,19 +1,12 @@
 -- How a run ends: what is written, with which status, and why.
-use Rattle.std.specs.Prelude.{◌≡◌, ◌≢◌, ◌≤◌, ◌⊎◌, ℕ, List, length, take, Option, Some, None}
-use Rattle.std.specs.Io.KnownBytes.{append_known}
+use Rattle.std.specs.{Io.KnownBytes.append_known, Prelude.{◌≡◌, ◌≢◌, ◌≤◌, ◌⊎◌, ℕ, List, length, take, Option, Some}}
+use Rattle.std.specs.Prelude.{None}
 use Rattle.cni_io.specs.Files.{StoredFiles}
-use Rattle.pod_text.specs.Lines.{text_of}
-use Rattle.pod_text.specs.Statuses.{status_of}
-use Rattle.pod_text.specs.declared.asked.Asked.{Asked}
-use Rattle.pod_workers.specs.Legal.{Legal}
-use Rattle.pod_workers.specs.Order.{IsDoneInFileOrder}
-use Rattle.pod_workers.specs.World.{World}
-use Rattle.tool_words.specs.Words.{words_given}
-use Rattle.tool_words.specs.declared.words.Words.{Words}
-use Rattle.tool_plan.specs.Dues.{AreFiles, ComesTo, IsRefusal, IsUnreadOf, NameNoFile}
-use Rattle.tool_plan.specs.Lines.{usage_line}
-use Rattle.tool_plan.specs.Seen.{FilesSeen, HasReadFailure}
-use Rattle.tool_plan.specs.Verdict.{IsAskedBy, carry}
+use Rattle.pod_text.specs.{Lines.text_of, Statuses.status_of, declared.asked.Asked.Asked}
+use Rattle.pod_workers.specs.{Legal.Legal, Order.IsDoneInFileOrder, World.World}
+use Rattle.tool_words.specs.{Words.words_given, declared.words.Words.Words}
+use Rattle.tool_plan.specs.{Dues.{AreFiles, ComesTo, IsRefusal, IsUnreadOf, NameNoFile}, Lines.usage_line}
+use Rattle.tool_plan.specs.{Seen.{FilesSeen, HasReadFailure}, Verdict.{IsAskedBy, carry}}
 use Rattle.tool_run.specs.Seen.{HasWriteFailure, SinkSeen}
 
 -- ---- what is written

@@ -1,18 +1,13 @@
 -- The command, an argument at a time, and what it makes of the words.
-use Rattle.std.proofs.Common.{◌≡◌, List, [], ◌∷◌, true, false, refl, sym, ap, ap₂, ◌∙◌, inl, inr, arith, ne_eqb, codes, Some}
-use Rattle.clap.specs.Walk.{Rule, Text, is_empty, rows_of, all_of, first_of}
-use Rattle.clap.specs.Matches.{found_of}
-use Rattle.clap.specs.Values.{kind_of}
-use Rattle.clap.specs.Kinds.{Kinds, IsAmong, HasKind}
-use Rattle.clap.specs.declared.error.Error.{Error}
-use Rattle.clap.specs.declared.error.kind.ErrorKind.{ErrorKind}
-use Rattle.clap.specs.declared.error.kind.ErrorKind.TheVariants.{OutOfMemory, ValueValidation, MissingRequiredArgument, ArgumentConflict}
+use Rattle.std.proofs.Common.{◌≡◌, List, [], ◌∷◌, true, false, refl, sym, ap, ap₂, ◌∙◌, inl, inr, arith, ne_eqb, codes}
+use Rattle.std.proofs.Common.{Some}
+use Rattle.clap.specs.{Built.AddsArg, Faults.{is_simple_and_free, fault_of}, Kinds.{Kinds, IsAmong, HasKind}}
+use Rattle.clap.specs.{Matches.found_of, Simple.{App, app_of, with_rule, is_simple, matches_of, HasMatchesOf}}
+use Rattle.clap.specs.{Values.kind_of, Walk.{Rule, Text, is_empty, rows_of, all_of, first_of}}
+use Rattle.clap.specs.declared.{builder.{arg.Arg.Arg, command.Command.Command}, error.Error.Error}
+use Rattle.clap.specs.declared.error.kind.ErrorKind.{ErrorKind, TheVariants.{OutOfMemory, ValueValidation}}
+use Rattle.clap.specs.declared.error.kind.ErrorKind.TheVariants.{MissingRequiredArgument, ArgumentConflict}
 use Rattle.clap.specs.declared.parser.matches.ArgMatches.{ArgMatches}
-use Rattle.clap.specs.Simple.{App, app_of, with_rule, is_simple, matches_of, HasMatchesOf}
-use Rattle.clap.specs.Faults.{is_simple_and_free, fault_of}
-use Rattle.clap.specs.Built.{AddsArg}
-use Rattle.clap.specs.declared.builder.arg.Arg.{Arg}
-use Rattle.clap.specs.declared.builder.command.Command.{Command}
 use Rattle.clap.proofs.OnLiterals.{clap_on_literals}
 use Rattle.tool_words.specs.Command.{the_app, IsArg, clap_takes, rows}
 

@@ -1,19 +1,15 @@
 -- The number of pods that a text spells, and what `parse` makes of the text.
-use Rattle.std.proofs.Common.{◌≡◌, ◌≢◌, ◌∙◌, ℕ, ◌<◌, ◌≤◌, ◌^◌, Bool, true, false, codes, if◌then◌else◌, List, drop, length, nat_le, get_or, Option, Some, None, option_map, decimal, refl, sym, ap, subst, inl, inr, arith}
-use Rattle.std.specs.Str.Parse.{IsNumeral, digits_value, without_leading_plus}
-use Rattle.std.proofs.NetLemmas.Options.{cond_some}
-use Rattle.std.proofs.lemmas.Bool.{and_parts, cases_order}
-use Rattle.std.proofs.lemmas.Bool.Decides.{nat_tests}
-use Rattle.std.proofs.lemmas.Fmt.{decimal-digits_value, decimal_digit, decimal_is_IsNumeral, first_decimal}
-use Rattle.std.proofs.lemmas.Option.{none-some, same_Some}
-use Rattle.std.proofs.lemmas.Slice.Eq.{bytes_eq-Decides}
+use Rattle.std.proofs.Common.{◌≡◌, ◌≢◌, ◌∙◌, ℕ, ◌<◌, ◌≤◌, ◌^◌, Bool, true, false, codes, if◌then◌else◌, List, drop}
+use Rattle.std.proofs.Common.{length, nat_le, get_or, Option, Some, None, option_map, decimal, refl, sym, ap, subst}
+use Rattle.std.proofs.{Common.{inl, inr, arith}, NetLemmas.Options.cond_some, lemmas.Bool.{and_parts, cases_order}}
+use Rattle.std.proofs.lemmas.{Bool.Decides.nat_tests, Fmt.{decimal-digits_value, decimal_digit, decimal_is_IsNumeral}}
+use Rattle.std.proofs.lemmas.{Fmt.first_decimal, Option.{none-some, same_Some}, Slice.Eq.bytes_eq-Decides}
 use Rattle.std.proofs.lemmas.Str.Parse.{digit_at, numerals_by_value, tells_digits, without_leading_plus_none}
+use Rattle.std.specs.Str.Parse.{IsNumeral, digits_value, without_leading_plus}
 use Rattle.clap.specs.Walk.{Text}
-use Rattle.tool_words.specs.Command.{most_lists, most_pods}
-use Rattle.tool_words.specs.Source.{IsSourceWithin, IsStopWithin, asks_generator, begins_plainly, count_of, files_of, generated_of, is_alone, is_count, source_of}
-use Rattle.tool_words.specs.declared.source.Named.{Named}
-use Rattle.tool_words.specs.declared.source.Source.{Source}
-use Rattle.tool_words.specs.declared.source.Source.TheVariants.{Files, Generated}
+use Rattle.tool_words.specs.{Command.{most_lists, most_pods}, Source.{IsSourceWithin, IsStopWithin, asks_generator}}
+use Rattle.tool_words.specs.Source.{begins_plainly, count_of, files_of, generated_of, is_alone, is_count, source_of}
+use Rattle.tool_words.specs.declared.source.{Named.Named, Source.{Source, TheVariants.{Files, Generated}}}
 
 none_of : {A : Type 0} (o : Option A) → ((x : A) → o ≡ Some x → ⊥) → None ≡ o
 none_of None apart = refl

@@ -1,34 +1,20 @@
 -- The values that a parse gives have passed the parsers of their arguments.
-use Rattle.std.proofs.Common.{◌≡◌, ◌∙◌, ◌<◌, ◌&&◌, ℕ, Bool, true, false, not, true≢false, zero, suc, refl, sym, ap, subst, arith, inl, inr, List, [], ◌∷◌, length, map, Option, Some, None, option_map, option_and_then, slice_get, codes}
-use Rattle.std.specs.Borrow.{Bor}
-use Rattle.std.specs.List.{All, list_all, list_any, slice_index_or}
-use Rattle.std.specs.Str.{bytes_eq}
-use Rattle.std.proofs.Math.ListN.{get_or-map}
-use Rattle.std.proofs.lemmas.Bool.Decides.{not_from_Decides}
-use Rattle.std.proofs.lemmas.List.{length-map}
-use Rattle.std.proofs.lemmas.List.Elements.{All-get_or}
-use Rattle.std.proofs.lemmas.List.Folds.{list_all_at, list_any_at}
-use Rattle.std.proofs.lemmas.Option.{get_or_from_slice_get, slice_get_within}
+use Rattle.std.proofs.Common.{◌≡◌, ◌∙◌, ◌<◌, ◌&&◌, ℕ, Bool, true, false, not, true≢false, zero, suc, refl, sym, ap}
+use Rattle.std.proofs.Common.{subst, arith, inl, inr, List, [], ◌∷◌, length, map, Option, Some, None, option_map}
+use Rattle.std.proofs.{Common.{option_and_then, slice_get, codes}, Math.ListN.get_or-map}
+use Rattle.std.proofs.lemmas.{Bool.Decides.not_from_Decides, List.{length-map, Elements.All-get_or, Folds.list_all_at}}
+use Rattle.std.proofs.lemmas.{List.Folds.list_any_at, Option.{get_or_from_slice_get, slice_get_within}}
 use Rattle.std.proofs.lemmas.Slice.Eq.{bytes_eq-Decides}
+use Rattle.std.specs.{Borrow.Bor, List.{All, list_all, list_any, slice_index_or}, Str.bytes_eq}
 use Rattle.cni_addr.specs.Lists.{distinct}
-use Rattle.clap.specs.Built.{IsParsedFrom, IsPlain, IsPlainArg, SameRules}
-use Rattle.clap.specs.Facts.{Entry, EntryPasses, PassesArg, args_of, parser_of, parser_of_value}
-use Rattle.clap.specs.Matches.{found_of, matched_of}
-use Rattle.clap.specs.Simple.{app_of}
-use Rattle.clap.specs.Values.{Accepts, read_as, reading_of}
-use Rattle.clap.specs.Walk.{Rule, Text, is_free_arg, is_simple_arg, rule_of}
-use Rattle.clap.specs.declared.builder.arg.Arg.{Arg}
-use Rattle.clap.specs.declared.builder.command.Command.{Command}
-use Rattle.clap.specs.declared.builder.command.Command.TheViews.{out-Command}
-use Rattle.clap.specs.declared.builder.value_parser.ValueParser.{ValueParser}
-use Rattle.clap.specs.declared.builder.value_parser.Reading.{Reading}
-use Rattle.clap.specs.declared.parser.matches.ArgMatches.{ArgMatches}
-use Rattle.clap.specs.declared.parser.matches.MatchedArg.{MatchedArg}
-use Rattle.clap.proofs.CallerLemmas.{entry_by_id, same_rules_by_id}
-use Rattle.clap.proofs.SimpleLemmas.{is_false, is_nil}
-use Rattle.clap.proofs.WalkLemmas.{both}
-use Rattle.tool_words.specs.Command.{the_app, the_rules}
-use Rattle.tool_words.specs.Parse.{Passes}
+use Rattle.clap.specs.{Built.{IsParsedFrom, IsPlain, IsPlainArg, SameRules}, Facts.{Entry, EntryPasses, PassesArg}}
+use Rattle.clap.specs.{Facts.{args_of, parser_of, parser_of_value}, Matches.{found_of, matched_of}, Simple.app_of}
+use Rattle.clap.specs.{Values.{Accepts, read_as, reading_of}, Walk.{Rule, Text, is_free_arg, is_simple_arg, rule_of}}
+use Rattle.clap.specs.declared.builder.{arg.Arg.Arg, command.Command.{Command, TheViews.out-Command}}
+use Rattle.clap.specs.declared.builder.value_parser.{Reading.Reading, ValueParser.ValueParser}
+use Rattle.clap.specs.declared.parser.matches.{ArgMatches.ArgMatches, MatchedArg.MatchedArg}
+use Rattle.clap.proofs.{CallerLemmas.{entry_by_id, same_rules_by_id}, SimpleLemmas.{is_false, is_nil}, WalkLemmas.both}
+use Rattle.tool_words.specs.{Command.{the_app, the_rules}, Parse.Passes}
 
 -- ---- the arguments of the command, by their rules
 

@@ -1,20 +1,11 @@
 -- What a number that passed its range is read as, and a flag.
-use Rattle.std.proofs.Common.{◌≡◌, ◌<◌, ◌≤◌, ◌^◌, ◌||◌, ℕ, Bool, true, false, refl, sym, ap, subst, Option, Some, None, Result, option_map, IfSome, codes}
-use Rattle.std.specs.Option.{option_map_or}
-use Rattle.std.specs.Str.{bytes_eq}
-use Rattle.std.proofs.lemmas.Slice.Eq.{bytes_eq-Decides}
-use Rattle.std.specs.Str.Parse.{ParsesUnsigned, HasUnsignedDigitsIfOk}
-use Rattle.std.specs.Prelude.{pos}
-use Rattle.clap.specs.Lexer.{without_minus}
-use Rattle.clap.specs.Matches.{ReadsOne, found_of, one_text}
-use Rattle.clap.specs.Values.{IsSignedIn}
-use Rattle.clap.specs.Walk.{Text, rows_of}
-use Rattle.clap.specs.declared.parser.matches.ArgMatches.{ArgMatches}
-use Rattle.clap.proofs.CallerReads.{signed_reads}
-use Rattle.clap.proofs.WalkLemmas.{one_text-rows}
-use Rattle.tool_words.specs.Command.{counts_to}
-use Rattle.tool_words.specs.Parse.{Passes}
-use Rattle.tool_words.specs.Words.{number_at, number_of}
+use Rattle.std.proofs.Common.{◌≡◌, ◌<◌, ◌≤◌, ◌^◌, ◌||◌, ℕ, Bool, true, false, refl, sym, ap, subst, Option, Some, None}
+use Rattle.std.proofs.{Common.{Result, option_map, IfSome, codes}, lemmas.Slice.Eq.bytes_eq-Decides}
+use Rattle.std.specs.{Option.option_map_or, Prelude.pos, Str.{bytes_eq, Parse.{ParsesUnsigned, HasUnsignedDigitsIfOk}}}
+use Rattle.clap.specs.{Lexer.without_minus, Matches.{ReadsOne, found_of, one_text}, Values.IsSignedIn, Walk.Text}
+use Rattle.clap.specs.{Walk.rows_of, declared.parser.matches.ArgMatches.ArgMatches}
+use Rattle.clap.proofs.{CallerReads.signed_reads, WalkLemmas.one_text-rows}
+use Rattle.tool_words.specs.{Command.counts_to, Parse.Passes, Words.{number_at, number_of}}
 
 abbrev IsRead : ℕ → Option Text → Option ℕ → Type 0
 IsRead most o r = (r ≡ option_map number_of o) × IfSome r (λ n. (1 ≤ n) × (n ≤ most))

@@ -1,16 +1,9 @@
 -- What the words say, by a parse of them.
 use Rattle.std.proofs.Common.{◌≡◌, ◌∙◌, ap, refl, sym, ℕ, List, Option, Some, option_map, Err}
-use Rattle.clap.specs.Matches.{found_of}
-use Rattle.clap.specs.Walk.{Text, first_of, rows_of}
-use Rattle.clap.specs.declared.parser.matches.ArgMatches.{ArgMatches}
-use Rattle.tool_words.specs.Command.{pods_word}
-use Rattle.tool_words.specs.Parse.{IsParseOf, Parses}
-use Rattle.tool_words.specs.Source.{source_of}
-use Rattle.tool_words.specs.Words.{Reads, named_in, words_given, words_if, words_in}
-use Rattle.tool_words.specs.declared.source.Named.{Named}
-use Rattle.tool_words.specs.declared.source.Source.{Source}
-use Rattle.tool_words.specs.declared.words.WordsEnd.{WordsEnd}
-use Rattle.tool_words.specs.declared.words.WordsEnd.TheVariants.{Usage, NoMemory}
+use Rattle.clap.specs.{Matches.found_of, Walk.{Text, first_of, rows_of}, declared.parser.matches.ArgMatches.ArgMatches}
+use Rattle.tool_words.specs.{Command.pods_word, Parse.{IsParseOf, Parses}, Source.source_of, Words.{Reads, named_in}}
+use Rattle.tool_words.specs.{Words.{words_given, words_if, words_in}, declared.source.{Named.Named, Source.Source}}
+use Rattle.tool_words.specs.declared.words.WordsEnd.{WordsEnd, TheVariants.{Usage, NoMemory}}
 
 pub refused : (words : List (List ℕ)) (end : WordsEnd) → Parses words (Err end) → Reads (words_given words) (Err end)
 unfolding words_given

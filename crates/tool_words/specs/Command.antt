@@ -1,12 +1,8 @@
 -- The command line as clap takes it: options, flags, PODS and LISTs.
 use Rattle.std.specs.Prelude.{◌≡◌, Bool, List, [], ◌∷◌, ℕ, codes, pos, true, false, Some}
-use Rattle.clap.specs.Lexer.{usize_max}
-use Rattle.clap.specs.Walk.{Rule, Row, Text, rule_of, is_empty}
-use Rattle.clap.specs.Simple.{App, new_app, new_rule, on_top, matches_of}
-use Rattle.clap.specs.Faults.{fault_of}
-use Rattle.clap.specs.declared.builder.action.ArgAction.TheVariants.{SetTrue}
-use Rattle.clap.specs.declared.builder.arg.Arg.{Arg}
-use Rattle.clap.specs.declared.builder.value_parser.ValueParser.{ValueParser}
+use Rattle.clap.specs.{Faults.fault_of, Lexer.usize_max, Simple.{App, new_app, new_rule, on_top, matches_of}, Walk.Rule}
+use Rattle.clap.specs.{Walk.{Row, Text, rule_of, is_empty}, declared.builder.action.ArgAction.TheVariants.SetTrue}
+use Rattle.clap.specs.declared.builder.{arg.Arg.Arg, value_parser.ValueParser.ValueParser}
 use Rattle.clap.specs.declared.builder.value_parser.ValueParser.TheVariants as parser
 
 -- ---- what the command line calls its options, flags and words

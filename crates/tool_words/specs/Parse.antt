@@ -1,14 +1,11 @@
 -- What is known of a parse that succeeds.
 use Rattle.std.specs.Prelude.{◌≡◌, true, List, Some, Result, Ok, Err, false, ⊤}
-use Rattle.clap.specs.Matches.{found_of, one_text}
-use Rattle.clap.specs.Values.{Accepts, read_as, reading_of}
-use Rattle.clap.specs.Walk.{Text, rows_of}
-use Rattle.clap.specs.declared.builder.value_parser.ValueParser.{ValueParser}
+use Rattle.clap.specs.{Matches.{found_of, one_text}, Values.{Accepts, read_as, reading_of}, Walk.{Text, rows_of}}
+use Rattle.clap.specs.declared.{builder.value_parser.ValueParser.ValueParser, parser.matches.ArgMatches.ArgMatches}
 use Rattle.clap.specs.declared.builder.value_parser.ValueParser.TheVariants as parser
-use Rattle.clap.specs.declared.parser.matches.ArgMatches.{ArgMatches}
-use Rattle.tool_words.specs.Command.{clap_takes, rows, counts_to, most_threads, greatest_entry, threads_option, stop_at_option, trace_flag, dump_flag, requests_flag}
-use Rattle.tool_words.specs.declared.words.WordsEnd.{WordsEnd}
-use Rattle.tool_words.specs.declared.words.WordsEnd.TheVariants.{Usage, NoMemory}
+use Rattle.tool_words.specs.Command.{clap_takes, rows, counts_to, most_threads, greatest_entry, threads_option}
+use Rattle.tool_words.specs.Command.{stop_at_option, trace_flag, dump_flag, requests_flag}
+use Rattle.tool_words.specs.declared.words.WordsEnd.{WordsEnd, TheVariants.{Usage, NoMemory}}
 
 -- a value that the argument has passed its parser, and is read as the parser says
 abbrev pub Passes : ArgMatches → Text → ValueParser → Type 0

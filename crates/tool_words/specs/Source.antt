@@ -1,13 +1,10 @@
 -- Where the pods come from.
-use Rattle.std.specs.Prelude.{ℕ, ◌≤◌, ◌&&◌, Bool, nat_eq, nat_le, not, codes, decimal, drop, length, option_map, is_none, slice_index, if◌then◌else◌, Option, Some, None, IfSome}
-use Rattle.std.specs.List.{starts_with}
-use Rattle.std.specs.Str.{byte, bytes_eq}
-use Rattle.std.specs.Str.Parse.{digits_value}
+use Rattle.std.specs.{List.starts_with, Prelude.{ℕ, ◌≤◌, ◌&&◌, Bool, nat_eq, nat_le, not, codes, decimal, drop, length}}
+use Rattle.std.specs.{Prelude.{option_map, is_none, slice_index, if◌then◌else◌, Option, Some, None, IfSome}, Str.byte}
+use Rattle.std.specs.Str.{bytes_eq, Parse.digits_value}
 use Rattle.clap.specs.Walk.{Text, is_empty}
-use Rattle.tool_words.specs.Command.{greatest_entry, most_lists, most_pods}
-use Rattle.tool_words.specs.declared.source.Named.{Named}
-use Rattle.tool_words.specs.declared.source.Source.{Source}
-use Rattle.tool_words.specs.declared.source.Source.TheVariants.{Files, Generated}
+use Rattle.tool_words.specs.{Command.{greatest_entry, most_lists, most_pods}, declared.source.Named.Named}
+use Rattle.tool_words.specs.declared.source.Source.{Source, TheVariants.{Files, Generated}}
 
 -- PODS asks for generated pods
 abbrev pub asks_generator : Text → Bool

@@ -1,16 +1,12 @@
 -- What the words say.
-use Rattle.std.specs.Prelude.{◌≡◌, ℕ, ◌≤◌, Bool, false, List, [], unwrap_or, option_map, if◌then◌else◌, codes, Option, Some, None, Result, Ok, Err, ⊤}
-use Rattle.std.specs.Option.{option_map_or}
-use Rattle.std.specs.Str.{bytes_eq}
+use Rattle.std.specs.{Option.option_map_or, Prelude.{◌≡◌, ℕ, ◌≤◌, Bool, false, List, [], unwrap_or, option_map}}
+use Rattle.std.specs.{Prelude.{if◌then◌else◌, codes, Option, Some, None, Result, Ok, Err, ⊤}, Str.bytes_eq}
 use Rattle.std.specs.Str.Parse.{digits_value, without_leading_plus}
 use Rattle.clap.specs.Walk.{Row, Text, first_of, one_of, all_of}
-use Rattle.tool_words.specs.Command.{clap_takes, rows, most_threads, threads_option, stop_at_option, trace_flag, dump_flag, requests_flag, probe_option, pods_word, lists_word}
-use Rattle.tool_words.specs.Source.{IsSourceWithin, source_of}
-use Rattle.tool_words.specs.declared.source.Named.{Named}
-use Rattle.tool_words.specs.declared.source.Source.{Source}
-use Rattle.tool_words.specs.declared.words.Words.{Words}
-use Rattle.tool_words.specs.declared.words.WordsEnd.{WordsEnd}
-use Rattle.tool_words.specs.declared.words.WordsEnd.TheVariants.{Usage, NoMemory}
+use Rattle.tool_words.specs.Command.{clap_takes, rows, most_threads, threads_option, stop_at_option, trace_flag}
+use Rattle.tool_words.specs.Command.{dump_flag, requests_flag, probe_option, pods_word, lists_word}
+use Rattle.tool_words.specs.{Source.{IsSourceWithin, source_of}, declared.source.{Named.Named, Source.Source}}
+use Rattle.tool_words.specs.declared.words.{Words.Words, WordsEnd.{WordsEnd, TheVariants.{Usage, NoMemory}}}
 
 -- the number that decimal digits spell, perhaps behind a `+`
 abbrev pub number_of : Text → ℕ

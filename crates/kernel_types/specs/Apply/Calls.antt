@@ -1,17 +1,11 @@
 -- One equation a call: the host after it and the reply, on whole lists.
-use Rattle.std.specs.Prelude.{ℕ, Bool, true, false, not, ◌&&◌, ◌||◌, List, [], ◌∷◌, ◌++◌, map, filter, find, Option, Some, None, unwrap_or, if◌then◌else◌, codes}
-use Rattle.std.specs.List.{list_any, filter_map}
-use Rattle.std.specs.Option.{option_map, option_or}
-use Rattle.std.specs.Str.{bytes_eq}
-use Rattle.cni_addr.specs.declared.address.Addr.{Addr}
-use Rattle.cni_addr.specs.declared.address.Cidr.{Cidr}
-use Rattle.cni_addr.specs.declared.address.Family.{Family}
-use Rattle.cni_addr.specs.declared.address.Family.TheVariants.{V4, V6}
-use Rattle.cni_addr.specs.declared.mac.Mac.{Mac}
-use Rattle.cni_addr.specs.declared.range.RangeSet.{RangeSet}
+use Rattle.std.specs.{List.{list_any, filter_map}, Option.{option_map, option_or}, Prelude.{ℕ, Bool, true, false, not}}
+use Rattle.std.specs.Prelude.{◌&&◌, ◌||◌, List, [], ◌∷◌, ◌++◌, map, filter, find, Option, Some, None, unwrap_or}
+use Rattle.std.specs.{Prelude.{if◌then◌else◌, codes}, Str.bytes_eq}
+use Rattle.cni_addr.specs.{Lists.{each_key_once, without_first}, declared.address.{Addr.Addr, Cidr.Cidr, Family.Family}}
+use Rattle.cni_addr.specs.declared.{address.Family.TheVariants.{V4, V6}, mac.Mac.Mac, range.RangeSet.RangeSet}
 use Rattle.cni_result.specs.declared.cached.Cached.{Cached}
 use Rattle.kernel_types.specs.Equal.{att_eq, link_eq, addr_obj_eq, route_eq, rule_eq, setting_eq, lease_eq, table_eq}
-use Rattle.cni_addr.specs.Lists.{each_key_once, without_first}
 use Rattle.ip_pool.specs.Pool.{pick_of, has_free_of}
 use Rattle.link_names.specs.Names.{link_mac_of}
 pub use Rattle.kernel_types.specs.Keys.{is_same_addr, is_same_route, is_same_rule, is_same_setting}

@@ -1,66 +1,46 @@
 -- The bridge of a list is there from the moment when its plugin ensured it.
-use Rattle.std.proofs.Common.{◌≡◌, ◌≢◌, ℕ, ◌+◌, Bool, true, false, not, List, [], ◌∷◌, ◌++◌, length, Option, Some, None, slice_get, refl, sym, ◌∙◌, ap, subst, inl, inr, ◌⊎◌, arith}
-use Rattle.std.proofs.Math.Bool.{and-false, and-true}
-use Rattle.std.proofs.lemmas.Bool.{and_parts, both_ways, cases_Bool, false_from_ne_true}
-use Rattle.std.proofs.lemmas.Bool.Decides.{eqb_tells}
-use Rattle.std.proofs.lemmas.Slice.Eq.{bytes_eq-Decides}
-use Rattle.std.specs.Prelude.{find, ◌&&◌, if◌then◌else◌}
-use Rattle.std.specs.List.{list_any}
+use Rattle.std.proofs.Common.{◌≡◌, ◌≢◌, ℕ, ◌+◌, Bool, true, false, not, List, [], ◌∷◌, ◌++◌, length, Option, Some, None}
+use Rattle.std.proofs.{Common.{slice_get, refl, sym, ◌∙◌, ap, subst, inl, inr, ◌⊎◌, arith}, Math.Bool.and-false}
+use Rattle.std.proofs.{Math.Bool.and-true, lemmas.Bool.{and_parts, both_ways, cases_Bool, false_from_ne_true}}
+use Rattle.std.proofs.lemmas.{Bool.Decides.eqb_tells, Slice.Eq.bytes_eq-Decides}
+use Rattle.std.specs.{Cmp.Lexicographic.nat_list_eq_equiv, List.list_any, Prelude.{find, ◌&&◌, if◌then◌else◌}}
 use Rattle.std.specs.Str.{bytes_eq}
-use Rattle.std.specs.Cmp.Lexicographic.{nat_list_eq_equiv}
-use Rattle.cni_addr.specs.declared.address.Addr.{Addr}
-use Rattle.cni_addr.specs.declared.range.RangeSet.{RangeSet}
-use Rattle.net_conf.specs.declared.first.First.{First}
-use Rattle.net_conf.specs.declared.list.NetList.{NetList}
+use Rattle.cni_addr.specs.declared.{address.Addr.Addr, range.RangeSet.RangeSet}
+use Rattle.net_conf.specs.declared.{first.First.First, list.NetList.NetList}
 use Rattle.pod_file.specs.declared.command.Command.{Command}
-use Rattle.kernel_types.specs.Allowed.{IsAllowed}
-use Rattle.kernel_types.specs.Apply.{apply}
-use Rattle.kernel_types.specs.Apply.Calls.{bridge_or_new, new_bridge, master_is_bridge_or_none}
-use Rattle.kernel_types.specs.Isolation.{ensures_shared, is_from_outside}
-use Rattle.kernel_types.specs.Sound.{IsSound, link_fits_tag}
-use Rattle.kernel_types.specs.Terms.{is_bridge, is_host_bridge, is_host_link, is_owned, has_host_bridge}
-use Rattle.kernel_types.proofs.EveryCall.{Touches-apply}
-use Rattle.kernel_types.proofs.Isolation.{KeepsUnowned-Touches}
+use Rattle.kernel_types.specs.{Allowed.IsAllowed, Apply.{apply, Calls.{bridge_or_new, new_bridge}}}
+use Rattle.kernel_types.specs.{Apply.Calls.master_is_bridge_or_none, Isolation.{ensures_shared, is_from_outside}}
+use Rattle.kernel_types.specs.{Sound.{IsSound, link_fits_tag}, Terms.{is_bridge, is_host_bridge, is_host_link}}
+use Rattle.kernel_types.specs.{Terms.{is_owned, has_host_bridge}, declared.call.Call.{Call, TheVariants.BridgeEnsure}}
+use Rattle.kernel_types.specs.declared.call.Call.TheVariants.{GatewayEnsure, ForwardEnsure, NsChange, Outside}
+use Rattle.kernel_types.specs.declared.{call.{Kind.Kind, Reply.{Reply, TheVariants.{Done, Taken}}}, object.Att.Att}
+use Rattle.kernel_types.specs.declared.object.{Host.Host, Link.Link, Tag.Tag}
+use Rattle.kernel_types.proofs.{EveryCall.Touches-apply, Isolation.KeepsUnowned-Touches}
 use Rattle.kernel_types.proofs.ListLemmas.{list_any-append_left, list_any-append_right, list_any-kept, passes-find}
 use Rattle.kernel_types.proofs.TouchRemoval.{owned_no_bridge}
-use Rattle.kernel_types.specs.declared.object.Att.{Att}
-use Rattle.kernel_types.specs.declared.object.Host.{Host}
-use Rattle.kernel_types.specs.declared.object.Link.{Link}
-use Rattle.kernel_types.specs.declared.object.Tag.{Tag}
 use Rattle.kernel_types.specs.declared.object.Tag.TheVariants as tags
-use Rattle.kernel_types.specs.declared.call.Kind.{Kind}
 use Rattle.kernel_types.specs.declared.call.Kind.TheVariants as kinds
-use Rattle.kernel_types.specs.declared.call.Call.{Call}
-use Rattle.kernel_types.specs.declared.call.Call.TheVariants.{BridgeEnsure, GatewayEnsure, ForwardEnsure, NsChange, Outside}
-use Rattle.kernel_types.specs.declared.call.Reply.{Reply}
-use Rattle.kernel_types.specs.declared.call.Reply.TheVariants.{Done, Taken}
 use Rattle.gc_sweep.proofs.Lists.{any-found}
-use Rattle.plugin_base.specs.Calls.{is_call_of}
-use Rattle.plugin_base.specs.PluginCalls.{ensures_bridge, is_ensured}
-use Rattle.cni_errors.specs.CommandFields.{att_of}
-use Rattle.cni_verbs.specs.Script.{State, AtBegin, BeforeLeases, Leasing, AfterLeases, ReadingCache, Deleting, FindingEntry, Asking, Changing, Collecting, Over, Calls, before_of, back_of, after_leases, leasing, before_leases, deleting, at_call_before, advance, turn}
+use Rattle.plugin_base.specs.{Calls.is_call_of, PluginCalls.{ensures_bridge, is_ensured}}
+use Rattle.cni_errors.specs.{CommandFields.att_of, declared.answer.Ending.Ending}
+use Rattle.cni_verbs.specs.Script.{State, AtBegin, BeforeLeases, Leasing, AfterLeases, ReadingCache, Deleting}
+use Rattle.cni_verbs.specs.Script.{FindingEntry, Asking, Changing, Collecting, Over, Calls, before_of, back_of}
+use Rattle.cni_verbs.specs.Script.{after_leases, leasing, before_leases, deleting, at_call_before, advance, turn}
 use Rattle.plugin_chain.specs.Wanted.{bridge_of, calls_before, deletion, kinds_of, sets_of}
 use Rattle.plugin_chain.proofs.PluginLaws.{first_laws}
-use Rattle.cni_errors.specs.declared.answer.Ending.{Ending}
-use Rattle.pod_workers.specs.Legal.{Legal}
-use Rattle.pod_workers.specs.Plans.{Placed, commands_of, list_for}
-use Rattle.pod_workers.specs.World.{World, after, entry_of, host_of, after_entry, replies_of, reply_to}
-use Rattle.pod_workers.specs.declared.plan.Entry.{Entry}
+use Rattle.pod_workers.specs.{Legal.Legal, Plans.{Placed, commands_of, list_for}, World.{World, after, entry_of}}
+use Rattle.pod_workers.specs.{World.{host_of, after_entry, replies_of, reply_to}, declared.plan.Entry.Entry}
 use Rattle.pod_workers.specs.declared.plan.Plan.{Plan}
-use Rattle.pod_workers.proofs.Histories.{after-append, replies_of-other}
-use Rattle.pod_workers.proofs.Order.{other_number}
-use Rattle.pod_workers.proofs.Replies.{by-begin, by-lease, by-call_after, by-cache, by-deletion}
-use Rattle.pod_workers.proofs.Sound.{sound_host}
+use Rattle.pod_workers.proofs.{Histories.{after-append, replies_of-other}, Order.other_number, Replies.by-begin}
+use Rattle.pod_workers.proofs.{Replies.{by-lease, by-call_after, by-cache, by-deletion}, Sound.sound_host}
 use Rattle.pod_workers.proofs.StepsLeft.{host-made}
 use Rattle.pod_laws.specs.Moments.{is_of, own_entries}
 use Rattle.pod_laws.proofs.Histories.Entries.{apart-entry, is_of-own, no-entries, own_entries-own, own_entries-other}
-use Rattle.pod_laws.proofs.Histories.States.{IsAside, aside-advance, by-aside, is_question, by-start}
-use Rattle.pod_laws.proofs.Histories.RunFacts.{state_by, state_by-append}
-use Rattle.pod_laws.proofs.Histories.Runs.{own-state}
-use Rattle.pod_laws.proofs.Histories.Steps.{AllOpen, Changes, GoesOn, IsOpenKept, OpenFact, at_its_place, by-open, no_list_there, on-entry}
-use Rattle.pod_laws.proofs.Histories.Turns.{IsTurnOf, alone-outside, turn-of}
+use Rattle.pod_laws.proofs.Histories.{RunFacts.{state_by, state_by-append}, Runs.own-state, States.IsAside}
+use Rattle.pod_laws.proofs.Histories.{States.{aside-advance, by-aside, is_question, by-start}, Steps.{AllOpen, Changes}}
+use Rattle.pod_laws.proofs.Histories.Steps.{GoesOn, IsOpenKept, OpenFact, at_its_place, by-open, no_list_there}
+use Rattle.pod_laws.proofs.{Histories.{Steps.on-entry, Turns.{IsTurnOf, alone-outside, turn-of}}, Tests.any-filtered}
 use Rattle.plugin_base.proofs.KeyLists.{none-by}
-use Rattle.pod_laws.proofs.Tests.{any-filtered}
 
 -- ---- a bridge of the host stays
 

@@ -2,43 +2,25 @@
 use Rattle.std.proofs.Common.{◌≡◌, ℕ, ◌+◌, Bool, true, false, List, [], ◌∷◌, length, refl, ◌∙◌, ap, subst, arith}
 use Rattle.std.specs.List.{list_all}
 use Rattle.net_conf.specs.declared.list.NetList.{NetList}
-use Rattle.pod_file.specs.declared.command.Command.{Command}
-use Rattle.pod_file.specs.declared.command.Verb.{Verb}
+use Rattle.pod_file.specs.{Commands.is_of_network, declared.command.{Command.Command, Verb.Verb}}
 use Rattle.pod_file.specs.declared.command.Verb.TheVariants as verbs
-use Rattle.kernel_types.specs.Allowed.{IsAllowed}
-use Rattle.kernel_types.specs.Apply.{apply}
-use Rattle.kernel_types.specs.Apply.Calls.{tags_of}
-use Rattle.kernel_types.specs.Isolation.{KeepsWhere}
-use Rattle.kernel_types.specs.Sound.{IsSound}
-use Rattle.kernel_types.specs.Terms.{is_own}
-use Rattle.kernel_types.proofs.Isolation.{KeepsWhere-TouchesOwn, KeepsWhere-nothing}
-use Rattle.kernel_types.proofs.ListLemmas.{list_all-map}
-use Rattle.kernel_types.specs.declared.object.Att.{Att}
-use Rattle.kernel_types.specs.declared.object.Host.{Host}
-use Rattle.kernel_types.specs.declared.object.Tag.{Tag}
-use Rattle.kernel_types.specs.declared.call.Call.{Call}
-use Rattle.kernel_types.specs.declared.call.Call.TheVariants.{OwnersOf}
-use Rattle.kernel_types.specs.declared.call.Reply.{Reply}
-use Rattle.kernel_types.specs.declared.call.Reply.TheVariants.{Gone, Entry as Kept, Fault}
+use Rattle.kernel_types.specs.{Allowed.IsAllowed, Apply.{apply, Calls.tags_of}, Isolation.KeepsWhere, Sound.IsSound}
+use Rattle.kernel_types.specs.{Terms.is_own, declared.call.{Call.{Call, TheVariants.OwnersOf}, Reply.Reply}}
+use Rattle.kernel_types.specs.declared.{call.Reply.TheVariants.{Gone, Entry as Kept, Fault}, object.Att.Att}
+use Rattle.kernel_types.specs.declared.object.{Host.Host, Tag.Tag}
+use Rattle.kernel_types.proofs.{Isolation.{KeepsWhere-TouchesOwn, KeepsWhere-nothing}, ListLemmas.list_all-map}
 use Rattle.plugin_base.specs.Share.{Share}
 use Rattle.cni_verbs.specs.Script.{State, Collecting, Over, Calls, gc_of, advance, start_of, turn, turn_of_work}
-use Rattle.cni_verbs.specs.Sweep.{Job, Step, AskCached, Delete, Sweep, after_job, job_of, start_work, step_call, work_after}
+use Rattle.cni_verbs.specs.Sweep.{Job, Step, AskCached, Delete, Sweep, after_job, job_of, start_work, step_call}
+use Rattle.cni_verbs.specs.Sweep.{work_after}
 use Rattle.plugin_chain.specs.Wanted.{deletion}
-use Rattle.pod_file.specs.Commands.{is_of_network}
-use Rattle.gc_sweep.specs.Keep.{stays}
-use Rattle.gc_sweep.specs.Bound.{stale_owners}
-use Rattle.gc_sweep.proofs.Covered.{done_stale}
-use Rattle.gc_sweep.proofs.Deletions.{deletes}
-use Rattle.gc_sweep.proofs.Owners.{is_stale, own_goes, owners_stale}
-use Rattle.pod_workers.specs.World.{host_of, reply_to}
-use Rattle.pod_workers.specs.declared.plan.Entry.{Entry}
-use Rattle.pod_workers.proofs.Replies.{by-unless_early}
-use Rattle.pod_workers.proofs.Sound.{sound_host}
-use Rattle.pod_laws.specs.Apart.{EachCollectionTakesTheStaleAlone}
-use Rattle.pod_laws.specs.Moments.{own_entries}
-use Rattle.pod_laws.proofs.Histories.Runs.{StartsWith, IsRunFact, every-run-now, own-state}
-use Rattle.pod_laws.proofs.Histories.EachEntry.{DoesByVerb, each-entry_of}
-use Rattle.pod_laws.proofs.Histories.Steps.{on-entry}
+use Rattle.gc_sweep.specs.{Bound.stale_owners, Keep.stays}
+use Rattle.gc_sweep.proofs.{Covered.done_stale, Deletions.deletes, Owners.{is_stale, own_goes, owners_stale}}
+use Rattle.pod_workers.specs.{World.{host_of, reply_to}, declared.plan.Entry.Entry}
+use Rattle.pod_workers.proofs.{Replies.by-unless_early, Sound.sound_host}
+use Rattle.pod_laws.specs.{Apart.EachCollectionTakesTheStaleAlone, Moments.own_entries}
+use Rattle.pod_laws.proofs.Histories.{EachEntry.{DoesByVerb, each-entry_of}, Runs.{StartsWith, IsRunFact}}
+use Rattle.pod_laws.proofs.Histories.{Runs.{every-run-now, own-state}, Steps.on-entry}
 
 -- ---- the owners that are left to a GC are stale
 

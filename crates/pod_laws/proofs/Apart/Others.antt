@@ -1,13 +1,10 @@
 -- Each entry leaves the objects of every other attachment.
-use Rattle.std.proofs.Common.{◌≡◌, true, false, not, sym, ◌∙◌, ap, inl, inr}
-use Rattle.std.proofs.lemmas.Bool.{and_parts}
+use Rattle.std.proofs.{Common.{◌≡◌, true, false, not, sym, ◌∙◌, ap, inl, inr}, lemmas.Bool.and_parts}
 use Rattle.cni_verbs.specs.Progress.{is_gc}
-use Rattle.pod_file.specs.Commands.{is_of_network}
-use Rattle.pod_file.specs.declared.command.Verb.{Verb}
+use Rattle.pod_file.specs.{Commands.is_of_network, declared.command.Verb.Verb}
 use Rattle.pod_file.specs.declared.command.Verb.TheVariants as verbs
 use Rattle.pod_laws.specs.Apart.{EachEntryLeavesOthers, LeavesOthers, leaves_others}
-use Rattle.pod_laws.proofs.Histories.EachEntry.{DoesByVerb, each-entry_of}
-use Rattle.pod_laws.proofs.Histories.Turns.{other-entered}
+use Rattle.pod_laws.proofs.Histories.{EachEntry.{DoesByVerb, each-entry_of}, Turns.other-entered}
 
 not-collecting : (v : Verb) → leaves_others v ≡ true → v ≡ verbs.Gc → ⊥
 not-collecting v leaves gc = let e : true ≡ false = sym leaves ∙ ap leaves_others gc in cc

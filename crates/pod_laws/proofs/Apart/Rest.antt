@@ -1,33 +1,25 @@
 -- Each entry leaves what was made outside, and removes nothing that is shared.
-use Rattle.std.proofs.Common.{◌≡◌, Bool, true, false, not, List, [], ◌∷◌, ◌++◌, refl, sym, ◌∙◌, ap, subst, inl, inr, ◌⊎◌}
+use Rattle.std.proofs.Common.{◌≡◌, Bool, true, false, not, List, [], ◌∷◌, ◌++◌, refl, sym, ◌∙◌, ap, subst, inl, inr}
+use Rattle.std.proofs.Common.{◌⊎◌}
 use Rattle.std.specs.Prelude.{filter}
-use Rattle.kernel_types.specs.Allowed.{IsAllowed}
-use Rattle.kernel_types.specs.Apply.{apply}
-use Rattle.kernel_types.specs.Isolation.{KeepsWhere, KeepsUnowned, ensures_shared, is_from_outside}
-use Rattle.kernel_types.specs.Sound.{IsSound}
-use Rattle.kernel_types.specs.Touch.{AddsBridge, AddsAddress, AddsSetting, AddsNamespace, RemovesUnshared, is_base}
-use Rattle.kernel_types.specs.Terms.{is_owned}
-use Rattle.kernel_types.proofs.EveryCall.{Touches-apply}
-use Rattle.kernel_types.proofs.Isolation.{KeepsUnowned-Touches, KeepsWhere-nothing, KeepsWhere-AddsBridge, KeepsWhere-AddsAddress, KeepsWhere-AddsSetting, KeepsWhere-RemovesUnshared}
-use Rattle.kernel_types.specs.declared.object.Host.{Host}
-use Rattle.kernel_types.specs.declared.object.Tag.{Tag}
+use Rattle.kernel_types.specs.{Allowed.IsAllowed, Apply.apply, Isolation.{KeepsWhere, KeepsUnowned, ensures_shared}}
+use Rattle.kernel_types.specs.{Isolation.is_from_outside, Sound.IsSound, Terms.is_owned, Touch.AddsBridge}
+use Rattle.kernel_types.specs.Touch.{AddsAddress, AddsSetting, AddsNamespace, RemovesUnshared, is_base}
+use Rattle.kernel_types.specs.declared.call.Call.{Call, TheVariants.{BridgeEnsure, GatewayEnsure, ForwardEnsure}}
+use Rattle.kernel_types.specs.declared.{call.Call.TheVariants.{NsChange, Outside}, object.{AddrObj.AddrObj, Host.Host}}
+use Rattle.kernel_types.specs.declared.object.{Link.Link, NsObj.NsObj, Setting.Setting, Tag.Tag}
+use Rattle.kernel_types.proofs.{EveryCall.Touches-apply, Isolation.{KeepsUnowned-Touches, KeepsWhere-nothing}}
+use Rattle.kernel_types.proofs.Isolation.{KeepsWhere-AddsBridge, KeepsWhere-AddsAddress, KeepsWhere-AddsSetting}
+use Rattle.kernel_types.proofs.Isolation.{KeepsWhere-RemovesUnshared}
 use Rattle.kernel_types.specs.declared.object.Tag.TheVariants as tags
-use Rattle.kernel_types.specs.declared.object.Link.{Link}
-use Rattle.kernel_types.specs.declared.object.AddrObj.{AddrObj}
-use Rattle.kernel_types.specs.declared.object.Setting.{Setting}
-use Rattle.kernel_types.specs.declared.object.NsObj.{NsObj}
-use Rattle.kernel_types.specs.declared.call.Call.{Call}
-use Rattle.kernel_types.specs.declared.call.Call.TheVariants.{BridgeEnsure, GatewayEnsure, ForwardEnsure, NsChange, Outside}
 use Rattle.plugin_base.proofs.KeyLists.{filter-push_dropped, filter-push_kept, filter-within}
 use Rattle.pod_file.specs.Commands.{is_of_network}
 use Rattle.pod_workers.specs.World.{entry_of, host_of, after_entry}
 use Rattle.pod_workers.proofs.Sound.{sound_host}
 use Rattle.pod_laws.specs.Apart.{is_outside, GrowsAtEnd, KeepsShared, KeepsTheRest, EachEntryKeepsTheRest}
-use Rattle.pod_laws.proofs.Added.Bridges.{turn-inside}
-use Rattle.pod_laws.proofs.Histories.EachEntry.{DoesNow, DoesOutside, by-outside, each-entry}
-use Rattle.pod_laws.proofs.Added.Prefixes.{grows-same}
-use Rattle.pod_laws.proofs.Histories.Steps.{on-entry}
-use Rattle.pod_laws.proofs.Histories.Turns.{change-of, turn-of}
+use Rattle.pod_laws.proofs.{Added.{Bridges.turn-inside, Prefixes.grows-same}, Histories.EachEntry.DoesNow}
+use Rattle.pod_laws.proofs.Histories.{EachEntry.{DoesOutside, by-outside, each-entry}, Steps.on-entry, Turns.change-of}
+use Rattle.pod_laws.proofs.Histories.Turns.{turn-of}
 
 -- ---- what is unowned is the same
 

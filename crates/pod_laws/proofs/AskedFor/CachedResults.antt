@@ -2,33 +2,22 @@
 use Rattle.std.proofs.Common.{◌≡◌, ℕ, List, [], ◌∷◌, map, Some, None, refl, sym, ◌∙◌, ap, inl, inr}
 use Rattle.std.proofs.lemmas.Option.{same_Some, none-some}
 use Rattle.std.specs.Option.{option_map}
-use Rattle.cni_addr.specs.declared.address.Addr.{Addr}
-use Rattle.cni_addr.specs.declared.address.Cidr.{Cidr}
-use Rattle.cni_result.specs.declared.cached.Cached.{Cached}
-use Rattle.cni_result.specs.declared.result.AddResult.{AddResult}
-use Rattle.cni_result.specs.declared.result.IpEntry.{IpEntry}
+use Rattle.cni_addr.specs.declared.address.{Addr.Addr, Cidr.Cidr}
+use Rattle.cni_result.specs.declared.{cached.Cached.Cached, result.{AddResult.AddResult, IpEntry.IpEntry}}
 use Rattle.cni_errors.specs.CommandFields.{att_of}
-use Rattle.cni_verbs.specs.Mappings.{mappings_of}
-use Rattle.cni_verbs.specs.Questions.{addresses_of_result}
-use Rattle.cni_verbs.specs.Script.{leases_in}
+use Rattle.cni_verbs.specs.{Mappings.mappings_of, Questions.addresses_of_result, Script.leases_in}
 use Rattle.host_local.specs.Laws.{AreCandidates, CandidatesAreGiven}
-use Rattle.kernel_types.specs.Terms.{cached_in, is_own}
-use Rattle.kernel_types.specs.declared.object.Att.{Att}
-use Rattle.kernel_types.specs.declared.object.CachedObj.{CachedObj}
-use Rattle.kernel_types.specs.declared.object.Host.{Host}
-use Rattle.kernel_types.specs.declared.object.Tag.TheVariants.{Own}
-use Rattle.kernel_types.specs.declared.call.Given.{Given}
-use Rattle.net_conf.specs.declared.chained.Chained.{Chained}
-use Rattle.net_conf.specs.declared.list.NetList.{NetList}
+use Rattle.kernel_types.specs.{Terms.{cached_in, is_own}, declared.{call.Given.Given, object.Att.Att}}
+use Rattle.kernel_types.specs.declared.object.{CachedObj.CachedObj, Host.Host, Tag.TheVariants.Own}
+use Rattle.net_conf.specs.declared.{chained.Chained.Chained, list.NetList.NetList}
 use Rattle.plugin_base.specs.Share.{Share, share_of}
-use Rattle.plugin_chain.specs.Wanted.{all_chained_results, cached_of, chained_result, first_plugin_result, given_by_list, ipam_of, result_of_add, sets_of}
+use Rattle.plugin_chain.specs.Wanted.{all_chained_results, cached_of, chained_result, first_plugin_result}
+use Rattle.plugin_chain.specs.Wanted.{given_by_list, ipam_of, result_of_add, sets_of}
 use Rattle.plugin_chain.proofs.GivenAddresses.{chained-ips, first-addresses}
-use Rattle.pod_workers.specs.World.{after, replies_of}
-use Rattle.pod_workers.specs.declared.plan.Entry.{Entry}
-use Rattle.pod_workers.specs.declared.plan.Plan.{Plan}
+use Rattle.pod_workers.specs.{World.{after, replies_of}, declared.plan.{Entry.Entry, Plan.Plan}}
 use Rattle.pod_workers.proofs.Elements.{find-first, first_of}
-use Rattle.pod_laws.specs.AskedFor.{HasNothingUnasked, IsAskedFor, IsPart}
-use Rattle.pod_laws.specs.CachedResults.{EachCachedResultIsItsAdds, IsResultOfItsAdd}
+use Rattle.pod_laws.specs.{AskedFor.{HasNothingUnasked, IsAskedFor, IsPart}, CachedResults.EachCachedResultIsItsAdds}
+use Rattle.pod_laws.specs.CachedResults.{IsResultOfItsAdd}
 use Rattle.pod_laws.proofs.AskedFor.Moments.{nothing_is_unasked}
 
 -- ---- the addresses of a result

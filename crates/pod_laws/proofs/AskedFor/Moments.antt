@@ -1,64 +1,47 @@
 -- At every moment each attachment has only what its last ADD that began asks for.
-use Rattle.std.proofs.Common.{◌≡◌, ◌≢◌, ℕ, ◌+◌, Bool, true, false, List, [], ◌∷◌, ◌++◌, map, length, refl, sym, ◌∙◌, ap, subst, inl, inr, append_assoc, arith}
-use Rattle.std.proofs.lemmas.List.{append-nil, map-append}
-use Rattle.std.proofs.lemmas.Bool.{cases_Bool, both_ways}
-use Rattle.std.proofs.lemmas.Bool.Decides.{eqb_tells}
-use Rattle.std.proofs.lemmas.Slice.Zip.{all_zipped_more}
-use Rattle.cni_addr.specs.declared.address.Addr.{Addr}
-use Rattle.cni_addr.specs.declared.range.RangeSet.{RangeSet}
+use Rattle.std.proofs.Common.{◌≡◌, ◌≢◌, ℕ, ◌+◌, Bool, true, false, List, [], ◌∷◌, ◌++◌, map, length, refl, sym, ◌∙◌, ap}
+use Rattle.std.proofs.{Common.{subst, inl, inr, append_assoc, arith}, lemmas.Bool.{cases_Bool, both_ways}}
+use Rattle.std.proofs.lemmas.{Bool.Decides.eqb_tells, List.{append-nil, map-append}, Slice.Zip.all_zipped_more}
+use Rattle.cni_addr.specs.declared.{address.Addr.Addr, range.RangeSet.RangeSet}
 use Rattle.host_local.specs.Laws.{AreCandidates}
 use Rattle.ip_pool.specs.NextAddress.{is_candidate}
 use Rattle.net_conf.specs.declared.list.NetList.{NetList}
-use Rattle.kernel_types.specs.Equal.{att_eq}
-use Rattle.kernel_types.specs.Sound.{IsSound}
-use Rattle.kernel_types.specs.Terms.{is_own, lease_of}
-use Rattle.kernel_types.proofs.Cases.{att_eq-refl}
-use Rattle.kernel_types.proofs.ChangeLemmas.{DropsOnly-nothing}
-use Rattle.kernel_types.proofs.Isolation.{att_eq-same}
-use Rattle.kernel_types.specs.declared.object.Att.{Att}
-use Rattle.kernel_types.specs.declared.object.Host.{Host}
-use Rattle.kernel_types.specs.declared.call.Kind.{Kind}
-use Rattle.kernel_types.specs.declared.call.Call.{Call}
-use Rattle.kernel_types.specs.declared.call.Call.TheVariants.{Begin, LeaseNext, CacheGet}
-use Rattle.kernel_types.specs.declared.call.Reply.{Reply}
-use Rattle.kernel_types.specs.declared.call.Reply.TheVariants.{Done, Leased}
-use Rattle.plugin_base.specs.Calls.{is_plugin_call_of, is_call_of}
-use Rattle.plugin_base.specs.Share.{Share, share_of, no_objects, share_after_call, share_after_calls}
-use Rattle.plugin_base.proofs.CallLists.{share_after_calls-append}
-use Rattle.plugin_base.proofs.OtherCalls.{share-other}
-use Rattle.plugin_base.proofs.Refusals.{refused-same, refused-lease}
+use Rattle.kernel_types.specs.{Equal.att_eq, Sound.IsSound, Terms.{is_own, lease_of}, declared.call.Call.Call}
+use Rattle.kernel_types.specs.declared.call.{Call.TheVariants.{Begin, LeaseNext, CacheGet}, Kind.Kind, Reply.Reply}
+use Rattle.kernel_types.specs.declared.{call.Reply.TheVariants.{Done, Leased}, object.{Att.Att, Host.Host}}
+use Rattle.kernel_types.proofs.{Cases.att_eq-refl, ChangeLemmas.DropsOnly-nothing, Isolation.att_eq-same}
+use Rattle.plugin_base.specs.{Calls.{is_plugin_call_of, is_call_of}, Share.{Share, share_of, no_objects}}
+use Rattle.plugin_base.specs.Share.{share_after_call, share_after_calls}
+use Rattle.plugin_base.proofs.{CallLists.share_after_calls-append, OtherCalls.share-other, Refusals.refused-same}
+use Rattle.plugin_base.proofs.Refusals.{refused-lease}
 use Rattle.pod_file.specs.declared.command.Command.{Command}
-use Rattle.cni_verbs.specs.AddCalls.{is_done}
+use Rattle.cni_verbs.specs.{AddCalls.is_done, Script.{State, AtBegin, BeforeLeases, Leasing, AfterLeases, ReadingCache}}
+use Rattle.cni_verbs.specs.Script.{Deleting, FindingEntry, Asking, Changing, Collecting, Over, Calls, before_of}
+use Rattle.cni_verbs.specs.Script.{back_of, turn, leases_in}
 use Rattle.cni_errors.specs.CommandFields.{att_of}
-use Rattle.cni_verbs.specs.Script.{State, AtBegin, BeforeLeases, Leasing, AfterLeases, ReadingCache, Deleting, FindingEntry, Asking, Changing, Collecting, Over, Calls, before_of, back_of, turn, leases_in}
 use Rattle.plugin_chain.specs.Wanted.{deletion, sets_of}
-use Rattle.pod_workers.specs.Plans.{Placed}
-use Rattle.pod_workers.specs.World.{World, after, done, entry_of, host_of, after_entry, replies_of, reply_to}
-use Rattle.pod_workers.specs.declared.plan.Entry.{Entry}
-use Rattle.pod_workers.specs.declared.plan.Plan.{Plan}
-use Rattle.pod_workers.proofs.Histories.{after-append, replies_of-own, replies_of-other}
-use Rattle.pod_workers.proofs.Order.{other_number, ready_is}
-use Rattle.pod_workers.proofs.OfPlugins.{LeftAreOfPlugins}
-use Rattle.pod_workers.proofs.Sound.{sound_host}
-use Rattle.gc_sweep.proofs.Deletable.{done_or_not, leased_or_not}
-use Rattle.pod_laws.specs.AskedFor.{begins, is_begin_of, AreAskedFor, AreCandidatesSoFar, HasNothingUnasked, IsAskedFor, IsPart, NothingIsUnasked}
-use Rattle.pod_laws.specs.Moments.{objects_after, own_entries}
-use Rattle.pod_laws.proofs.Added.Achieved.{Achieved, achieved-start, achieved-step, begun-none, lease-fits, leased-done, leased-push, leased-same, leased_in, leases-one, leases-push, own-made, with_leases}
-use Rattle.pod_laws.proofs.Histories.Begins.{all-last, begin-apart, deletion-no_begin, last_begun-same, not-begins, outside-no_begin, plugin-no_begin, question-no_begin}
-use Rattle.pod_laws.proofs.Refused.Causes.{begin-may, plugin-may}
-use Rattle.pod_laws.proofs.Histories.Entries.{is_of-own, own_entries-own}
-use Rattle.pod_laws.proofs.Added.Prefixes.{asked-after_leases, asked-before_leases, asked-leasing, asked-removes, none_cached-before}
-use Rattle.pod_laws.proofs.Parts.{part-drops}
-use Rattle.gc_sweep.proofs.OfKinds.{share-removes_none}
-use Rattle.pod_laws.proofs.AskedFor.Quiet.{plugin-no_lease, lease-no_lease, deletion-no_lease, question-no_lease, outside-no_lease}
-use Rattle.gc_sweep.specs.Keep.{OnlyRemoves}
+use Rattle.pod_workers.specs.{Plans.Placed, World.{World, after, done, entry_of, host_of, after_entry, replies_of}}
+use Rattle.pod_workers.specs.{World.reply_to, declared.plan.{Entry.Entry, Plan.Plan}}
+use Rattle.pod_workers.proofs.{Histories.{after-append, replies_of-own, replies_of-other}, OfPlugins.LeftAreOfPlugins}
+use Rattle.pod_workers.proofs.{Order.{other_number, ready_is}, Sound.sound_host}
+use Rattle.gc_sweep.proofs.{Deletable.{done_or_not, leased_or_not}, OfKinds.share-removes_none}
 use Rattle.gc_sweep.proofs.Removes.{removes-deletion, removes-nothing}
-use Rattle.pod_laws.proofs.Histories.States.{LeftFit, is_question, question-leaves, asked-is_question}
-use Rattle.pod_laws.proofs.Histories.Runs.{every-run-now, own-state}
-use Rattle.pod_laws.proofs.Histories.Steps.{Changes, GoesOn, by-entries, on-entry}
+use Rattle.pod_laws.specs.AskedFor.{begins, is_begin_of, AreAskedFor, AreCandidatesSoFar, HasNothingUnasked, IsAskedFor}
+use Rattle.pod_laws.specs.{AskedFor.{IsPart, NothingIsUnasked}, Moments.{objects_after, own_entries}}
+use Rattle.pod_laws.proofs.Added.Achieved.{Achieved, achieved-start, achieved-step, begun-none, lease-fits, leased-done}
+use Rattle.pod_laws.proofs.Added.Achieved.{leased-push, leased-same, leased_in, leases-one, leases-push, own-made}
+use Rattle.pod_laws.proofs.Added.{Achieved.with_leases, Prefixes.{asked-after_leases, asked-before_leases}}
+use Rattle.pod_laws.proofs.Added.Prefixes.{asked-leasing, asked-removes, none_cached-before}
+use Rattle.pod_laws.proofs.AskedFor.Quiet.{plugin-no_lease, lease-no_lease, deletion-no_lease, question-no_lease}
+use Rattle.pod_laws.proofs.{AskedFor.Quiet.outside-no_lease, Histories.Begins.{all-last, begin-apart}}
+use Rattle.pod_laws.proofs.Histories.Begins.{deletion-no_begin, last_begun-same, not-begins, outside-no_begin}
+use Rattle.pod_laws.proofs.Histories.{Begins.{plugin-no_begin, question-no_begin}, Entries.{is_of-own, own_entries-own}}
+use Rattle.pod_laws.proofs.Histories.{Runs.{every-run-now, own-state}, States.{LeftFit, is_question, question-leaves}}
+use Rattle.pod_laws.proofs.Histories.{States.asked-is_question, Steps.{Changes, GoesOn, by-entries, on-entry}}
 use Rattle.pod_laws.proofs.Histories.Turns.{AsksOrCollects, change-of, removes-changed, turn-of, work-turn}
-use Rattle.pod_laws.proofs.Refused.Undoing.{Undoing, IsUnrefused, undone-start, undone-step}
-use Rattle.pod_laws.proofs.Shares.Within.{opening-share}
+use Rattle.pod_laws.proofs.{Parts.part-drops, Refused.{Causes.{begin-may, plugin-may}, Undoing.{Undoing, IsUnrefused}}}
+use Rattle.pod_laws.proofs.{Refused.Undoing.{undone-start, undone-step}, Shares.Within.opening-share}
+use Rattle.gc_sweep.specs.Keep.{OnlyRemoves}
 
 -- ---- a call that leaves or removes what the attachment has
 

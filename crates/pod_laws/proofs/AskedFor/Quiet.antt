@@ -2,27 +2,19 @@
 use Rattle.std.proofs.Common.{◌≡◌, ℕ, Bool, true, false, List, [], ◌∷◌, Option, Some, None, refl}
 use Rattle.std.specs.Prelude.{find}
 use Rattle.cni_addr.specs.declared.address.Addr.{Addr}
-use Rattle.kernel_types.specs.Apply.{apply}
-use Rattle.kernel_types.specs.Apply.Calls.{without_link}
-use Rattle.kernel_types.specs.Isolation.{is_from_outside}
-use Rattle.kernel_types.specs.Terms.{is_own, has_named_ns, link_at}
+use Rattle.kernel_types.specs.{Apply.{apply, Calls.without_link}, Isolation.is_from_outside, Terms.is_own}
+use Rattle.kernel_types.specs.{Terms.{has_named_ns, link_at}, declared.call.Call.{Call, TheVariants.{HasObj, CacheGet}}}
+use Rattle.kernel_types.specs.declared.call.{Call.TheVariants.{OwnersOf, PoolFree, NsChange, Outside}, Change.Change}
+use Rattle.kernel_types.specs.declared.call.{Change.TheVariants.{DropLink, Flush}, Kind.Kind, Reply.Reply}
+use Rattle.kernel_types.specs.declared.call.Reply.TheVariants.{Done, NoNs, NoLink, Taken, Empty, Leased, Gone, Has}
+use Rattle.kernel_types.specs.declared.{call.Reply.TheVariants.{Owners, Entry as Kept, Fault}, object.Att.Att}
+use Rattle.kernel_types.specs.declared.object.{Host.Host, Link.Link}
 use Rattle.cni_addr.proofs.Cases.{by_test}
-use Rattle.kernel_types.specs.declared.object.Att.{Att}
-use Rattle.kernel_types.specs.declared.object.Host.{Host}
-use Rattle.kernel_types.specs.declared.object.Link.{Link}
-use Rattle.kernel_types.specs.declared.call.Kind.{Kind}
 use Rattle.kernel_types.specs.declared.call.Kind.TheVariants as kinds
-use Rattle.kernel_types.specs.declared.call.Call.{Call}
-use Rattle.kernel_types.specs.declared.call.Call.TheVariants.{HasObj, CacheGet, OwnersOf, PoolFree, NsChange, Outside}
-use Rattle.kernel_types.specs.declared.call.Change.{Change}
-use Rattle.kernel_types.specs.declared.call.Change.TheVariants.{DropLink, Flush}
-use Rattle.kernel_types.specs.declared.call.Reply.{Reply}
-use Rattle.kernel_types.specs.declared.call.Reply.TheVariants.{Done, NoNs, NoLink, Taken, Empty, Leased, Gone, Has, Owners, Entry as Kept, Fault}
 use Rattle.cni_verbs.specs.Script.{leases_in}
 use Rattle.plugin_chain.specs.Wanted.{deletion}
 use Rattle.pod_workers.specs.World.{reply_to}
-use Rattle.pod_laws.proofs.Refused.Causes.{IsPluginReply}
-use Rattle.pod_laws.proofs.Histories.States.{is_question}
+use Rattle.pod_laws.proofs.{Histories.States.is_question, Refused.Causes.IsPluginReply}
 
 -- ---- calls of a run
 

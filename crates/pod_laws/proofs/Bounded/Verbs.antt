@@ -1,43 +1,31 @@
 -- What is left to a run before its first call, by its verb.
-use Rattle.std.proofs.Common.{◌≡◌, ◌≢◌, ℕ, ◌+◌, ◌*◌, ◌≤◌, false, List, [], ◌∷◌, ◌++◌, length, Option, Some, None, slice_get, refl, sym, ap, subst, arith}
+use Rattle.std.proofs.Common.{◌≡◌, ◌≢◌, ℕ, ◌+◌, ◌*◌, ◌≤◌, false, List, [], ◌∷◌, ◌++◌, length, Option, Some, None}
+use Rattle.std.proofs.{Common.{slice_get, refl, sym, ap, subst, arith}, lemmas.List.{length-append, nil_from_length}}
 use Rattle.std.specs.Prelude.{if◌then◌else◌}
-use Rattle.std.proofs.lemmas.List.{length-append, nil_from_length}
-use Rattle.cni_addr.specs.declared.address.Addr.{Addr}
-use Rattle.cni_addr.specs.declared.mac.Mac.{Mac}
-use Rattle.cni_result.specs.declared.cached.Cached.{Cached}
-use Rattle.cni_result.specs.declared.result.Interface.{Interface}
+use Rattle.cni_addr.specs.declared.{address.Addr.Addr, mac.Mac.Mac}
+use Rattle.cni_result.specs.declared.{cached.Cached.Cached, result.Interface.Interface}
 use Rattle.net_conf.specs.declared.list.NetList.{NetList}
-use Rattle.pod_file.specs.Commands.{is_of_network}
-use Rattle.pod_file.specs.declared.command.Command.{Command}
-use Rattle.pod_file.specs.declared.command.Verb.{Verb}
+use Rattle.pod_file.specs.{Commands.is_of_network, declared.command.{Command.Command, Verb.Verb}}
 use Rattle.pod_file.specs.declared.command.Verb.TheVariants as verbs
 use Rattle.cni_verbs.proofs.QuestionCounts.{length-pools, length-share}
-use Rattle.kernel_types.specs.declared.call.Reply.{Reply}
-use Rattle.kernel_types.specs.declared.call.Reply.TheVariants.{Entry as Found}
+use Rattle.kernel_types.specs.declared.call.Reply.{Reply, TheVariants.Entry as Found}
 use Rattle.plugin_base.specs.Share.{Share}
-use Rattle.cni_errors.specs.CommandFields.{add_refusal, att_of, del_refusal}
-use Rattle.cni_verbs.specs.Questions.{bridge_by_mac, bridge_questions, cached_share, check_questions, first_interface, master_questions, pool_questions, share_questions, status_questions}
-use Rattle.cni_verbs.specs.Script.{State, AtBegin, ReadingCache, FindingEntry, Over, advance, asking, at_entry, checking, start_of, start_state}
+use Rattle.cni_errors.specs.{CommandFields.{add_refusal, att_of, del_refusal}, declared.answer.Ending.Ending}
+use Rattle.cni_errors.specs.declared.answer.{Ending.TheVariants.{Yes, Skipped, Refused}, Question.Question}
+use Rattle.cni_verbs.specs.Questions.{bridge_by_mac, bridge_questions, cached_share, check_questions, first_interface}
+use Rattle.cni_verbs.specs.Questions.{master_questions, pool_questions, share_questions, status_questions}
+use Rattle.cni_verbs.specs.Script.{State, AtBegin, ReadingCache, FindingEntry, Over, advance, asking, at_entry}
+use Rattle.cni_verbs.specs.Script.{checking, start_of, start_state}
 use Rattle.plugin_chain.specs.Wanted.{bridge_of, kinds_of, master_of, sets_of}
-use Rattle.cni_errors.specs.declared.answer.Ending.{Ending}
-use Rattle.cni_errors.specs.declared.answer.Ending.TheVariants.{Yes, Skipped, Refused}
-use Rattle.cni_errors.specs.declared.answer.Question.{Question}
 use Rattle.cni_errors.specs.declared.answer.Skip.TheVariants as skips
 use Rattle.gc_sweep.specs.Deletions.{deletions_of}
-use Rattle.pod_workers.specs.CallCounts.{most_calls}
-use Rattle.pod_workers.proofs.CallsLeft.{calls_left}
-use Rattle.pod_workers.specs.Legal.{Legal}
-use Rattle.pod_workers.specs.Plans.{Placed, commands_of, list_for}
-use Rattle.pod_workers.specs.World.{World, own_replies}
-use Rattle.pod_workers.specs.declared.plan.Entry.{Entry}
-use Rattle.pod_workers.proofs.Falls.{left-asking}
-use Rattle.pod_workers.proofs.MostCalls.{adds_in_most_calls}
-use Rattle.pod_workers.proofs.StepsLeft.{IsNoCollection, none-asking}
-use Rattle.pod_workers.proofs.Replies.{by-either, by-unless, by-unless_old}
+use Rattle.pod_workers.specs.{CallCounts.most_calls, Legal.Legal, Plans.{Placed, commands_of, list_for}, World.World}
+use Rattle.pod_workers.specs.{World.own_replies, declared.plan.Entry.Entry}
+use Rattle.pod_workers.proofs.{CallsLeft.calls_left, Falls.left-asking, MostCalls.adds_in_most_calls, Replies.by-either}
+use Rattle.pod_workers.proofs.{Replies.{by-unless, by-unless_old}, StepsLeft.{IsNoCollection, none-asking}}
 use Rattle.pod_laws.specs.Bounded.{EachAddHasMost, EachChangeIsOneCall, EachRunIsBounded, IsFirst, asked_of}
 use Rattle.pod_laws.specs.Moments.{objects_after}
-use Rattle.pod_laws.proofs.Bounded.Runs.{made-below, made-within}
-use Rattle.pod_laws.proofs.Outside.Changes.{one-call}
+use Rattle.pod_laws.proofs.{Bounded.Runs.{made-below, made-within}, Outside.Changes.one-call}
 
 -- ---- questions
 

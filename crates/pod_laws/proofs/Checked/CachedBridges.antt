@@ -1,76 +1,46 @@
 -- At every moment an attachment with a cached result has the bridge that it names first.
-use Rattle.std.proofs.Common.{◌≡◌, ℕ, Bool, true, false, not, List, [], ◌∷◌, ◌++◌, map, Option, Some, None, refl, sym, ◌∙◌, ap, subst, inl, inr, ◌⊎◌, arith}
-use Rattle.std.proofs.lemmas.Bool.{and_parts, both_ways, cases_Bool, false_from_ne_true}
-use Rattle.std.proofs.lemmas.Option.{same_Some, none-some}
-use Rattle.std.proofs.lemmas.Slice.Eq.{bytes_eq-Decides}
-use Rattle.std.specs.Prelude.{filter, ◌&&◌}
-use Rattle.std.specs.List.{list_all, list_any}
-use Rattle.std.specs.Str.{bytes_eq}
+use Rattle.std.proofs.Common.{◌≡◌, ℕ, Bool, true, false, not, List, [], ◌∷◌, ◌++◌, map, Option, Some, None, refl, sym}
+use Rattle.std.proofs.{Common.{◌∙◌, ap, subst, inl, inr, ◌⊎◌, arith}, lemmas.Bool.{and_parts, both_ways, cases_Bool}}
+use Rattle.std.proofs.lemmas.{Bool.false_from_ne_true, Option.{same_Some, none-some}, Slice.Eq.bytes_eq-Decides}
+use Rattle.std.specs.{List.{list_all, list_any}, Prelude.{filter, ◌&&◌}, Str.bytes_eq}
 use Rattle.cni_addr.proofs.Cases.{by_test}
 use Rattle.cni_addr.specs.declared.address.Addr.{Addr}
-use Rattle.cni_result.specs.declared.cached.Cached.{Cached}
-use Rattle.cni_result.specs.declared.result.AddResult.{AddResult}
-use Rattle.cni_result.specs.declared.result.Interface.{Interface}
+use Rattle.cni_result.specs.declared.{cached.Cached.Cached, result.{AddResult.AddResult, Interface.Interface}}
 use Rattle.cni_errors.specs.CommandFields.{att_of}
-use Rattle.cni_verbs.specs.Script.{State, AtBegin, BeforeLeases, Leasing, AfterLeases, ReadingCache, Deleting, FindingEntry, Asking, Changing, Collecting, Over, Calls, leases_in, turn}
-use Rattle.plugin_chain.specs.Wanted.{all_chained_results, bridge_of, calls_before, chained_result, deletion, result_of_add}
+use Rattle.cni_verbs.specs.Script.{State, AtBegin, BeforeLeases, Leasing, AfterLeases, ReadingCache, Deleting}
+use Rattle.cni_verbs.specs.Script.{FindingEntry, Asking, Changing, Collecting, Over, Calls, leases_in, turn}
+use Rattle.plugin_chain.specs.Wanted.{all_chained_results, bridge_of, calls_before, chained_result, deletion}
+use Rattle.plugin_chain.specs.Wanted.{result_of_add}
 use Rattle.plugin_chain.proofs.PluginLaws.{chained_laws, first_laws}
-use Rattle.kernel_types.specs.Allowed.{IsAllowed}
-use Rattle.kernel_types.specs.Apply.{apply}
-use Rattle.kernel_types.specs.Apply.Calls.{goes_with, goes_with_ns, has_peer_in, master_is_bridge_or_none, without_link}
-use Rattle.kernel_types.specs.Equal.{att_eq}
-use Rattle.kernel_types.specs.Isolation.{is_from_outside}
-use Rattle.kernel_types.specs.Sound.{IsSound, peer_fits}
-use Rattle.kernel_types.specs.Terms.{cached_in, has_host_bridge, has_named_ns, is_at, is_bridge, is_host_bridge, is_host_link, is_host_ns, is_own, is_peer_at, is_veth, link_at}
-use Rattle.kernel_types.proofs.Isolation.{att_eq-same}
-use Rattle.kernel_types.proofs.ListLemmas.{list_all-weaker, list_any-kept, passes-find}
-use Rattle.kernel_types.specs.declared.object.Att.{Att}
-use Rattle.kernel_types.specs.declared.object.Host.{Host}
-use Rattle.kernel_types.specs.declared.object.Link.{Link}
-use Rattle.kernel_types.specs.declared.object.LinkKey.{LinkKey}
-use Rattle.kernel_types.specs.declared.object.LinkKind.{LinkKind}
-use Rattle.kernel_types.specs.declared.object.LinkKind.TheVariants as link_kinds
-use Rattle.kernel_types.specs.declared.call.Call.{Call}
+use Rattle.kernel_types.specs.{Allowed.IsAllowed, Apply.{apply, Calls.{goes_with, goes_with_ns, has_peer_in}}}
+use Rattle.kernel_types.specs.{Apply.Calls.{master_is_bridge_or_none, without_link}, Equal.att_eq}
+use Rattle.kernel_types.specs.{Isolation.is_from_outside, Sound.{IsSound, peer_fits}, Terms.cached_in}
+use Rattle.kernel_types.specs.Terms.{has_host_bridge, has_named_ns, is_at, is_bridge, is_host_bridge, is_host_link}
+use Rattle.kernel_types.specs.{Terms.{is_host_ns, is_own, is_peer_at, is_veth, link_at}, declared.call.Call.Call}
 use Rattle.kernel_types.specs.declared.call.Call.TheVariants.{Begin, CacheGet, CachePut, NsChange, Outside}
-use Rattle.kernel_types.specs.declared.call.Change.TheVariants.{DropLink, Flush}
-use Rattle.kernel_types.specs.declared.call.Reply.{Reply}
-use Rattle.net_conf.specs.declared.chained.Chained.{Chained}
-use Rattle.net_conf.specs.declared.first.First.{First}
-use Rattle.net_conf.specs.declared.list.NetList.{NetList}
-use Rattle.plugin_base.specs.Calls.{is_plugin_call_of}
-use Rattle.plugin_base.specs.PluginCalls.{makes_interface}
-use Rattle.plugin_base.specs.Results.{names_first, names_of}
+use Rattle.kernel_types.specs.declared.{call.{Change.TheVariants.{DropLink, Flush}, Reply.Reply}, object.Att.Att}
+use Rattle.kernel_types.specs.declared.object.{Host.Host, Link.Link, LinkKey.LinkKey, LinkKind.LinkKind}
+use Rattle.kernel_types.proofs.{Isolation.att_eq-same, ListLemmas.{list_all-weaker, list_any-kept, passes-find}}
+use Rattle.kernel_types.specs.declared.object.LinkKind.TheVariants as link_kinds
+use Rattle.net_conf.specs.declared.{chained.Chained.Chained, first.First.First, list.NetList.NetList}
+use Rattle.plugin_base.specs.{Calls.is_plugin_call_of, PluginCalls.makes_interface, Results.{names_first, names_of}}
 use Rattle.plugin_base.specs.Share.{Share, share_after_call, share_of}
-use Rattle.plugin_base.proofs.OtherCalls.{share-other}
-use Rattle.plugin_base.proofs.OwnCalls.{share-own}
-use Rattle.plugin_base.proofs.Refusals.{refused-same}
+use Rattle.plugin_base.proofs.{KeyLists.none-by, OtherCalls.share-other, OwnCalls.share-own, Refusals.refused-same}
 use Rattle.pod_file.specs.declared.command.Command.{Command}
-use Rattle.pod_workers.specs.Legal.{Legal}
-use Rattle.pod_workers.specs.Plans.{Placed, IsWellFormed, list_named}
-use Rattle.pod_workers.specs.World.{World, after, after_entry, entry_of, host_of, replies_of}
-use Rattle.pod_workers.specs.declared.plan.Entry.{Entry}
-use Rattle.pod_workers.specs.declared.plan.Plan.{Plan}
-use Rattle.gc_sweep.proofs.Deletable.{done_or_not}
-use Rattle.pod_workers.proofs.Prefixes.{each_prefix}
-use Rattle.pod_workers.proofs.Histories.{after-append}
-use Rattle.pod_workers.proofs.OfPlugins.{LeftAreOfPlugins}
+use Rattle.pod_workers.specs.{Legal.Legal, Plans.{Placed, IsWellFormed, list_named}, World.{World, after, after_entry}}
+use Rattle.pod_workers.specs.{World.{entry_of, host_of, replies_of}, declared.plan.{Entry.Entry, Plan.Plan}}
+use Rattle.gc_sweep.proofs.{Deletable.done_or_not, OfKinds.still_none, Removes.removes-deletion}
+use Rattle.pod_workers.proofs.{Histories.after-append, OfPlugins.LeftAreOfPlugins, Prefixes.each_prefix}
 use Rattle.pod_workers.proofs.Sound.{sound_host}
-use Rattle.pod_laws.specs.AskedFor.{HasNothingUnasked}
-use Rattle.pod_laws.specs.Moments.{own_entries}
-use Rattle.pod_laws.proofs.Added.Achieved.{Achieved, achieved-start, achieved-step}
-use Rattle.pod_laws.proofs.AskedFor.CachedResults.{entry_of_its_add, no-entry}
-use Rattle.pod_laws.proofs.AskedFor.Moments.{nothing_is_unasked}
-use Rattle.pod_laws.proofs.Added.Bridges.{BridgeIn, HasBridge, all-bridges, bridge-entered}
-use Rattle.gc_sweep.specs.Keep.{OnlyRemoves}
-use Rattle.gc_sweep.proofs.OfKinds.{still_none}
-use Rattle.gc_sweep.proofs.Removes.{removes-deletion}
-use Rattle.pod_laws.proofs.Histories.Runs.{every-run-now, own-state}
-use Rattle.pod_laws.proofs.Histories.States.{LeftFit, asked-is_question, is_question, question-leaves}
+use Rattle.pod_laws.specs.{AskedFor.HasNothingUnasked, Moments.own_entries}
+use Rattle.pod_laws.proofs.Added.{Achieved.{Achieved, achieved-start, achieved-step}, Bridges.{BridgeIn, HasBridge}}
+use Rattle.pod_laws.proofs.{Added.Bridges.{all-bridges, bridge-entered}, AskedFor.CachedResults.entry_of_its_add}
+use Rattle.pod_laws.proofs.{AskedFor.{CachedResults.no-entry, Moments.nothing_is_unasked}, Histories.Runs.every-run-now}
+use Rattle.pod_laws.proofs.Histories.{Runs.own-state, States.{LeftFit, asked-is_question, is_question, question-leaves}}
 use Rattle.pod_laws.proofs.Histories.Steps.{Changes, ChangesKeep, EntriesKeep, GoesOn, by-entries, on-entry}
-use Rattle.plugin_base.proofs.KeyLists.{none-by}
-use Rattle.pod_laws.proofs.Tests.{middle-passes}
 use Rattle.pod_laws.proofs.Histories.Turns.{AsksOrCollects, change-of, removes-changed, turn-of, work-turn}
-use Rattle.pod_laws.proofs.Shares.Within.{list_named-listed, opening-share}
+use Rattle.pod_laws.proofs.{Shares.Within.{list_named-listed, opening-share}, Tests.middle-passes}
+use Rattle.gc_sweep.specs.Keep.{OnlyRemoves}
 
 -- ---- nothing from outside takes a bridge of the host
 

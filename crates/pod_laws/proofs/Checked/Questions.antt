@@ -1,47 +1,32 @@
 -- What a CHECK asks for, and that the answers stay while other attachments change.
-use Rattle.std.proofs.Common.{◌≡◌, ℕ, ◌+◌, Bool, true, List, [], ◌∷◌, ◌++◌, map, Option, Some, None, refl, sym, ◌∙◌, ap, arith}
-use Rattle.std.specs.Prelude.{◌&&◌, ◌==◌, filter, option_map}
-use Rattle.std.specs.List.{AllByRecursion, list_any, list_all}
+use Rattle.std.proofs.Common.{◌≡◌, ℕ, ◌+◌, Bool, true, List, [], ◌∷◌, ◌++◌, map, Option, Some, None, refl, sym, ◌∙◌, ap}
+use Rattle.std.proofs.{Common.arith, Math.Bool.{beq, and-true}, lemmas.{Bool.and_parts, List.Folds.list_all-append}}
+use Rattle.std.proofs.lemmas.Map.Views.{any-filter_same}
+use Rattle.std.specs.{List.{AllByRecursion, list_any, list_all}, Option.option_eq, Prelude.{◌&&◌, ◌==◌, filter}}
+use Rattle.std.specs.{Prelude.option_map, Str.bytes_eq}
 use Rattle.cni_addr.specs.declared.mac.Mac.{Mac}
-use Rattle.cni_result.specs.declared.cached.Cached.{Cached}
-use Rattle.cni_result.specs.declared.result.Interface.{Interface}
+use Rattle.cni_result.specs.declared.{cached.Cached.Cached, result.Interface.Interface}
 use Rattle.net_conf.specs.declared.list.NetList.{NetList}
 use Rattle.pod_file.specs.declared.command.Command.{Command}
-use Rattle.std.proofs.Math.Bool.{beq, and-true}
-use Rattle.std.specs.Option.{option_eq}
-use Rattle.std.specs.Str.{bytes_eq}
-use Rattle.std.proofs.lemmas.Bool.{and_parts}
-use Rattle.std.proofs.lemmas.List.Folds.{list_all-append}
-use Rattle.std.proofs.lemmas.Map.Views.{any-filter_same}
-use Rattle.kernel_types.specs.Equal.{addr_obj_eq, chain_eq, cidr_eq, key_eq, lease_eq, link_eq, link_kind_eq, mac_eq, proto_eq, route_eq, rule_eq, setting_eq, table_eq, tag_eq, target_eq}
-use Rattle.kernel_types.specs.Terms.{cached_in, is_own}
+use Rattle.kernel_types.specs.Equal.{addr_obj_eq, chain_eq, cidr_eq, key_eq, lease_eq, link_eq, link_kind_eq, mac_eq}
+use Rattle.kernel_types.specs.Equal.{proto_eq, route_eq, rule_eq, setting_eq, table_eq, tag_eq, target_eq}
+use Rattle.kernel_types.specs.{Terms.{cached_in, is_own}, declared.object.{AddrObj.AddrObj, CachedObj.CachedObj}}
+use Rattle.kernel_types.specs.declared.object.{Host.Host, Lease.Lease, Link.Link, RouteObj.RouteObj, Setting.Setting}
+use Rattle.kernel_types.specs.declared.{object.Tag.Tag, rule.Rule.Rule}
 use Rattle.kernel_types.proofs.TouchRemoval.{is_own-tag_eq}
 use Rattle.kernel_types.proofs.ListLemmas as lists
-use Rattle.kernel_types.specs.declared.object.Host.{Host}
-use Rattle.kernel_types.specs.declared.object.Link.{Link}
-use Rattle.kernel_types.specs.declared.object.AddrObj.{AddrObj}
-use Rattle.kernel_types.specs.declared.object.RouteObj.{RouteObj}
-use Rattle.kernel_types.specs.declared.rule.Rule.{Rule}
-use Rattle.kernel_types.specs.declared.object.Setting.{Setting}
-use Rattle.kernel_types.specs.declared.object.Lease.{Lease}
-use Rattle.kernel_types.specs.declared.object.CachedObj.{CachedObj}
-use Rattle.kernel_types.specs.declared.object.Tag.{Tag}
 use Rattle.plugin_base.specs.Share.{Share}
-use Rattle.cni_errors.specs.CommandFields.{att_of}
-use Rattle.cni_verbs.specs.Questions.{addresses_of_result, share_questions, bridge_by_mac, first_interface, bridge_questions, cached_share, check_questions}
-use Rattle.cni_errors.specs.ObjectQuestions.{link_question, address_question, route_question, rule_questions, setting_question, lease_question}
+use Rattle.cni_errors.specs.{CommandFields.att_of, ObjectQuestions.{link_question, address_question, route_question}}
+use Rattle.cni_errors.specs.ObjectQuestions.{rule_questions, setting_question, lease_question}
+use Rattle.cni_errors.specs.declared.answer.{Cause.TheVariants.Missing, Missed.Missed, Question.Question}
+use Rattle.cni_verbs.specs.Questions.{addresses_of_result, share_questions, bridge_by_mac, first_interface}
+use Rattle.cni_verbs.specs.Questions.{bridge_questions, cached_share, check_questions}
 use Rattle.plugin_chain.specs.Wanted.{bridge_of}
-use Rattle.cni_errors.specs.declared.answer.Cause.TheVariants.{Missing}
-use Rattle.cni_errors.specs.declared.answer.Missed.{Missed}
 use Rattle.cni_errors.specs.declared.answer.Missed.TheVariants as missed
-use Rattle.cni_errors.specs.declared.answer.Question.{Question}
-use Rattle.pod_laws.specs.Checked.{are_in, has_bridge_by, has_bridge_for, has_first_bridge, has_objects_of, holds_cached}
-use Rattle.pod_laws.specs.Granted.{grants}
-use Rattle.pod_laws.proofs.Questions.Asking.{tells}
-use Rattle.pod_workers.proofs.Each.{each-append, each-map_of}
-use Rattle.pod_workers.proofs.Elements.{find-first, first_of}
-use Rattle.pod_laws.proofs.Checked.OwnWanted.{AreOwn, own-wanted}
-use Rattle.pod_laws.proofs.Questions.SteadyHosts.{KeepsAsked}
+use Rattle.pod_laws.specs.Checked.{are_in, has_bridge_by, has_bridge_for, has_first_bridge, has_objects_of}
+use Rattle.pod_laws.specs.{Checked.holds_cached, Granted.grants}
+use Rattle.pod_laws.proofs.{Checked.OwnWanted.{AreOwn, own-wanted}, Questions.{Asking.tells, SteadyHosts.KeepsAsked}}
+use Rattle.pod_workers.proofs.{Each.{each-append, each-map_of}, Elements.{find-first, first_of}}
 
 -- ---- one question
 

@@ -1,42 +1,29 @@
 -- A CHECK asks for its cached result and then for each object, and its answer is what the host at its last entry holds.
-use Rattle.std.proofs.Common.{◌≡◌, ℕ, ◌+◌, Bool, true, false, List, [], ◌∷◌, ◌++◌, length, Option, Some, None, refl, sym, ◌∙◌, ap, subst}
-use Rattle.std.specs.Prelude.{if◌then◌else◌}
-use Rattle.std.specs.List.{AllByRecursion}
-use Rattle.std.proofs.lemmas.List.{length_push}
+use Rattle.std.proofs.Common.{◌≡◌, ℕ, ◌+◌, Bool, true, false, List, [], ◌∷◌, ◌++◌, length, Option, Some, None, refl}
+use Rattle.std.proofs.{Common.{sym, ◌∙◌, ap, subst}, lemmas.List.length_push}
+use Rattle.std.specs.{List.AllByRecursion, Prelude.if◌then◌else◌}
 use Rattle.cni_result.specs.declared.cached.Cached.{Cached}
 use Rattle.net_conf.specs.declared.list.NetList.{NetList}
-use Rattle.pod_file.specs.declared.command.Command.{Command}
-use Rattle.pod_file.specs.declared.command.Verb.{Verb}
+use Rattle.pod_file.specs.declared.command.{Command.Command, Verb.Verb}
 use Rattle.pod_file.specs.declared.command.Verb.TheVariants as verbs
-use Rattle.kernel_types.specs.Apply.{apply}
-use Rattle.kernel_types.specs.Replies.{is_fault}
-use Rattle.kernel_types.specs.Terms.{cached_in}
+use Rattle.kernel_types.specs.{Apply.apply, Replies.is_fault, Terms.cached_in, declared.call.Call.TheVariants.CacheGet}
+use Rattle.kernel_types.specs.declared.{call.Reply.TheVariants.Fault, object.Host.Host}
 use Rattle.kernel_types.proofs.Replies.{IsReplyOf-apply}
-use Rattle.kernel_types.specs.declared.object.Host.{Host}
-use Rattle.kernel_types.specs.declared.call.Call.TheVariants.{CacheGet}
-use Rattle.kernel_types.specs.declared.call.Reply.TheVariants.{Fault}
-use Rattle.cni_errors.specs.CommandFields.{att_of, del_refusal}
-use Rattle.cni_verbs.specs.Questions.{check_questions}
-use Rattle.cni_verbs.specs.Script.{State, FindingEntry, Asking, Over, Calls, advance, asking, at_entry, at_question, checking, start_of, turn, unless_refused}
-use Rattle.cni_errors.specs.declared.answer.Cause.{Cause}
+use Rattle.cni_errors.specs.{CommandFields.{att_of, del_refusal}, declared.answer.{Cause.Cause, Ending.Ending}}
+use Rattle.cni_errors.specs.declared.answer.{Ending.TheVariants.{Skipped, Refused}, Question.Question}
+use Rattle.cni_verbs.specs.{Questions.check_questions, Script.{State, FindingEntry, Asking, Over, Calls, advance}}
+use Rattle.cni_verbs.specs.Script.{asking, at_entry, at_question, checking, start_of, turn, unless_refused}
 use Rattle.cni_errors.specs.declared.answer.Cause.TheVariants as causes
-use Rattle.cni_errors.specs.declared.answer.Ending.{Ending}
-use Rattle.cni_errors.specs.declared.answer.Ending.TheVariants.{Skipped, Refused}
-use Rattle.cni_errors.specs.declared.answer.Question.{Question}
 use Rattle.cni_errors.specs.declared.answer.Skip.TheVariants as skips
-use Rattle.pod_workers.specs.World.{entry_of, host_of, reply_to}
-use Rattle.pod_workers.specs.declared.plan.Entry.{Entry}
-use Rattle.pod_laws.specs.Checked.{EndsByEntry, EndsByList, EndsCheck, IsMissing, WasChecked, holds_cached}
-use Rattle.pod_laws.specs.Granted.{only_asks}
-use Rattle.pod_laws.specs.Moments.{has_fault, host_at_end, own_entries}
-use Rattle.pod_laws.specs.Answers.{EndsByFault}
+use Rattle.pod_workers.specs.{World.{entry_of, host_of, reply_to}, declared.plan.Entry.Entry}
+use Rattle.pod_laws.specs.{Answers.EndsByFault, Checked.{EndsByEntry, EndsByList, EndsCheck, IsMissing, WasChecked}}
+use Rattle.pod_laws.specs.{Checked.holds_cached, Granted.only_asks, Moments.{has_fault, host_at_end, own_entries}}
 use Rattle.pod_workers.proofs.Each.{each-at, each-prefix}
-use Rattle.pod_laws.proofs.Questions.Asking.{EndsAsked, HasAsked, IsAsking, asked-all, asked-none, asked-reply, by-asked, no_fault-more, fault-last}
-use Rattle.pod_laws.proofs.Checked.Questions.{IsSteadyQuestion, cached-stays, granted-check, granted-stay, steady-questions}
-use Rattle.pod_laws.proofs.Given.CutOff.{over-by, answered-by}
-use Rattle.pod_laws.proofs.Histories.RunFacts.{HostFact, IsHostFact, StartsOn, each-run}
-use Rattle.pod_laws.proofs.Questions.Entries.{question-entered}
-use Rattle.pod_laws.proofs.Histories.Runs.{own-state}
+use Rattle.pod_laws.proofs.Checked.Questions.{IsSteadyQuestion, cached-stays, granted-check, granted-stay}
+use Rattle.pod_laws.proofs.{Checked.Questions.steady-questions, Given.CutOff.{over-by, answered-by}}
+use Rattle.pod_laws.proofs.Histories.{RunFacts.{HostFact, IsHostFact, StartsOn, each-run}, Runs.own-state}
+use Rattle.pod_laws.proofs.Questions.Asking.{EndsAsked, HasAsked, IsAsking, asked-all, asked-none, asked-reply}
+use Rattle.pod_laws.proofs.Questions.{Asking.{by-asked, no_fault-more, fault-last}, Entries.question-entered}
 use Rattle.pod_laws.proofs.Questions.SteadyHosts.{KeepsAsked, asked-kept}
 
 -- ---- how it ends

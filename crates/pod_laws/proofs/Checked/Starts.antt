@@ -1,56 +1,37 @@
 -- What a CHECK asks for is in the host before its first entry as after its last.
-use Rattle.std.proofs.Common.{◌≡◌, ◌≢◌, ℕ, Bool, true, false, not, List, [], ◌∷◌, ◌++◌, length, Option, Some, None, refl, sym, ◌∙◌, ap, subst, inl, inr, ◌⊎◌, arith}
-use Rattle.std.specs.Prelude.{◌&&◌, filter, if◌then◌else◌}
-use Rattle.std.specs.List.{list_all, list_any}
-use Rattle.std.specs.Cmp.Lexicographic.{nat_list_eq_equiv}
-use Rattle.std.specs.Str.{bytes_eq}
-use Rattle.std.proofs.lemmas.Bool.{and_parts, both_ways, cases_Bool}
-use Rattle.std.proofs.lemmas.Bool.Decides.{eqb_tells}
-use Rattle.std.proofs.lemmas.List.{nil_from_length}
-use Rattle.std.proofs.lemmas.Map.Views.{any-filter_same}
+use Rattle.std.proofs.Common.{◌≡◌, ◌≢◌, ℕ, Bool, true, false, not, List, [], ◌∷◌, ◌++◌, length, Option, Some, None}
+use Rattle.std.proofs.{Common.{refl, sym, ◌∙◌, ap, subst, inl, inr, ◌⊎◌, arith}, lemmas.Bool.{and_parts, both_ways}}
+use Rattle.std.proofs.lemmas.{Bool.{cases_Bool, Decides.eqb_tells}, List.nil_from_length, Map.Views.any-filter_same}
 use Rattle.std.proofs.lemmas.Slice.Eq.{bytes_eq-Decides}
-use Rattle.cni_addr.specs.Equal.{mac_eq}
-use Rattle.cni_addr.specs.Lists.{distinct}
-use Rattle.cni_addr.specs.declared.mac.Mac.{Mac}
-use Rattle.cni_result.specs.declared.cached.Cached.{Cached}
-use Rattle.cni_result.specs.declared.result.Interface.{Interface}
+use Rattle.std.specs.{Cmp.Lexicographic.nat_list_eq_equiv, List.{list_all, list_any}, Prelude.{◌&&◌, filter}}
+use Rattle.std.specs.{Prelude.if◌then◌else◌, Str.bytes_eq}
+use Rattle.cni_addr.specs.{Equal.mac_eq, Lists.distinct, declared.mac.Mac.Mac}
+use Rattle.cni_result.specs.declared.{cached.Cached.Cached, result.Interface.Interface}
 use Rattle.cni_errors.specs.CommandFields.{att_of}
 use Rattle.cni_verbs.specs.Questions.{addresses_of_result, cached_share}
 use Rattle.plugin_chain.specs.Wanted.{bridge_of}
-use Rattle.kernel_types.specs.Apply.Calls.{has_object}
-use Rattle.kernel_types.specs.Equal.{addr_obj_eq, lease_eq, link_eq, route_eq, rule_eq, setting_eq, tag_eq}
-use Rattle.kernel_types.specs.Sound.{IsSound}
-use Rattle.kernel_types.specs.Terms.{cached_in, is_at, is_bridge, is_bridge_with, is_host_bridge, is_host_link, is_host_ns, is_own}
-use Rattle.kernel_types.proofs.ListLemmas.{list_any-weaker}
-use Rattle.kernel_types.proofs.TouchRemoval.{is_own-tag_eq}
-use Rattle.kernel_types.specs.declared.object.Att.{Att}
-use Rattle.kernel_types.specs.declared.object.Host.{Host}
-use Rattle.kernel_types.specs.declared.object.Link.{Link}
+use Rattle.kernel_types.specs.{Apply.Calls.has_object, Equal.{addr_obj_eq, lease_eq, link_eq, route_eq, rule_eq}}
+use Rattle.kernel_types.specs.{Equal.{setting_eq, tag_eq}, Sound.IsSound, Terms.{cached_in, is_at, is_bridge}}
+use Rattle.kernel_types.specs.Terms.{is_bridge_with, is_host_bridge, is_host_link, is_host_ns, is_own}
+use Rattle.kernel_types.specs.declared.{call.Probe.TheVariants.BridgeAt, object.{Att.Att, Host.Host, Link.Link}}
 use Rattle.kernel_types.specs.declared.object.Tag.{Tag}
-use Rattle.kernel_types.specs.declared.call.Probe.TheVariants.{BridgeAt}
+use Rattle.kernel_types.proofs.{ListLemmas.list_any-weaker, TouchRemoval.is_own-tag_eq}
 use Rattle.net_conf.specs.declared.list.NetList.{NetList}
 use Rattle.plugin_base.specs.Share.{Share, share_of}
-use Rattle.pod_file.specs.Commands.{is_of_network}
-use Rattle.pod_file.specs.declared.command.Command.{Command}
-use Rattle.pod_workers.specs.Legal.{Legal}
-use Rattle.pod_workers.specs.Plans.{Placed, list_for}
-use Rattle.pod_workers.specs.World.{World, after, entry_of, host_of}
-use Rattle.pod_workers.specs.declared.plan.Entry.{Entry}
-use Rattle.pod_workers.specs.declared.plan.Plan.{Plan}
-use Rattle.pod_workers.proofs.Histories.{after-append}
-use Rattle.pod_workers.proofs.Listed.{listed_network}
-use Rattle.pod_laws.specs.Checked.{ChecksHoldFromTheirStart, HoldAlike, are_in, has_bridge_by, has_bridge_for, has_objects_of}
-use Rattle.pod_laws.specs.Granted.{only_asks}
-use Rattle.pod_laws.specs.Moments.{host_at_end, host_at_start, is_of, own_entries, until_first, until_last}
-use Rattle.pod_laws.proofs.Histories.AloneRuns.{until_first-own}
-use Rattle.pod_laws.proofs.Checked.CachedBridges.{always-named, has_bridge_named}
-use Rattle.pod_laws.proofs.Checked.Questions.{address-tag, cached-stays, lease-tag, link-tag, route-tag, rule-tag, setting-tag}
-use Rattle.pod_laws.proofs.Histories.Entries.{is_of-own, no-entries, own_entries-other, until_last-other, until_last-own}
-use Rattle.pod_laws.proofs.Shares.DistinctLeases.{sound-at_end}
-use Rattle.pod_laws.proofs.Checked.OwnWanted.{AreOwn, own-wanted}
-use Rattle.pod_laws.proofs.Questions.Entries.{question-entered}
+use Rattle.pod_file.specs.{Commands.is_of_network, declared.command.Command.Command}
+use Rattle.pod_workers.specs.{Legal.Legal, Plans.{Placed, list_for}, World.{World, after, entry_of, host_of}}
+use Rattle.pod_workers.specs.declared.plan.{Entry.Entry, Plan.Plan}
+use Rattle.pod_workers.proofs.{Histories.after-append, Listed.listed_network}
+use Rattle.pod_laws.specs.Checked.{ChecksHoldFromTheirStart, HoldAlike, are_in, has_bridge_by, has_bridge_for}
+use Rattle.pod_laws.specs.{Checked.has_objects_of, Granted.only_asks, Moments.{host_at_end, host_at_start, is_of}}
+use Rattle.pod_laws.specs.Moments.{own_entries, until_first, until_last}
+use Rattle.pod_laws.proofs.Checked.{CachedBridges.{always-named, has_bridge_named}, OwnWanted.{AreOwn, own-wanted}}
+use Rattle.pod_laws.proofs.Checked.Questions.{address-tag, cached-stays, lease-tag, link-tag, route-tag, rule-tag}
+use Rattle.pod_laws.proofs.{Checked.Questions.setting-tag, Histories.{AloneRuns.until_first-own, Entries.is_of-own}}
+use Rattle.pod_laws.proofs.Histories.Entries.{no-entries, own_entries-other, until_last-other, until_last-own}
 use Rattle.pod_laws.proofs.Histories.Steps.{AllListed, IsOtherKept, IsOwnKept, ListFact, by-listed}
-use Rattle.pod_laws.proofs.Questions.SteadyHosts.{KeepsAsked, KeepsBridges, asked-kept, keeps-same}
+use Rattle.pod_laws.proofs.Questions.{Entries.question-entered, SteadyHosts.{KeepsAsked, KeepsBridges, asked-kept}}
+use Rattle.pod_laws.proofs.{Questions.SteadyHosts.keeps-same, Shares.DistinctLeases.sound-at_end}
 use Rattle.pod_laws.proofs.Shares.Within.{list_named-listed}
 
 -- ---- from the first entry to the last

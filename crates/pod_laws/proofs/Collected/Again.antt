@@ -1,26 +1,22 @@
 -- A GC after another one leaves what the first was to keep.
-use Rattle.std.proofs.Common.{◌≡◌, ℕ, ◌≤◌, Bool, true, false, List, [], ◌∷◌, length, refl, sym, ◌∙◌, ap, subst, inl, inr, arith}
+use Rattle.std.proofs.Common.{◌≡◌, ℕ, ◌≤◌, Bool, true, false, List, [], ◌∷◌, length, refl, sym, ◌∙◌, ap, subst, inl}
+use Rattle.std.proofs.Common.{inr, arith}
 use Rattle.std.specs.Prelude.{filter, if◌then◌else◌}
 use Rattle.plugin_base.proofs.KeyLists.{filter-within}
 use Rattle.net_conf.specs.declared.list.NetList.{NetList}
-use Rattle.pod_file.specs.declared.command.Command.{Command}
+use Rattle.pod_file.specs.{Commands.{is_of_network, is_exclusive_verb}, declared.command.Command.Command}
 use Rattle.pod_file.specs.declared.command.ValidAtt.{ValidAtt}
-use Rattle.kernel_types.specs.Touch.{DropsOnly}
-use Rattle.kernel_types.specs.declared.object.Host.{Host}
+use Rattle.kernel_types.specs.{Touch.DropsOnly, declared.object.Host.Host}
 use Rattle.cni_errors.specs.declared.answer.Answer.TheVariants as answers
-use Rattle.gc_sweep.specs.Keep.{keep, stays}
-use Rattle.gc_sweep.specs.Sweep.{Bounds}
-use Rattle.gc_sweep.proofs.Kept.{host_of_parts}
-use Rattle.gc_sweep.proofs.Lists.{count_drops, filter_every}
-use Rattle.pod_file.specs.Commands.{is_of_network, is_exclusive_verb}
+use Rattle.gc_sweep.specs.{Keep.{keep, stays}, Sweep.Bounds}
+use Rattle.gc_sweep.proofs.{Kept.host_of_parts, Lists.{count_drops, filter_every}}
 use Rattle.pod_workers.specs.declared.plan.Entry.{Entry}
-use Rattle.pod_workers.proofs.Listed.{listed_network}
-use Rattle.pod_workers.proofs.Splits.{none-or-some}
-use Rattle.pod_laws.specs.Answers.{OrCutOff}
-use Rattle.pod_laws.specs.Collected.{CollectionsInARowKeep, CollectionsFillTheirRounds, IsCleanCollection, IsCollectionAnswer}
-use Rattle.pod_laws.specs.Moments.{host_at_end, host_at_round, host_at_start, own_entries}
-use Rattle.pod_laws.proofs.Collected.Answered.{collections_are_answered, collections_are_bounded}
+use Rattle.pod_workers.proofs.{Listed.listed_network, Splits.none-or-some}
+use Rattle.pod_laws.specs.{Answers.OrCutOff, Collected.{CollectionsInARowKeep, CollectionsFillTheirRounds}}
+use Rattle.pod_laws.specs.{Collected.{IsCleanCollection, IsCollectionAnswer}, Moments.{host_at_end, host_at_round}}
+use Rattle.pod_laws.specs.Moments.{host_at_start, own_entries}
 use Rattle.pod_laws.proofs.Collected.AloneRounds.{end-round, start-after, start-round}
+use Rattle.pod_laws.proofs.Collected.Answered.{collections_are_answered, collections_are_bounded}
 
 -- ---- lists that lost elements
 

@@ -1,28 +1,18 @@
 -- An exclusive command that makes a call starts with its round and ends with it.
-use Rattle.std.proofs.Common.{◌≡◌, ◌≢◌, ℕ, ◌+◌, ◌≤◌, true, false, List, [], ◌∷◌, ◌++◌, Some, slice_get, refl, sym, ◌∙◌, ap, subst, inl, inr, ◌⊎◌, append_assoc, arith}
-use Rattle.std.specs.Prelude.{◌<◌, if◌then◌else◌}
-use Rattle.std.specs.List.{list_any}
-use Rattle.std.proofs.lemmas.Bool.{cases_lt, cases_order, le-ltb, lt-ltb, or_left}
-use Rattle.std.proofs.lemmas.List.Elements.{filter-append}
-use Rattle.std.proofs.lemmas.Option.{same_Some}
+use Rattle.std.proofs.Common.{◌≡◌, ◌≢◌, ℕ, ◌+◌, ◌≤◌, true, false, List, [], ◌∷◌, ◌++◌, Some, slice_get, refl, sym, ◌∙◌}
+use Rattle.std.proofs.{Common.{ap, subst, inl, inr, ◌⊎◌, append_assoc, arith}, lemmas.Bool.{cases_lt, cases_order}}
+use Rattle.std.proofs.lemmas.{Bool.{le-ltb, lt-ltb, or_left}, List.Elements.filter-append, Option.same_Some}
+use Rattle.std.specs.{List.list_any, Prelude.{◌<◌, if◌then◌else◌}}
 use Rattle.pod_file.specs.Commands.{is_exclusive_verb}
 use Rattle.kernel_types.proofs.ListLemmas.{list_any-append_right}
 use Rattle.plugin_base.proofs.Deletions.{empty_none}
-use Rattle.pod_workers.specs.Facts.{EachOne, IsEntryOf}
-use Rattle.pod_workers.specs.Legal.{Legal}
-use Rattle.pod_workers.specs.Plans.{Placed, commands_of}
-use Rattle.pod_workers.specs.World.{World, after, at_number, replies_of, replies_in}
-use Rattle.pod_workers.specs.declared.plan.Entry.{Entry}
-use Rattle.pod_workers.specs.declared.plan.Plan.{Plan}
-use Rattle.pod_workers.proofs.Elements.{at_number-is}
-use Rattle.pod_workers.proofs.Facts.{each_follows, goes_by_rounds}
-use Rattle.pod_workers.proofs.Histories.{entry_or_none, has_reply}
-use Rattle.pod_workers.proofs.Sound.{fine}
-use Rattle.pod_workers.proofs.Splits.{cons_parts}
-use Rattle.pod_workers.proofs.WellFormedPlans.{stand_alone}
-use Rattle.pod_laws.specs.Moments.{host_at_end, host_at_round, host_at_start, is_before, is_of, own_entries, until_first, until_last, until_round}
-use Rattle.pod_laws.proofs.Histories.AloneRuns.{until_first-own}
-use Rattle.pod_laws.proofs.Histories.Entries.{is_of-own, no-entries, same-place}
+use Rattle.pod_workers.specs.{Facts.{EachOne, IsEntryOf}, Legal.Legal, Plans.{Placed, commands_of}, World.World}
+use Rattle.pod_workers.specs.{World.{after, at_number, replies_of, replies_in}, declared.plan.{Entry.Entry, Plan.Plan}}
+use Rattle.pod_workers.proofs.{Elements.at_number-is, Facts.{each_follows, goes_by_rounds}, Histories.entry_or_none}
+use Rattle.pod_workers.proofs.{Histories.has_reply, Sound.fine, Splits.cons_parts, WellFormedPlans.stand_alone}
+use Rattle.pod_laws.specs.Moments.{host_at_end, host_at_round, host_at_start, is_before, is_of, own_entries}
+use Rattle.pod_laws.specs.Moments.{until_first, until_last, until_round}
+use Rattle.pod_laws.proofs.Histories.{AloneRuns.until_first-own, Entries.{is_of-own, no-entries, same-place}}
 
 -- ---- commands of a round
 

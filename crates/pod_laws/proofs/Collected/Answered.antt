@@ -1,43 +1,32 @@
 -- What a GC leaves and answers, from the laws of a GC that is alone with a host.
-use Rattle.std.proofs.Common.{◌≡◌, ◌≢◌, ℕ, ◌+◌, ◌≤◌, true, List, length, [], ◌∷◌, Option, Some, None, refl, sym, ◌∙◌, ap, subst, inl, inr, ◌⊎◌}
+use Rattle.std.proofs.Common.{◌≡◌, ◌≢◌, ℕ, ◌+◌, ◌≤◌, true, List, length, [], ◌∷◌, Option, Some, None, refl, sym, ◌∙◌}
+use Rattle.std.proofs.{Common.{ap, subst, inl, inr, ◌⊎◌}, lemmas.{Bool.cases_Bool, List.length-map, Option.none-some}}
 use Rattle.std.specs.Prelude.{is_some}
-use Rattle.std.proofs.lemmas.Bool.{cases_Bool}
-use Rattle.std.proofs.lemmas.List.{length-map}
-use Rattle.std.proofs.lemmas.Option.{none-some}
 use Rattle.cni_addr.specs.declared.address.Addr.{Addr}
 use Rattle.net_conf.specs.declared.list.NetList.{NetList}
-use Rattle.pod_file.specs.declared.command.Command.{Command}
+use Rattle.pod_file.specs.{Commands.{is_of_network, is_exclusive_verb}, declared.command.Command.Command}
 use Rattle.pod_file.specs.declared.command.Verb.TheVariants as verbs
-use Rattle.kernel_types.specs.Sound.{IsSound}
-use Rattle.kernel_types.specs.declared.object.Host.{Host}
-use Rattle.kernel_types.specs.declared.call.Reply.{Reply}
-use Rattle.cni_verbs.specs.Script.{State, Collecting, Over, advance, finish_of, gc_of, faults_after, next_call, start_of, start_state, state_after, state_from, swept, early_ending, unless_ended}
-use Rattle.cni_verbs.specs.Sweep.{Work, start_work, work_after}
-use Rattle.cni_errors.specs.declared.answer.Answer.{Answer}
+use Rattle.kernel_types.specs.{Sound.IsSound, declared.{call.Reply.Reply, object.Host.Host}}
+use Rattle.cni_verbs.specs.{Progress.is_gc, Script.{State, Collecting, Over, advance, finish_of, gc_of, faults_after}}
+use Rattle.cni_verbs.specs.Script.{next_call, start_of, start_state, state_after, state_from, swept, early_ending}
+use Rattle.cni_verbs.specs.{Script.unless_ended, Sweep.{Work, start_work, work_after}}
+use Rattle.cni_errors.specs.declared.answer.{Answer.Answer, Ending.{Ending, TheVariants.{Yes, Skipped, Refused}}}
 use Rattle.cni_errors.specs.declared.answer.Cause.TheVariants as causes
-use Rattle.cni_errors.specs.declared.answer.Ending.{Ending}
-use Rattle.cni_errors.specs.declared.answer.Ending.TheVariants.{Yes, Skipped, Refused}
 use Rattle.cni_errors.specs.declared.answer.Skip.TheVariants as skips
 use Rattle.cni_verbs.proofs.EarlyEndings.{early_ending-cases, too_old}
-use Rattle.gc_sweep.specs.Bound.{most_of_collection}
-use Rattle.gc_sweep.specs.Keep.{keep}
-use Rattle.gc_sweep.specs.Sweep.{AreExcused, Bounds, IsCollected, fault_numbers, is_early}
+use Rattle.gc_sweep.specs.{Bound.most_of_collection, Keep.keep, Sweep.{AreExcused, Bounds, IsCollected, fault_numbers}}
+use Rattle.gc_sweep.specs.Sweep.{is_early}
 use Rattle.gc_sweep.specs.Trace as trace
-use Rattle.cni_verbs.specs.Progress.{is_gc}
-use Rattle.gc_sweep.proofs.Calls.{gc_bound}
-use Rattle.gc_sweep.proofs.Leaves.{always_bounded, faults_named, over_excused, yes_keeps}
-use Rattle.pod_file.specs.Commands.{is_of_network, is_exclusive_verb}
-use Rattle.pod_workers.specs.Plans.{Placed, list_for}
-use Rattle.pod_workers.specs.World.{World, after, made_in, made_of}
+use Rattle.gc_sweep.proofs.{Calls.gc_bound, Leaves.{always_bounded, faults_named, over_excused, yes_keeps}}
+use Rattle.pod_workers.specs.{Plans.{Placed, list_for}, World.{World, after, made_in, made_of}}
 use Rattle.pod_workers.specs.declared.plan.Entry.{Entry}
 use Rattle.pod_workers.proofs.Listed.{listed_network}
-use Rattle.pod_laws.specs.Collected.{CollectionsAreAnswered, CollectionsAreBounded, CollectionsAreShort, IsCleanCollection, IsCollectionAnswer, IsFaultyCollection}
-use Rattle.pod_laws.specs.Moments.{has_fault, host_at_end, host_at_start, own_entries}
-use Rattle.pod_laws.proofs.Histories.AloneRuns.{StandsTogether, alone-end, alone-start, stands_together}
-use Rattle.pod_laws.proofs.Collected.Runs.{no-faults, some-faults, to-replies}
-use Rattle.pod_laws.proofs.Given.Due.{IsOver, IsSwept, answer-due}
-use Rattle.pod_laws.proofs.Histories.Entries.{replies_in}
-use Rattle.pod_laws.proofs.Given.OfRuns.{Says, says}
+use Rattle.pod_laws.specs.Collected.{CollectionsAreAnswered, CollectionsAreBounded, CollectionsAreShort}
+use Rattle.pod_laws.specs.{Collected.{IsCleanCollection, IsCollectionAnswer, IsFaultyCollection}, Moments.has_fault}
+use Rattle.pod_laws.specs.Moments.{host_at_end, host_at_start, own_entries}
+use Rattle.pod_laws.proofs.{Collected.Runs.{no-faults, some-faults, to-replies}, Given.Due.{IsOver, IsSwept}}
+use Rattle.pod_laws.proofs.{Given.{Due.answer-due, OfRuns.{Says, says}}, Histories.AloneRuns.StandsTogether}
+use Rattle.pod_laws.proofs.Histories.{AloneRuns.{alone-end, alone-start, stands_together}, Entries.replies_in}
 use Rattle.pod_laws.proofs.Histories.RunFacts.{state_by}
 
 -- ---- how a GC starts

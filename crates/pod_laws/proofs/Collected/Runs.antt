@@ -4,8 +4,7 @@ use Rattle.std.specs.Prelude.{◌||◌, if◌then◌else◌}
 use Rattle.kernel_types.specs.Replies.{is_fault}
 use Rattle.gc_sweep.specs.Sweep.{fault_numbers}
 use Rattle.gc_sweep.specs.Trace as trace
-use Rattle.pod_workers.specs.World.{made_in}
-use Rattle.pod_workers.specs.declared.plan.Entry.{Entry}
+use Rattle.pod_workers.specs.{World.made_in, declared.plan.Entry.Entry}
 use Rattle.pod_laws.specs.Moments.{has_fault}
 use Rattle.pod_laws.proofs.Histories.Entries.{replies_in}
 

@@ -1,33 +1,23 @@
 -- Each entry of a DEL removes own objects alone, and changes nothing where there are none.
 use Rattle.std.proofs.Common.{◌≡◌, List, refl, ap, subst}
 use Rattle.net_conf.specs.declared.list.NetList.{NetList}
-use Rattle.pod_file.specs.declared.command.Command.{Command}
+use Rattle.pod_file.specs.{Commands.is_of_network, declared.command.Command.Command}
 use Rattle.pod_file.specs.declared.command.Verb.TheVariants as verbs
-use Rattle.kernel_types.specs.Apply.{apply}
-use Rattle.kernel_types.specs.Sound.{IsSound}
+use Rattle.kernel_types.specs.{Apply.apply, Sound.IsSound, declared.call.{Call.{Call, TheVariants.CacheGet}, Kind.Kind}}
+use Rattle.kernel_types.specs.declared.object.{Att.Att, Host.Host}
 use Rattle.kernel_types.proofs.DropsOwn.{RemovesOwn-apply, RemovesOwn-nothing}
-use Rattle.kernel_types.specs.declared.object.Att.{Att}
-use Rattle.kernel_types.specs.declared.object.Host.{Host}
-use Rattle.kernel_types.specs.declared.call.Kind.{Kind}
-use Rattle.kernel_types.specs.declared.call.Call.{Call}
-use Rattle.kernel_types.specs.declared.call.Call.TheVariants.{CacheGet}
 use Rattle.plugin_base.specs.Share.{Share, share_of}
 use Rattle.cni_errors.specs.CommandFields.{att_of}
-use Rattle.cni_verbs.specs.Script.{State, AtBegin, BeforeLeases, Leasing, AfterLeases, ReadingCache, Deleting, Over, Calls, turn}
+use Rattle.cni_verbs.specs.Script.{State, AtBegin, BeforeLeases, Leasing, AfterLeases, ReadingCache, Deleting, Over}
+use Rattle.cni_verbs.specs.Script.{Calls, turn}
 use Rattle.plugin_chain.specs.Wanted.{deletion}
-use Rattle.gc_sweep.proofs.Deletions.{deletion-none}
-use Rattle.gc_sweep.proofs.Removes.{deletes-deletion}
-use Rattle.pod_file.specs.Commands.{is_of_network}
-use Rattle.pod_workers.specs.World.{host_of}
-use Rattle.pod_workers.specs.declared.plan.Entry.{Entry}
+use Rattle.gc_sweep.proofs.{Deletions.deletion-none, Removes.deletes-deletion}
+use Rattle.pod_workers.specs.{World.host_of, declared.plan.Entry.Entry}
 use Rattle.pod_workers.proofs.Sound.{sound_host}
-use Rattle.pod_laws.specs.Deleted.{DeletesOwnAlone, EachDeletionIsOwn}
-use Rattle.pod_laws.specs.Moments.{own_entries}
-use Rattle.pod_laws.proofs.Histories.EachEntry.{DoesByVerb, each-entry_of}
-use Rattle.pod_laws.proofs.Histories.Runs.{every-run-now, own-state}
-use Rattle.pod_laws.proofs.Histories.States.{IsOtherVerb, not-both}
-use Rattle.pod_laws.proofs.Histories.Steps.{on-entry}
-use Rattle.pod_laws.proofs.Refused.Undoing.{Undoing, undone-start, undone-step}
+use Rattle.pod_laws.specs.{Deleted.{DeletesOwnAlone, EachDeletionIsOwn}, Moments.own_entries}
+use Rattle.pod_laws.proofs.Histories.{EachEntry.{DoesByVerb, each-entry_of}, Runs.{every-run-now, own-state}}
+use Rattle.pod_laws.proofs.{Histories.{States.{IsOtherVerb, not-both}, Steps.on-entry}, Refused.Undoing.Undoing}
+use Rattle.pod_laws.proofs.Refused.Undoing.{undone-start, undone-step}
 
 -- ---- one entry
 

@@ -1,32 +1,24 @@
 -- The first entry of an ADD is its Begin, and no other follows one that was not done.
-use Rattle.std.proofs.Common.{◌≡◌, ◌≢◌, ℕ, Bool, true, List, [], ◌∷◌, ◌++◌, slice_get, Some, refl, sym, ◌∙◌, ap, subst, inl, inr, ◌⊎◌}
-use Rattle.std.proofs.lemmas.Bool.{and_parts}
+use Rattle.std.proofs.Common.{◌≡◌, ◌≢◌, ℕ, Bool, true, List, [], ◌∷◌, ◌++◌, slice_get, Some, refl, sym, ◌∙◌, ap, subst}
+use Rattle.std.proofs.{Common.{inl, inr, ◌⊎◌}, lemmas.Bool.and_parts}
 use Rattle.std.specs.List.{list_all}
 use Rattle.net_conf.specs.declared.list.NetList.{NetList}
-use Rattle.pod_file.specs.declared.command.Command.{Command}
+use Rattle.pod_file.specs.{Commands.is_of_network, declared.command.Command.Command}
 use Rattle.pod_file.specs.declared.command.Verb.TheVariants as verbs
-use Rattle.kernel_types.specs.declared.call.Call.{Call}
-use Rattle.kernel_types.specs.declared.call.Call.TheVariants.{Begin}
+use Rattle.kernel_types.specs.declared.call.Call.{Call, TheVariants.Begin}
 use Rattle.plugin_base.specs.Share.{Share, share_of}
-use Rattle.cni_verbs.specs.AddCalls.{is_done}
-use Rattle.cni_errors.specs.CommandFields.{att_of}
-use Rattle.cni_verbs.specs.Script.{State, AtBegin, BeforeLeases, Leasing, AfterLeases, ReadingCache, Deleting, Over, Calls, turn}
-use Rattle.cni_errors.specs.declared.answer.Ending.{Ending}
-use Rattle.cni_errors.specs.declared.answer.Ending.TheVariants.{Added, Yes, Skipped, Versions, Refused}
-use Rattle.pod_workers.specs.Legal.{Legal}
-use Rattle.pod_file.specs.Commands.{is_of_network}
-use Rattle.pod_workers.specs.Plans.{Placed, commands_of}
-use Rattle.pod_workers.specs.World.{World, entry_of, host_of, reply_to}
+use Rattle.cni_verbs.specs.{AddCalls.is_done, Script.{State, AtBegin, BeforeLeases, Leasing, AfterLeases, ReadingCache}}
+use Rattle.cni_verbs.specs.Script.{Deleting, Over, Calls, turn}
+use Rattle.cni_errors.specs.{CommandFields.att_of, declared.answer.Ending.{Ending, TheVariants.{Added, Yes, Skipped}}}
+use Rattle.cni_errors.specs.declared.answer.Ending.TheVariants.{Versions, Refused}
+use Rattle.pod_workers.specs.{Legal.Legal, Plans.{Placed, commands_of}, World.{World, entry_of, host_of, reply_to}}
 use Rattle.pod_workers.specs.declared.plan.Entry.{Entry}
-use Rattle.pod_workers.proofs.Listed.{listed_network}
-use Rattle.pod_workers.proofs.Splits.{cons_parts}
-use Rattle.pod_laws.specs.Moments.{own_entries}
-use Rattle.pod_laws.specs.Refused.{lets_go_on}
-use Rattle.pod_laws.proofs.Histories.Begins.{first-call, granted-done}
-use Rattle.pod_laws.proofs.Refused.Causes.{IsPluginReply, begin-may}
-use Rattle.pod_laws.proofs.Histories.Runs.{IsRunFact, StartsWith, every-run, every-run-now, own-state}
-use Rattle.pod_laws.proofs.Histories.States.{IsOtherVerb, not-both}
-use Rattle.pod_laws.proofs.Refused.Undoing.{Leads, Undoing, undone-start, undone-step}
+use Rattle.pod_workers.proofs.{Listed.listed_network, Splits.cons_parts}
+use Rattle.pod_laws.specs.{Moments.own_entries, Refused.lets_go_on}
+use Rattle.pod_laws.proofs.Histories.{Begins.{first-call, granted-done}, Runs.{IsRunFact, StartsWith, every-run}}
+use Rattle.pod_laws.proofs.Histories.{Runs.{every-run-now, own-state}, States.{IsOtherVerb, not-both}}
+use Rattle.pod_laws.proofs.Refused.{Causes.{IsPluginReply, begin-may}, Undoing.{Leads, Undoing, undone-start}}
+use Rattle.pod_laws.proofs.Refused.Undoing.{undone-step}
 
 -- ---- the first entry of an ADD that goes on was granted
 

@@ -1,17 +1,14 @@
 -- In one container, one command makes all its entries before another makes its first.
-use Rattle.std.proofs.Common.{◌≡◌, ◌≢◌, ℕ, ◌+◌, Bool, List, [], ◌∷◌, ◌++◌, Some, None, slice_get, refl, sym, ◌∙◌, ap, subst, inl, inr, ◌⊎◌}
-use Rattle.std.proofs.lemmas.Bool.Decides.{eqb_tells}
+use Rattle.std.proofs.Common.{◌≡◌, ◌≢◌, ℕ, ◌+◌, Bool, List, [], ◌∷◌, ◌++◌, Some, None, slice_get, refl, sym, ◌∙◌, ap}
+use Rattle.std.proofs.{Common.{subst, inl, inr, ◌⊎◌}, lemmas.Bool.Decides.eqb_tells}
 use Rattle.kernel_types.specs.declared.call.Call.{Call}
-use Rattle.pod_workers.specs.Legal.{Legal}
-use Rattle.pod_workers.specs.Plans.{Placed, commands_of}
-use Rattle.pod_workers.specs.World.{World, entry_of, host_of}
-use Rattle.pod_workers.specs.declared.plan.Entry.{Entry}
-use Rattle.pod_workers.specs.declared.plan.Plan.{Plan}
+use Rattle.pod_workers.specs.{Legal.Legal, Plans.{Placed, commands_of}, World.{World, entry_of, host_of}}
+use Rattle.pod_workers.specs.declared.plan.{Entry.Entry, Plan.Plan}
 use Rattle.pod_workers.proofs.Order.{apart, ready_is}
 use Rattle.pod_laws.specs.Moments.{own_entries, until_last}
-use Rattle.pod_laws.proofs.Histories.AloneRuns.{legal-of, ready-of}
-use Rattle.pod_laws.proofs.Histories.Entries.{apart-entry, is_of-own, no-entries, own_entries-other, until_last-own, until_last-other}
-use Rattle.pod_laws.proofs.Histories.Steps.{AllOpen, ChangesKeep, EntriesKeep, Goes, IsOpenKept, OpenFact, by-entries, by-open}
+use Rattle.pod_laws.proofs.Histories.{AloneRuns.{legal-of, ready-of}, Entries.{apart-entry, is_of-own, no-entries}}
+use Rattle.pod_laws.proofs.Histories.{Entries.{own_entries-other, until_last-own, until_last-other}, Steps.AllOpen}
+use Rattle.pod_laws.proofs.Histories.Steps.{ChangesKeep, EntriesKeep, Goes, IsOpenKept, OpenFact, by-entries, by-open}
 
 -- the command at place n is another one of the same container
 abbrev IsBeside : Plan → ℕ → ℕ → Placed → Type 0

@@ -1,62 +1,44 @@
 -- An attachment that is gone stays gone until a call of an ADD of it is granted after its Begin: any other entry leaves
 -- it, or only removes.
-use Rattle.std.proofs.Common.{◌≡◌, ◌≢◌, ℕ, ◌+◌, Bool, true, false, not, List, [], ◌∷◌, ◌++◌, Some, slice_get, refl, sym, ◌∙◌, ap, subst, inl, inr, ◌⊎◌, append_assoc}
-use Rattle.std.proofs.lemmas.Bool.{and_from, and_parts, both_ways, cases_Bool, false_from_ne_true, not-true, or_parts}
-use Rattle.std.proofs.lemmas.List.{append-nil, append_cancel_left}
-use Rattle.std.proofs.lemmas.List.Elements.{filter-append}
-use Rattle.std.proofs.lemmas.List.Folds.{list_all-append}
+use Rattle.std.proofs.Common.{◌≡◌, ◌≢◌, ℕ, ◌+◌, Bool, true, false, not, List, [], ◌∷◌, ◌++◌, Some, slice_get, refl, sym}
+use Rattle.std.proofs.{Common.{◌∙◌, ap, subst, inl, inr, ◌⊎◌, append_assoc}, lemmas.Bool.{and_from, and_parts}}
+use Rattle.std.proofs.lemmas.{Bool.{both_ways, cases_Bool, false_from_ne_true, not-true, or_parts}, List.append-nil}
+use Rattle.std.proofs.lemmas.List.{append_cancel_left, Elements.filter-append, Folds.list_all-append}
 use Rattle.std.proofs.lemmas.Option.{same_Some}
-use Rattle.std.specs.Prelude.{◌||◌}
-use Rattle.std.specs.List.{list_all, list_any}
+use Rattle.std.specs.{List.{list_all, list_any}, Prelude.◌||◌}
 use Rattle.net_conf.specs.declared.list.NetList.{NetList}
-use Rattle.pod_file.specs.declared.command.Command.{Command}
-use Rattle.pod_file.specs.declared.command.Verb.{Verb}
+use Rattle.pod_file.specs.declared.command.{Command.Command, Verb.Verb}
 use Rattle.pod_file.specs.declared.command.Verb.TheVariants as verbs
-use Rattle.kernel_types.specs.Apply.{apply}
-use Rattle.kernel_types.specs.Equal.{att_eq}
-use Rattle.kernel_types.specs.Sound.{IsSound}
-use Rattle.kernel_types.proofs.Cases.{att_eq-refl}
-use Rattle.kernel_types.proofs.Isolation.{att_eq-same}
-use Rattle.kernel_types.specs.declared.object.Att.{Att}
-use Rattle.kernel_types.specs.declared.object.Host.{Host}
-use Rattle.kernel_types.specs.declared.call.Call.{Call}
-use Rattle.kernel_types.specs.declared.call.Call.TheVariants.{Begin, LeaseNext, LinkDel, RuleDel, SettingDel, LeaseDel, CacheDel, HasObj, CacheGet, OwnersOf, PoolFree, NsChange, Outside}
+use Rattle.kernel_types.specs.{Apply.apply, Equal.att_eq, Sound.IsSound, declared.call.Call.{Call, TheVariants.Begin}}
+use Rattle.kernel_types.specs.declared.call.Call.TheVariants.{LeaseNext, LinkDel, RuleDel, SettingDel, LeaseDel}
+use Rattle.kernel_types.specs.declared.call.Call.TheVariants.{CacheDel, HasObj, CacheGet, OwnersOf, PoolFree, NsChange}
+use Rattle.kernel_types.specs.declared.{call.Call.TheVariants.Outside, object.{Att.Att, Host.Host}}
+use Rattle.kernel_types.proofs.{Cases.att_eq-refl, Isolation.att_eq-same}
 use Rattle.kernel_types.specs.declared.call.Kind.TheVariants as kinds
-use Rattle.plugin_base.specs.Calls.{is_call_of}
-use Rattle.plugin_base.specs.Share.{Share, share_of, no_objects}
+use Rattle.plugin_base.specs.{Calls.is_call_of, Share.{Share, share_of, no_objects}}
 use Rattle.plugin_base.proofs.Refusals.{refused-same, refused-lease}
-use Rattle.cni_verbs.specs.AddCalls.{is_done}
-use Rattle.cni_verbs.specs.Replies.{is_granted}
+use Rattle.cni_verbs.specs.{AddCalls.is_done, Replies.is_granted, Script.{State, AtBegin, BeforeLeases, Leasing}}
+use Rattle.cni_verbs.specs.Script.{AfterLeases, ReadingCache, Deleting, FindingEntry, Asking, Changing, Collecting}
+use Rattle.cni_verbs.specs.Script.{Over, Calls, turn}
 use Rattle.cni_errors.specs.CommandFields.{att_of}
-use Rattle.cni_verbs.specs.Script.{State, AtBegin, BeforeLeases, Leasing, AfterLeases, ReadingCache, Deleting, FindingEntry, Asking, Changing, Collecting, Over, Calls, turn}
 use Rattle.plugin_chain.specs.Wanted.{deletion}
 use Rattle.cni_errors.specs.declared.answer.Answer.TheVariants as answers
-use Rattle.pod_workers.specs.Legal.{Legal}
-use Rattle.pod_workers.specs.Plans.{Placed, commands_of}
-use Rattle.pod_workers.specs.World.{World, entry_of, host_of, after_entry}
-use Rattle.pod_workers.specs.declared.plan.Entry.{Entry}
-use Rattle.pod_workers.specs.declared.plan.Plan.{Plan}
+use Rattle.pod_workers.specs.{Legal.Legal, Plans.{Placed, commands_of}, World.{World, entry_of, host_of, after_entry}}
+use Rattle.pod_workers.specs.declared.plan.{Entry.Entry, Plan.Plan}
 use Rattle.pod_workers.proofs.Sound.{sound_host}
-use Rattle.pod_laws.specs.AskedFor.{begins, is_begin_of}
-use Rattle.pod_laws.specs.Moments.{IsGone, is_of, own_entries, until_last}
-use Rattle.pod_laws.specs.Single.{EachEntry}
-use Rattle.pod_laws.specs.Refused.{lets_go_on}
-use Rattle.pod_laws.specs.Repeated.{GoneStaysGone, IsWithoutMaking, RepeatedDeletionsLeave, makes_nothing}
-use Rattle.pod_laws.proofs.Deleted.Entries.{each_deletion_is_own}
-use Rattle.pod_laws.proofs.Histories.EachEntry.{DoesNow, DoesOutside, each-entry}
-use Rattle.pod_laws.proofs.Histories.Entries.{is_of-own, own_entries-own}
-use Rattle.pod_laws.proofs.Deleted.FirstEntries.{BeginsFirst, begins_first}
-use Rattle.pod_laws.proofs.Deleted.InTurn.{in_turn}
-use Rattle.pod_laws.proofs.Given.OfRuns.{was_deleted}
-use Rattle.gc_sweep.specs.Keep.{OnlyRemoves}
-use Rattle.gc_sweep.proofs.OfKinds.{share-removes_none}
-use Rattle.gc_sweep.proofs.Removes.{removes-deletion, removes-nothing}
-use Rattle.pod_laws.proofs.Histories.Runs.{every-run-now, own-state}
-use Rattle.pod_laws.proofs.Histories.States.{LeftFit, is_question, not-both, question-leaves, asked-is_question}
-use Rattle.pod_laws.proofs.Histories.Steps.{GoesOn, on-entry}
+use Rattle.pod_laws.specs.{AskedFor.{begins, is_begin_of}, Moments.{IsGone, is_of, own_entries, until_last}}
+use Rattle.pod_laws.specs.{Refused.lets_go_on, Repeated.{GoneStaysGone, IsWithoutMaking, RepeatedDeletionsLeave}}
+use Rattle.pod_laws.specs.{Repeated.makes_nothing, Single.EachEntry}
+use Rattle.pod_laws.proofs.Deleted.{Entries.each_deletion_is_own, FirstEntries.{BeginsFirst, begins_first}}
+use Rattle.pod_laws.proofs.{Deleted.InTurn.in_turn, Given.OfRuns.was_deleted, Histories.EachEntry.DoesNow}
+use Rattle.pod_laws.proofs.Histories.{EachEntry.{DoesOutside, each-entry}, Entries.{is_of-own, own_entries-own}}
+use Rattle.pod_laws.proofs.Histories.{Runs.{every-run-now, own-state}, States.{LeftFit, is_question, not-both}}
+use Rattle.pod_laws.proofs.Histories.{States.{question-leaves, asked-is_question}, Steps.{GoesOn, on-entry}}
+use Rattle.pod_laws.proofs.Histories.Turns.{AsksOrCollects, IsTurnOf, other-entered, removes-changed, turn-of}
+use Rattle.pod_laws.proofs.{Histories.Turns.work-turn, Refused.Undoing.{Undoing, undone-start, undone-step}}
 use Rattle.pod_laws.proofs.Tests.{any-filtered}
-use Rattle.pod_laws.proofs.Histories.Turns.{AsksOrCollects, IsTurnOf, other-entered, removes-changed, turn-of, work-turn}
-use Rattle.pod_laws.proofs.Refused.Undoing.{Undoing, undone-start, undone-step}
+use Rattle.gc_sweep.specs.Keep.{OnlyRemoves}
+use Rattle.gc_sweep.proofs.{OfKinds.share-removes_none, Removes.{removes-deletion, removes-nothing}}
 
 -- ---- an entry of another verb than ADD only removes
 

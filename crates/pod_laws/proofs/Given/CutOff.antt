@@ -4,18 +4,11 @@ use Rattle.std.proofs.lemmas.Bool.{both_ways}
 use Rattle.cni_addr.specs.declared.address.Addr.{Addr}
 use Rattle.pod_file.specs.declared.command.Command.{Command}
 use Rattle.net_conf.specs.declared.list.NetList.{NetList}
-use Rattle.cni_errors.specs.declared.answer.Answer.{Answer}
-use Rattle.cni_errors.specs.declared.answer.Ending.{Ending}
-use Rattle.cni_verbs.specs.Endings.{answer_of, answer_of_ending}
-use Rattle.cni_verbs.specs.Script.{State, Collecting, Over}
-use Rattle.cni_verbs.specs.Sweep.{Work}
-use Rattle.pod_workers.specs.Legal.{Legal}
-use Rattle.pod_workers.specs.Plans.{Placed, commands_of, list_for}
-use Rattle.pod_workers.specs.World.{World}
-use Rattle.pod_laws.specs.Moments.{own_entries}
-use Rattle.pod_laws.specs.Answers.{is_cut_off}
-use Rattle.pod_laws.proofs.Given.Due.{IsOver, answer-due}
-use Rattle.pod_laws.proofs.Histories.RunFacts.{state_by}
+use Rattle.cni_errors.specs.declared.answer.{Answer.Answer, Ending.Ending}
+use Rattle.cni_verbs.specs.{Endings.{answer_of, answer_of_ending}, Script.{State, Collecting, Over}, Sweep.Work}
+use Rattle.pod_workers.specs.{Legal.Legal, Plans.{Placed, commands_of, list_for}, World.World}
+use Rattle.pod_laws.specs.{Answers.is_cut_off, Moments.own_entries}
+use Rattle.pod_laws.proofs.{Given.Due.{IsOver, answer-due}, Histories.RunFacts.state_by}
 
 pub over-by : (w : World) → Legal w → (n : ℕ) (c : Placed) (list : NetList) (a : Answer) → slice_get (commands_of w.plan) n ≡ Some c → list_for w.plan c.command ≡ Some list → slice_get w.answers n ≡ Some (Some a) → is_cut_off a ≡ false
     → IsOver list c.command (state_by list c.command (own_entries n w.history)) a

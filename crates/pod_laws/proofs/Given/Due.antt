@@ -3,20 +3,16 @@ use Rattle.std.proofs.Common.{◌≡◌, ℕ, List, [], ◌∷◌, Some, refl, s
 use Rattle.net_conf.specs.declared.list.NetList.{NetList}
 use Rattle.kernel_types.specs.declared.call.Call.{Call}
 use Rattle.pod_file.specs.declared.command.Command.{Command}
-use Rattle.cni_verbs.specs.Endings.{answer_of}
-use Rattle.cni_verbs.specs.Progress.{turn_by, answer_by}
-use Rattle.cni_verbs.specs.Script.{State, AtBegin, BeforeLeases, Leasing, AfterLeases, ReadingCache, Deleting, FindingEntry, Asking, Changing, Collecting, Over, Calls, Finishes, Finish, turn, turn_of_work, finish_of_work, state_after, swept}
-use Rattle.cni_verbs.specs.Sweep.{Job, Sweep, Work}
-use Rattle.cni_errors.specs.declared.answer.Answer.{Answer}
-use Rattle.cni_errors.specs.declared.answer.Ending.{Ending}
+use Rattle.cni_verbs.specs.{Endings.answer_of, Progress.{turn_by, answer_by}, Script.{State, AtBegin, BeforeLeases}}
+use Rattle.cni_verbs.specs.Script.{Leasing, AfterLeases, ReadingCache, Deleting, FindingEntry, Asking, Changing}
+use Rattle.cni_verbs.specs.Script.{Collecting, Over, Calls, Finishes, Finish, turn, turn_of_work, finish_of_work}
+use Rattle.cni_verbs.specs.{Script.{state_after, swept}, Sweep.{Job, Sweep, Work}}
+use Rattle.cni_errors.specs.declared.answer.{Answer.Answer, Ending.Ending}
 use Rattle.cni_addr.specs.declared.address.Addr.{Addr}
-use Rattle.pod_workers.specs.Facts.{IsScripts}
-use Rattle.pod_workers.specs.Legal.{Legal}
-use Rattle.pod_workers.specs.Plans.{Placed, commands_of, list_for}
-use Rattle.pod_workers.specs.World.{World, own_replies}
+use Rattle.pod_workers.specs.{Facts.IsScripts, Legal.Legal, Plans.{Placed, commands_of, list_for}, World.World}
+use Rattle.pod_workers.specs.World.{own_replies}
 use Rattle.pod_workers.proofs.AnswersDue.{answer_is_due}
-use Rattle.pod_laws.specs.Moments.{own_entries}
-use Rattle.pod_laws.specs.Answers.{is_cut_off}
+use Rattle.pod_laws.specs.{Answers.is_cut_off, Moments.own_entries}
 use Rattle.pod_laws.proofs.Histories.RunFacts.{state_by}
 
 -- the run of a GC has nothing left to do

@@ -1,57 +1,37 @@
 -- What answers say, from what holds of the runs that came to them.
 use Rattle.std.proofs.Common.{◌≡◌, ℕ, true, false, List, [], Some, slice_get, refl, sym, ◌∙◌, ap, subst, inl, inr, ◌⊎◌}
-use Rattle.std.proofs.lemmas.Option.{none-some}
-use Rattle.std.proofs.lemmas.Bool.{both_ways, cases_Bool}
+use Rattle.std.proofs.lemmas.{Bool.{both_ways, cases_Bool}, Option.none-some}
 use Rattle.std.specs.List.{list_all}
-use Rattle.cni_addr.specs.Lists.{distinct}
-use Rattle.cni_addr.specs.declared.address.Addr.{Addr}
-use Rattle.cni_result.specs.declared.error.CniError.{CniError}
-use Rattle.cni_result.specs.declared.result.AddResult.{AddResult}
+use Rattle.cni_addr.specs.{Lists.distinct, declared.address.Addr.Addr}
+use Rattle.cni_result.specs.declared.{error.CniError.CniError, result.AddResult.AddResult}
 use Rattle.net_conf.specs.declared.list.NetList.{NetList}
-use Rattle.pod_file.specs.declared.command.Command.{Command}
-use Rattle.pod_file.specs.Commands.{is_of_network}
-use Rattle.pod_file.specs.declared.command.Verb.{Verb}
+use Rattle.pod_file.specs.{Commands.is_of_network, declared.command.{Command.Command, Verb.Verb}}
 use Rattle.pod_file.specs.declared.command.Verb.TheVariants as verbs
-use Rattle.kernel_types.specs.Equal.{addr_eq}
-use Rattle.kernel_types.specs.Replies.{is_fault}
-use Rattle.kernel_types.specs.Sound.{IsSound}
-use Rattle.cni_addr.proofs.Cases.{by_test}
-use Rattle.kernel_types.specs.declared.call.Call.{Call}
-use Rattle.kernel_types.specs.declared.call.Reply.{Reply}
+use Rattle.kernel_types.specs.{Equal.addr_eq, Replies.is_fault, Sound.IsSound, declared.call.{Call.Call, Reply.Reply}}
 use Rattle.kernel_types.specs.declared.object.Host.{Host}
+use Rattle.cni_addr.proofs.Cases.{by_test}
 use Rattle.plugin_base.specs.Share.{Share, share_of}
-use Rattle.cni_verbs.specs.Endings.{answer_of}
-use Rattle.cni_errors.specs.Answers.{error_of}
-use Rattle.cni_errors.specs.CommandFields.{att_of}
-use Rattle.cni_verbs.specs.Mappings.{mappings_of}
-use Rattle.cni_verbs.specs.Replies.{is_granted}
-use Rattle.cni_verbs.specs.Script.{State, Collecting, Over, leases_in}
-use Rattle.cni_verbs.specs.Sweep.{Work}
+use Rattle.cni_verbs.specs.{Endings.answer_of, Mappings.mappings_of, Replies.is_granted, Script.{State, Collecting}}
+use Rattle.cni_verbs.specs.{Script.{Over, leases_in}, Sweep.Work}
+use Rattle.cni_errors.specs.{Answers.error_of, CommandFields.att_of, declared.answer.{Answer.Answer, Cause.Cause}}
+use Rattle.cni_errors.specs.declared.answer.Ending.{Ending, TheVariants.{Added, Yes, Skipped, Versions, Refused}}
 use Rattle.plugin_chain.specs.Wanted.{result_of_add, sets_of, wanted}
-use Rattle.cni_errors.specs.declared.answer.Answer.{Answer}
 use Rattle.cni_errors.specs.declared.answer.Answer.TheVariants as answers
-use Rattle.cni_errors.specs.declared.answer.Cause.{Cause}
-use Rattle.cni_errors.specs.declared.answer.Ending.{Ending}
-use Rattle.cni_errors.specs.declared.answer.Ending.TheVariants.{Added, Yes, Skipped, Versions, Refused}
-use Rattle.pod_workers.specs.Legal.{Legal}
-use Rattle.pod_workers.specs.Plans.{Placed, commands_of, list_for}
-use Rattle.pod_workers.specs.World.{World, own_replies}
+use Rattle.pod_workers.specs.{Legal.Legal, Plans.{Placed, commands_of, list_for}, World.{World, own_replies}}
 use Rattle.pod_workers.specs.declared.plan.Entry.{Entry}
 use Rattle.host_local.specs.Laws.{AreCandidates}
 use Rattle.pod_workers.proofs.Listed.{listed_network}
-use Rattle.pod_laws.specs.Added.{WasAdded, HasMade}
-use Rattle.pod_laws.specs.Deleted.{WasDeleted, HasDeleted, IsUndeletedFor, IsYes, NothingFails, WasNotDeleted, AnswersOfDel, UnfailedIsDeleted}
-use Rattle.pod_laws.specs.Moments.{has_fault, host_at_end, own_entries}
-use Rattle.pod_laws.specs.Refused.{lets_go_on, IsCause, no_namespace, name_taken, pool_empty, no_master, fault, IsResult, NothingRefuses, UnrefusedIsAdded, WasRefused, IsRefusedFor, AnswersOfAdd, BeginLeavesTheHost}
-use Rattle.pod_laws.specs.Answers.{EachIsOrRefused, EachIsWhere, EachRefusal, IsRefusedAnswer, is_cut_off}
+use Rattle.pod_laws.specs.{Added.{WasAdded, HasMade}, Answers.{EachIsOrRefused, EachIsWhere, EachRefusal}}
+use Rattle.pod_laws.specs.{Answers.{IsRefusedAnswer, is_cut_off}, Deleted.{WasDeleted, HasDeleted, IsUndeletedFor}}
+use Rattle.pod_laws.specs.Deleted.{IsYes, NothingFails, WasNotDeleted, AnswersOfDel, UnfailedIsDeleted}
+use Rattle.pod_laws.specs.{Moments.{has_fault, host_at_end, own_entries}, Refused.{lets_go_on, IsCause, no_namespace}}
+use Rattle.pod_laws.specs.Refused.{name_taken, pool_empty, no_master, fault, IsResult, NothingRefuses, UnrefusedIsAdded}
+use Rattle.pod_laws.specs.Refused.{WasRefused, IsRefusedFor, AnswersOfAdd, BeginLeavesTheHost}
 use Rattle.pod_laws.proofs.Added.Achieved.{Achieved, IsAddedWith, achieved-end, achieved-start, achieved-step}
-use Rattle.pod_laws.proofs.Questions.Asking.{fault-last}
-use Rattle.pod_laws.proofs.Given.CutOff.{over-by}
-use Rattle.pod_laws.proofs.Shares.DistinctLeases.{leases-distinct, sound-at_end}
-use Rattle.pod_laws.proofs.Given.Due.{IsSwept}
+use Rattle.pod_laws.proofs.{Given.{CutOff.over-by, Due.IsSwept}, Histories.Runs.{RunFact, every-run}}
 use Rattle.pod_laws.proofs.Histories.States.{IsNoResult, IsOtherVerb, swept-no_result, not-both}
-use Rattle.pod_laws.proofs.Histories.Runs.{RunFact, every-run}
-use Rattle.pod_laws.proofs.Refused.Undoing.{Undoing, Ends, undone-end, undone-start, undone-step}
+use Rattle.pod_laws.proofs.{Questions.Asking.fault-last, Refused.Undoing.{Undoing, Ends, undone-end, undone-start}}
+use Rattle.pod_laws.proofs.{Refused.Undoing.undone-step, Shares.DistinctLeases.{leases-distinct, sound-at_end}}
 use Rattle.pod_laws.proofs.Tests.{first-fails, middle-passes}
 
 -- ---- answers by endings

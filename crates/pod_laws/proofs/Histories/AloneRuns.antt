@@ -1,31 +1,24 @@
 -- The entries of an exclusive command stand together.
-use Rattle.std.proofs.Common.{◌≡◌, ◌≢◌, ℕ, ◌+◌, Bool, true, false, List, [], ◌∷◌, ◌++◌, Some, slice_get, refl, sym, ◌∙◌, ap, subst, inl, inr, ◌⊎◌, append_assoc}
-use Rattle.std.specs.Prelude.{if◌then◌else◌}
-use Rattle.std.specs.List.{list_any}
-use Rattle.std.proofs.lemmas.Bool.Decides.{eqb_tells}
-use Rattle.std.proofs.lemmas.List.{append-nil}
-use Rattle.std.proofs.lemmas.Option.{same_Some, none-some}
+use Rattle.std.proofs.Common.{◌≡◌, ◌≢◌, ℕ, ◌+◌, Bool, true, false, List, [], ◌∷◌, ◌++◌, Some, slice_get, refl, sym, ◌∙◌}
+use Rattle.std.proofs.{Common.{ap, subst, inl, inr, ◌⊎◌, append_assoc}, lemmas.Bool.Decides.eqb_tells}
+use Rattle.std.proofs.lemmas.{List.append-nil, Option.{same_Some, none-some}}
+use Rattle.std.specs.{List.list_any, Prelude.if◌then◌else◌}
 use Rattle.net_conf.specs.declared.list.NetList.{NetList}
-use Rattle.pod_file.specs.Commands.{is_exclusive_verb}
-use Rattle.pod_file.specs.declared.command.Command.{Command}
-use Rattle.kernel_types.specs.Sound.{IsSound}
-use Rattle.kernel_types.specs.declared.object.Host.{Host}
-use Rattle.kernel_types.specs.declared.call.Call.{Call}
+use Rattle.pod_file.specs.{Commands.is_exclusive_verb, declared.command.Command.Command}
+use Rattle.kernel_types.specs.{Sound.IsSound, declared.{call.Call.Call, object.Host.Host}}
 use Rattle.cni_verbs.proofs.CallsOrOver.{calls_or_over}
 use Rattle.cni_verbs.specs.Script.{State, Calls, Finishes, advance, next_call, start_state, state_from, turn}
 use Rattle.gc_sweep.specs.Trace.{IsRun, IsRunFrom}
-use Rattle.pod_workers.specs.Legal.{Legal}
-use Rattle.pod_workers.specs.Plans.{Placed, commands_of, list_for}
-use Rattle.pod_workers.specs.World.{World, IsReady, after, entry_of, host_of, after_entry, made_in, replies_of, reply_to}
-use Rattle.pod_workers.specs.declared.plan.Entry.{Entry}
-use Rattle.pod_workers.specs.declared.plan.Plan.{Plan}
-use Rattle.pod_workers.proofs.Histories.{replies_of-other}
-use Rattle.pod_workers.proofs.Order.{alone_apart, other_number, ready_is}
+use Rattle.pod_workers.specs.{Legal.Legal, Plans.{Placed, commands_of, list_for}, World.{World, IsReady, after}}
+use Rattle.pod_workers.specs.World.{entry_of, host_of, after_entry, made_in, replies_of, reply_to}
+use Rattle.pod_workers.specs.declared.plan.{Entry.Entry, Plan.Plan}
+use Rattle.pod_workers.proofs.{Histories.replies_of-other, Order.{alone_apart, other_number, ready_is}}
 use Rattle.pod_workers.proofs.Sound.{sound_host}
 use Rattle.pod_laws.specs.Moments.{host_at_end, host_at_start, is_of, own_entries, until_first, until_last}
-use Rattle.pod_laws.proofs.Histories.Entries.{apart-entry, is_of-own, no-entries, own_entries-own, own_entries-other, replies_in, until_last-own, until_last-other}
-use Rattle.pod_laws.proofs.Histories.Runs.{own-state}
-use Rattle.pod_laws.proofs.Histories.Steps.{AllOpen, ChangesKeep, EntriesKeep, Goes, IsOpenKept, OpenFact, by-entries, by-open}
+use Rattle.pod_laws.proofs.Histories.Entries.{apart-entry, is_of-own, no-entries, own_entries-own, own_entries-other}
+use Rattle.pod_laws.proofs.Histories.{Entries.{replies_in, until_last-own, until_last-other}, Runs.own-state}
+use Rattle.pod_laws.proofs.Histories.Steps.{AllOpen, ChangesKeep, EntriesKeep, Goes, IsOpenKept, OpenFact, by-entries}
+use Rattle.pod_laws.proofs.Histories.Steps.{by-open}
 
 abbrev IsExclusive : Placed → Type 0
 IsExclusive c = is_exclusive_verb c.command.verb ≡ true

@@ -1,53 +1,33 @@
 -- Begins in a history: while an ADD goes on, the last one of its attachment is its own.
-use Rattle.std.proofs.Common.{◌≡◌, ◌≢◌, ℕ, ◌+◌, Bool, true, false, List, [], ◌∷◌, ◌++◌, length, Option, Some, None, slice_get, refl, sym, ◌∙◌, ap, subst, inl, inr, arith}
-use Rattle.std.proofs.lemmas.Bool.{and_parts}
-use Rattle.std.proofs.lemmas.Bool.Decides.{eqb_tells}
-use Rattle.std.proofs.lemmas.List.Folds.{list_all-append}
-use Rattle.std.specs.Prelude.{if◌then◌else◌}
-use Rattle.std.specs.List.{list_all}
-use Rattle.std.specs.Option.{option_or}
+use Rattle.std.proofs.Common.{◌≡◌, ◌≢◌, ℕ, ◌+◌, Bool, true, false, List, [], ◌∷◌, ◌++◌, length, Option, Some, None}
+use Rattle.std.proofs.{Common.{slice_get, refl, sym, ◌∙◌, ap, subst, inl, inr, arith}, lemmas.Bool.and_parts}
+use Rattle.std.proofs.lemmas.{Bool.Decides.eqb_tells, List.Folds.list_all-append}
+use Rattle.std.specs.{List.list_all, Option.option_or, Prelude.if◌then◌else◌}
 use Rattle.net_conf.specs.declared.list.NetList.{NetList}
-use Rattle.pod_file.specs.declared.command.Command.{Command}
-use Rattle.pod_file.specs.declared.command.Verb.{Verb}
+use Rattle.pod_file.specs.{Commands.is_of_network, declared.command.{Command.Command, Verb.Verb}}
 use Rattle.pod_file.specs.declared.command.Verb.TheVariants as verbs
-use Rattle.kernel_types.specs.Equal.{att_eq}
-use Rattle.kernel_types.specs.Isolation.{is_from_outside}
+use Rattle.kernel_types.specs.{Equal.att_eq, Isolation.is_from_outside, declared.call.Call.{Call, TheVariants.Begin}}
+use Rattle.kernel_types.specs.declared.call.{Call.TheVariants.{LeaseNext, CacheGet}, Kind.Kind, Reply.Reply}
+use Rattle.kernel_types.specs.declared.{call.Reply.TheVariants.{Done, Leased}, object.Att.Att}
 use Rattle.kernel_types.proofs.Cases.{att_eq-refl}
-use Rattle.kernel_types.specs.declared.object.Att.{Att}
-use Rattle.kernel_types.specs.declared.call.Kind.{Kind}
 use Rattle.kernel_types.specs.declared.call.Kind.TheVariants as kinds
-use Rattle.kernel_types.specs.declared.call.Call.{Call}
-use Rattle.kernel_types.specs.declared.call.Call.TheVariants.{Begin, LeaseNext, CacheGet}
-use Rattle.kernel_types.specs.declared.call.Reply.{Reply}
-use Rattle.kernel_types.specs.declared.call.Reply.TheVariants.{Done, Leased}
-use Rattle.plugin_base.specs.Calls.{is_plugin_call_of, is_call_of}
-use Rattle.plugin_base.specs.Share.{Share}
+use Rattle.plugin_base.specs.{Calls.{is_plugin_call_of, is_call_of}, Share.Share}
 use Rattle.plugin_base.proofs.OtherCalls.{call-apart}
-use Rattle.cni_verbs.specs.AddCalls.{is_done}
-use Rattle.cni_verbs.specs.Replies.{is_granted}
-use Rattle.cni_errors.specs.CommandFields.{att_of}
-use Rattle.cni_verbs.specs.Script.{State, AtBegin, BeforeLeases, Leasing, AfterLeases, ReadingCache, Deleting, Over, Calls, turn}
+use Rattle.cni_verbs.specs.{AddCalls.is_done, Replies.is_granted, Script.{State, AtBegin, BeforeLeases, Leasing}}
+use Rattle.cni_verbs.specs.Script.{AfterLeases, ReadingCache, Deleting, Over, Calls, turn}
+use Rattle.cni_errors.specs.{CommandFields.att_of, declared.answer.Ending.{Ending, TheVariants.{Added, Yes, Skipped}}}
+use Rattle.cni_errors.specs.declared.answer.Ending.TheVariants.{Versions, Refused}
 use Rattle.plugin_chain.specs.Wanted.{deletion}
-use Rattle.cni_errors.specs.declared.answer.Ending.{Ending}
-use Rattle.cni_errors.specs.declared.answer.Ending.TheVariants.{Added, Yes, Skipped, Versions, Refused}
-use Rattle.pod_workers.specs.Legal.{Legal}
-use Rattle.pod_file.specs.Commands.{is_of_network}
-use Rattle.pod_workers.specs.Plans.{Placed, commands_of}
-use Rattle.pod_workers.specs.World.{World, entry_of, host_of, reply_to}
+use Rattle.pod_workers.specs.{Legal.Legal, Plans.{Placed, commands_of}, World.{World, entry_of, host_of, reply_to}}
 use Rattle.pod_workers.specs.declared.plan.Entry.{Entry}
-use Rattle.pod_workers.proofs.Order.{apart, ready_is}
-use Rattle.pod_workers.proofs.OfPlugins.{LeftAreOfPlugins}
-use Rattle.pod_workers.proofs.Splits.{none-or-some, split_nil}
-use Rattle.pod_laws.specs.AskedFor.{begins, is_begin_of, last_begun}
-use Rattle.pod_laws.specs.Moments.{own_entries}
-use Rattle.pod_laws.specs.Refused.{lets_go_on}
-use Rattle.pod_laws.proofs.Refused.Causes.{IsPluginReply, begin-may}
+use Rattle.pod_workers.proofs.{OfPlugins.LeftAreOfPlugins, Order.{apart, ready_is}, Splits.{none-or-some, split_nil}}
+use Rattle.pod_laws.specs.{AskedFor.{begins, is_begin_of, last_begun}, Moments.own_entries, Refused.lets_go_on}
 use Rattle.pod_laws.proofs.Histories.Entries.{apart-entry, is_of-own, own_entries-own, own_entries-other, no-entries}
-use Rattle.pod_laws.proofs.Histories.States.{IsOtherVerb, is_question, not-both}
-use Rattle.pod_laws.proofs.Histories.Runs.{every-run-now, own-state}
+use Rattle.pod_laws.proofs.Histories.{Runs.{every-run-now, own-state}, States.{IsOtherVerb, is_question, not-both}}
 use Rattle.pod_laws.proofs.Histories.Steps.{AllOpen, Changes, GoesOn, IsOpenKept, OpenFact, by-open}
 use Rattle.pod_laws.proofs.Histories.Turns.{AsksOrCollects, IsTurnOf, change-of, other_att, turn-of}
-use Rattle.pod_laws.proofs.Refused.Undoing.{Undoing, Leads, undone-start, undone-step}
+use Rattle.pod_laws.proofs.Refused.{Causes.{IsPluginReply, begin-may}, Undoing.{Undoing, Leads, undone-start}}
+use Rattle.pod_laws.proofs.Refused.Undoing.{undone-step}
 
 -- ---- Begins in a history
 

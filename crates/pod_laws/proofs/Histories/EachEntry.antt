@@ -2,21 +2,13 @@
 use Rattle.std.proofs.Common.{◌≡◌, ℕ, ◌+◌, Bool, true, List, [], ◌∷◌, ◌++◌, sym, ◌∙◌, ap, subst, inl, inr, arith}
 use Rattle.std.proofs.lemmas.Bool.{both_ways}
 use Rattle.net_conf.specs.declared.list.NetList.{NetList}
-use Rattle.kernel_types.specs.declared.object.Host.{Host}
-use Rattle.kernel_types.specs.declared.call.Call.{Call}
-use Rattle.pod_file.specs.Commands.{is_of_network}
-use Rattle.pod_file.specs.declared.command.Command.{Command}
-use Rattle.pod_file.specs.declared.command.Verb.{Verb}
-use Rattle.pod_workers.specs.Plans.{Placed}
-use Rattle.pod_workers.specs.World.{World, after, entry_of, host_of, after_entry}
-use Rattle.pod_workers.specs.declared.plan.Entry.{Entry}
-use Rattle.pod_workers.specs.declared.plan.Plan.{Plan}
-use Rattle.pod_workers.proofs.Histories.{after-append}
-use Rattle.pod_workers.proofs.Order.{ready_is}
-use Rattle.pod_workers.proofs.Splits.{split_nil, split_snoc}
+use Rattle.kernel_types.specs.declared.{call.Call.Call, object.Host.Host}
+use Rattle.pod_file.specs.{Commands.is_of_network, declared.command.{Command.Command, Verb.Verb}}
+use Rattle.pod_workers.specs.{Plans.Placed, World.{World, after, entry_of, host_of, after_entry}}
+use Rattle.pod_workers.specs.declared.plan.{Entry.Entry, Plan.Plan}
+use Rattle.pod_workers.proofs.{Histories.after-append, Order.ready_is, Splits.{split_nil, split_snoc}}
 use Rattle.pod_laws.specs.Single.{AllDo, EachEntry, ByVerb}
-use Rattle.pod_laws.proofs.Histories.Steps.{Changes, GoesOn, by-entries}
-use Rattle.pod_laws.proofs.Histories.Turns.{change-of}
+use Rattle.pod_laws.proofs.Histories.{Steps.{Changes, GoesOn, by-entries}, Turns.change-of}
 
 -- one entry more
 do-next : (Does : Plan → Entry → Host → Host → Type 0) (w : World) (x : Entry) → Does w.plan x (host_of w) (after_entry (host_of w) x) → AllDo Does w.plan w.history → AllDo Does w.plan (w.history ++ x ∷ [])

@@ -1,33 +1,24 @@
 -- What a run calls: its attachment, a question, or for a GC; and what is called from outside.
-use Rattle.std.proofs.Common.{◌≡◌, ◌≢◌, ℕ, Bool, true, false, List, [], ◌∷◌, length, Some, None, slice_get, refl, ap, subst, inl, inr, ◌⊎◌, arith}
-use Rattle.std.proofs.lemmas.Bool.{cases_Bool}
-use Rattle.std.proofs.lemmas.Slice.Eq.{bytes_eq-Decides}
+use Rattle.std.proofs.Common.{◌≡◌, ◌≢◌, ℕ, Bool, true, false, List, [], ◌∷◌, length, Some, None, slice_get, refl, ap}
+use Rattle.std.proofs.{Common.{subst, inl, inr, ◌⊎◌, arith}, lemmas.{Bool.cases_Bool, Slice.Eq.bytes_eq-Decides}}
 use Rattle.net_conf.specs.declared.list.NetList.{NetList}
-use Rattle.pod_file.specs.declared.command.Command.{Command}
-use Rattle.pod_file.specs.declared.command.Verb.{Verb}
+use Rattle.pod_file.specs.{Commands.{is_of_network, is_exclusive_verb}, declared.command.{Command.Command, Verb.Verb}}
 use Rattle.pod_file.specs.declared.command.Verb.TheVariants as verbs
-use Rattle.kernel_types.specs.Equal.{att_eq}
-use Rattle.kernel_types.specs.Isolation.{is_from_outside}
+use Rattle.kernel_types.specs.{Equal.att_eq, Isolation.is_from_outside, declared.call.Call.{Call, TheVariants.Begin}}
+use Rattle.kernel_types.specs.declared.call.Call.TheVariants.{LeaseNext, CacheGet, OwnersOf, NsChange, Outside}
+use Rattle.kernel_types.specs.declared.{call.Kind.Kind, object.{Att.Att, Host.Host}}
 use Rattle.kernel_types.proofs.Cases.{att_eq-refl}
-use Rattle.kernel_types.specs.declared.object.Att.{Att}
-use Rattle.kernel_types.specs.declared.object.Host.{Host}
-use Rattle.kernel_types.specs.declared.call.Call.{Call}
-use Rattle.kernel_types.specs.declared.call.Call.TheVariants.{Begin, LeaseNext, CacheGet, OwnersOf, NsChange, Outside}
-use Rattle.kernel_types.specs.declared.call.Kind.{Kind}
 use Rattle.kernel_types.specs.declared.call.Kind.TheVariants as kinds
-use Rattle.plugin_base.specs.Calls.{is_call_of}
-use Rattle.plugin_base.specs.Share.{share_of}
+use Rattle.plugin_base.specs.{Calls.is_call_of, Share.share_of}
 use Rattle.plugin_base.proofs.OtherCalls.{share-other, call-plugin}
 use Rattle.cni_errors.specs.CommandFields.{att_of}
-use Rattle.cni_verbs.specs.Script.{State, AtBegin, BeforeLeases, Leasing, AfterLeases, ReadingCache, Deleting, FindingEntry, Asking, Changing, Collecting, Over, Calls, turn, turn_of_work}
+use Rattle.cni_verbs.specs.Script.{State, AtBegin, BeforeLeases, Leasing, AfterLeases, ReadingCache, Deleting}
+use Rattle.cni_verbs.specs.Script.{FindingEntry, Asking, Changing, Collecting, Over, Calls, turn, turn_of_work}
 use Rattle.cni_verbs.specs.Sweep.{Job, Step, AskCached, Delete, Sweep, step_call}
 use Rattle.plugin_chain.specs.Wanted.{deletion}
-use Rattle.pod_file.specs.Commands.{is_of_network, is_exclusive_verb}
-use Rattle.pod_workers.specs.Plans.{Placed, commands_of}
-use Rattle.pod_workers.specs.World.{World, after_entry, host_of, own_replies, entry_of}
-use Rattle.pod_workers.proofs.Order.{alone_apart}
-use Rattle.pod_workers.proofs.OfPlugins.{IsOutside, LeftAreOfPlugins, LeftIsOutside, left-are-of_plugins, left-is-outside}
-use Rattle.pod_workers.proofs.Sound.{sound_host}
+use Rattle.pod_workers.specs.{Plans.{Placed, commands_of}, World.{World, after_entry, host_of, own_replies, entry_of}}
+use Rattle.pod_workers.proofs.OfPlugins.{IsOutside, LeftAreOfPlugins, LeftIsOutside, left-are-of_plugins}
+use Rattle.pod_workers.proofs.{OfPlugins.left-is-outside, Order.alone_apart, Sound.sound_host}
 use Rattle.gc_sweep.specs.Keep.{OnlyRemoves}
 use Rattle.gc_sweep.proofs.Removes.{removes-nothing, removes-outside}
 use Rattle.pod_laws.proofs.Histories.States.{LeftFit, is_question, left-fit, question-leaves, asked-is_question}

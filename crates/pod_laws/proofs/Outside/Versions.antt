@@ -1,20 +1,16 @@
 -- A VERSION makes no call.
 use Rattle.std.proofs.Common.{◌≡◌, List, [], refl, sym, ◌∙◌, ap}
 use Rattle.net_conf.specs.declared.list.NetList.{NetList}
-use Rattle.pod_file.specs.declared.command.Command.{Command}
-use Rattle.pod_file.specs.declared.command.Verb.{Verb}
+use Rattle.pod_file.specs.declared.command.{Command.Command, Verb.Verb}
 use Rattle.pod_file.specs.declared.command.Verb.TheVariants as verbs
 use Rattle.plugin_base.specs.Share.{Share}
 use Rattle.cni_addr.specs.declared.address.Addr.{Addr}
 use Rattle.cni_verbs.specs.Script.{State, Over, start_of, turn}
-use Rattle.cni_errors.specs.declared.answer.Ending.{Ending}
-use Rattle.cni_errors.specs.declared.answer.Ending.TheVariants.{Versions}
+use Rattle.cni_errors.specs.declared.answer.Ending.{Ending, TheVariants.Versions}
 use Rattle.pod_workers.specs.declared.plan.Entry.{Entry}
-use Rattle.pod_laws.specs.Changed.{VersionsAreTheLists}
-use Rattle.pod_laws.specs.Moments.{own_entries}
-use Rattle.pod_laws.proofs.Given.CutOff.{over-by, answered-by}
-use Rattle.pod_laws.proofs.Given.Due.{over-calls}
-use Rattle.pod_laws.proofs.Histories.Runs.{IsRunFact, StartsWith, every-run, own-state}
+use Rattle.pod_laws.specs.{Changed.VersionsAreTheLists, Moments.own_entries}
+use Rattle.pod_laws.proofs.{Given.{CutOff.{over-by, answered-by}, Due.over-calls}, Histories.Runs.IsRunFact}
+use Rattle.pod_laws.proofs.Histories.Runs.{StartsWith, every-run, own-state}
 
 abbrev OnlyTells : NetList → Command → List Entry → State → Share → Type 0
 OnlyTells list c es st s = c.verb ≡ verbs.Version → (es ≡ []) × (st ≡ Over Versions [])

@@ -1,24 +1,15 @@
 -- Questions that are asked one after another, until one is denied.
-use Rattle.std.proofs.Common.{◌≡◌, ℕ, Bool, true, false, List, [], ◌∷◌, ◌++◌, refl, sym, ◌∙◌, ap, subst, append_assoc, arith}
-use Rattle.std.proofs.lemmas.Bool.{false_from_ne_true}
-use Rattle.std.proofs.lemmas.List.{append-nil}
+use Rattle.std.proofs.Common.{◌≡◌, ℕ, Bool, true, false, List, [], ◌∷◌, ◌++◌, refl, sym, ◌∙◌, ap, subst, append_assoc}
+use Rattle.std.proofs.{Common.arith, lemmas.{Bool.false_from_ne_true, List.append-nil}}
 use Rattle.std.specs.List.{list_all}
-use Rattle.kernel_types.specs.Apply.{apply}
-use Rattle.kernel_types.specs.Replies.{is_fault}
-use Rattle.kernel_types.specs.declared.object.Host.{Host}
-use Rattle.kernel_types.specs.declared.call.Call.{Call}
-use Rattle.kernel_types.specs.declared.call.Call.TheVariants.{HasObj, PoolFree}
-use Rattle.kernel_types.specs.declared.call.Reply.TheVariants.{Has}
+use Rattle.kernel_types.specs.{Apply.apply, Replies.is_fault, declared.call.Call.{Call, TheVariants.{HasObj, PoolFree}}}
+use Rattle.kernel_types.specs.declared.{call.Reply.TheVariants.Has, object.Host.Host}
 use Rattle.kernel_types.proofs.ListLemmas.{list_all-push, list_any-append_none, list_any-append_right}
 use Rattle.cni_verbs.specs.Script.{State, Asking, Over, asking, at_question}
-use Rattle.cni_errors.specs.declared.answer.Cause.{Cause}
-use Rattle.cni_errors.specs.declared.answer.Ending.{Ending}
-use Rattle.cni_errors.specs.declared.answer.Ending.TheVariants.{Added, Yes, Skipped, Versions, Refused}
-use Rattle.cni_errors.specs.declared.answer.Question.{Question}
+use Rattle.cni_errors.specs.declared.answer.{Cause.Cause, Ending.{Ending, TheVariants.{Added, Yes, Skipped, Versions}}}
+use Rattle.cni_errors.specs.declared.answer.{Ending.TheVariants.Refused, Question.Question}
 use Rattle.pod_workers.specs.declared.plan.Entry.{Entry}
-use Rattle.pod_laws.specs.Answers.{EndsByTest}
-use Rattle.pod_laws.specs.Granted.{EndsByDenied, IsFirstDenied, grants, is_yes}
-use Rattle.pod_laws.specs.Moments.{has_fault}
+use Rattle.pod_laws.specs.{Answers.EndsByTest, Granted.{EndsByDenied, IsFirstDenied, grants, is_yes}, Moments.has_fault}
 use Rattle.pod_laws.proofs.Tests.{first-fails}
 
 -- ---- the reply to a question

@@ -1,24 +1,18 @@
 -- A CHECK and a STATUS only ask.
-use Rattle.std.proofs.Common.{◌≡◌, ℕ, Bool, true, List, refl, ◌∙◌, ap}
-use Rattle.std.proofs.lemmas.Bool.{both_ways}
+use Rattle.std.proofs.{Common.{◌≡◌, ℕ, Bool, true, List, refl, ◌∙◌, ap}, lemmas.Bool.both_ways}
 use Rattle.net_conf.specs.declared.list.NetList.{NetList}
-use Rattle.pod_file.specs.declared.command.Command.{Command}
-use Rattle.pod_file.specs.declared.command.Verb.{Verb}
+use Rattle.pod_file.specs.{Commands.is_of_network, declared.command.{Command.Command, Verb.Verb}}
 use Rattle.pod_file.specs.declared.command.Verb.TheVariants as verbs
-use Rattle.kernel_types.specs.declared.call.Call.{Call}
-use Rattle.kernel_types.specs.declared.call.Call.TheVariants.{CacheGet}
+use Rattle.kernel_types.specs.declared.call.Call.{Call, TheVariants.CacheGet}
 use Rattle.plugin_base.specs.Share.{Share}
 use Rattle.cni_errors.specs.CommandFields.{att_of}
 use Rattle.cni_verbs.specs.Script.{State, FindingEntry, Asking, Changing, Collecting, Over, Calls, turn}
-use Rattle.pod_file.specs.Commands.{is_of_network}
-use Rattle.pod_workers.specs.Plans.{Placed}
-use Rattle.pod_workers.specs.World.{World, host_of}
-use Rattle.pod_workers.specs.declared.plan.Entry.{Entry}
+use Rattle.pod_workers.specs.{Plans.Placed, World.{World, host_of}, declared.plan.Entry.Entry}
 use Rattle.pod_laws.specs.Granted.{EachQuestionLeavesTheHost, only_asks}
-use Rattle.pod_laws.proofs.Histories.Runs.{IsRunFact, StartsWith, every-run-now, own-state}
-use Rattle.pod_laws.proofs.Histories.States.{IsAside, IsOtherVerb, LeftFit, aside-advance, aside-start, is_question, question-leaves, asked-is_question}
-use Rattle.pod_laws.proofs.Histories.EachEntry.{DoesByVerb, each-entry_of}
-use Rattle.pod_laws.proofs.Histories.Steps.{GoesOn, on-entry}
+use Rattle.pod_laws.proofs.Histories.{EachEntry.{DoesByVerb, each-entry_of}, Runs.{IsRunFact, StartsWith}}
+use Rattle.pod_laws.proofs.Histories.{Runs.{every-run-now, own-state}, States.{IsAside, IsOtherVerb, LeftFit}}
+use Rattle.pod_laws.proofs.Histories.States.{aside-advance, aside-start, is_question, question-leaves}
+use Rattle.pod_laws.proofs.Histories.{States.asked-is_question, Steps.{GoesOn, on-entry}}
 
 -- ---- its calls
 

@@ -1,27 +1,23 @@
 -- What a reply that refuses an ADD means.
 use Rattle.std.proofs.Common.{◌≡◌, ℕ, Bool, true, false, List, Option, Some, None, refl, sym, subst}
-use Rattle.std.specs.Prelude.{find, if◌then◌else◌}
-use Rattle.std.specs.List.{list_any}
-use Rattle.std.specs.Option.{option_map, option_or}
-use Rattle.cni_addr.specs.declared.address.Addr.{Addr}
-use Rattle.cni_addr.specs.declared.range.RangeSet.{RangeSet}
+use Rattle.std.specs.{List.list_any, Option.{option_map, option_or}, Prelude.{find, if◌then◌else◌}}
+use Rattle.cni_addr.specs.declared.{address.Addr.Addr, range.RangeSet.RangeSet}
 use Rattle.ip_pool.specs.Pool.{pick_of}
-use Rattle.kernel_types.specs.Equal.{rule_eq}
-use Rattle.kernel_types.specs.Terms.{is_host_or_ns, is_host_link, is_bridge, is_own, has_named_ns, has_host_bridge, has_objects, link_at}
-use Rattle.kernel_types.specs.Apply.{apply}
-use Rattle.kernel_types.specs.Apply.Calls.{append_unless_taken, begin_of, bridge_or_new, master_is_bridge_or_none, has_master, has_link_of, is_own_at, is_same_addr, is_same_route, is_same_setting, lease_taken, leased_addresses, last_leased, new_bridge, new_gateway, new_forward}
+use Rattle.kernel_types.specs.Apply.{apply, Calls.{append_unless_taken, begin_of, bridge_or_new}}
+use Rattle.kernel_types.specs.Apply.Calls.{master_is_bridge_or_none, has_master, has_link_of, is_own_at, is_same_addr}
+use Rattle.kernel_types.specs.Apply.Calls.{is_same_route, is_same_setting, lease_taken, leased_addresses, last_leased}
+use Rattle.kernel_types.specs.{Apply.Calls.{new_bridge, new_gateway, new_forward}, Equal.rule_eq, Terms.is_host_or_ns}
+use Rattle.kernel_types.specs.Terms.{is_host_link, is_bridge, is_own, has_named_ns, has_host_bridge, has_objects}
+use Rattle.kernel_types.specs.{Terms.link_at, declared.call.Call.{Call, TheVariants.{Begin, BridgeEnsure}}}
+use Rattle.kernel_types.specs.declared.call.Call.TheVariants.{GatewayEnsure, ForwardEnsure, VethAdd, MacvlanAdd}
+use Rattle.kernel_types.specs.declared.call.Call.TheVariants.{LinkSet, AddrAdd, RouteAdd, RuleAppend, SettingSet}
+use Rattle.kernel_types.specs.declared.call.{Call.TheVariants.{LeaseNext, CachePut}, Reply.{Reply, TheVariants.Done}}
+use Rattle.kernel_types.specs.declared.call.Reply.TheVariants.{NoNs, NoLink, Taken, Empty, Leased, Gone, Has, Owners}
+use Rattle.kernel_types.specs.declared.{call.Reply.TheVariants.{Entry as Kept, Fault}, object.{Att.Att, Host.Host}}
+use Rattle.kernel_types.specs.declared.object.{Link.Link, Tag.Tag}
 use Rattle.cni_addr.proofs.Cases.{by_test}
-use Rattle.kernel_types.specs.declared.object.Att.{Att}
-use Rattle.kernel_types.specs.declared.object.Host.{Host}
-use Rattle.kernel_types.specs.declared.object.Link.{Link}
-use Rattle.kernel_types.specs.declared.object.Tag.{Tag}
-use Rattle.kernel_types.specs.declared.call.Call.{Call}
-use Rattle.kernel_types.specs.declared.call.Call.TheVariants.{Begin, BridgeEnsure, GatewayEnsure, ForwardEnsure, VethAdd, MacvlanAdd, LinkSet, AddrAdd, RouteAdd, RuleAppend, SettingSet, LeaseNext, CachePut}
-use Rattle.kernel_types.specs.declared.call.Reply.{Reply}
-use Rattle.kernel_types.specs.declared.call.Reply.TheVariants.{Done, NoNs, NoLink, Taken, Empty, Leased, Gone, Has, Owners, Entry as Kept, Fault}
 use Rattle.plugin_base.specs.Calls.{is_plugin_call_of}
-use Rattle.cni_verbs.specs.Replies.{is_granted}
-use Rattle.cni_verbs.specs.Script.{cause_of}
+use Rattle.cni_verbs.specs.{Replies.is_granted, Script.cause_of}
 use Rattle.cni_errors.specs.declared.answer.Cause.{Cause}
 use Rattle.cni_errors.specs.declared.answer.Cause.TheVariants as causes
 use Rattle.pod_workers.specs.World.{reply_to}

@@ -1,28 +1,17 @@
 -- The leases of one attachment are of distinct addresses in a sound host, which the host at a command's last entry is.
 use Rattle.std.proofs.Common.{◌≡◌, ℕ, Bool, true, List, [], ◌∷◌, ◌++◌, map, refl, sym, ◌∙◌, ap, subst, inl, inr, arith}
 use Rattle.std.proofs.lemmas.Bool.{cases_Bool}
-use Rattle.std.specs.Prelude.{◌&&◌}
-use Rattle.std.specs.List.{list_any}
-use Rattle.std.specs.Str.{bytes_eq}
-use Rattle.std.specs.Cmp.Lexicographic.{nat_list_eq_equiv}
-use Rattle.cni_addr.specs.Lists.{distinct}
-use Rattle.cni_addr.specs.declared.address.Addr.{Addr}
-use Rattle.kernel_types.specs.Equal.{addr_eq}
-use Rattle.kernel_types.specs.Sound.{IsSound}
-use Rattle.kernel_types.specs.Terms.{is_own, lease_of}
+use Rattle.std.specs.{Cmp.Lexicographic.nat_list_eq_equiv, List.list_any, Prelude.◌&&◌, Str.bytes_eq}
+use Rattle.cni_addr.specs.{Lists.distinct, declared.address.Addr.Addr}
+use Rattle.kernel_types.specs.{Equal.addr_eq, Sound.IsSound, Terms.{is_own, lease_of}, declared.object.Att.Att}
+use Rattle.kernel_types.specs.declared.object.{Host.Host, Lease.Lease}
 use Rattle.kernel_types.proofs.ListLemmas.{distinct-filter, list_any-map, list_any-same_test}
-use Rattle.kernel_types.specs.declared.object.Att.{Att}
-use Rattle.kernel_types.specs.declared.object.Host.{Host}
-use Rattle.kernel_types.specs.declared.object.Lease.{Lease}
 use Rattle.plugin_base.specs.Share.{share_of}
-use Rattle.pod_workers.specs.Legal.{Legal}
-use Rattle.pod_workers.specs.World.{World, after, entry_of, host_of, after_entry}
-use Rattle.pod_workers.specs.declared.plan.Entry.{Entry}
-use Rattle.pod_workers.specs.declared.plan.Plan.{Plan}
+use Rattle.pod_workers.specs.{Legal.Legal, World.{World, after, entry_of, host_of, after_entry}}
+use Rattle.pod_workers.specs.declared.plan.{Entry.Entry, Plan.Plan}
 use Rattle.pod_workers.proofs.Histories.{after-append}
 use Rattle.pod_laws.specs.Moments.{host_at_end, is_of, until_last}
-use Rattle.pod_laws.proofs.Histories.Entries.{until_last-own, until_last-other}
-use Rattle.pod_laws.proofs.Histories.Steps.{by-entries, sound-entered}
+use Rattle.pod_laws.proofs.Histories.{Entries.{until_last-own, until_last-other}, Steps.{by-entries, sound-entered}}
 
 distinct-of-map : {X Y : Type 0} (same : Y → Y → Bool) (f : X → Y) (test : X → X → Bool) → ((x y : X) → same (f x) (f y) ≡ test x y) → (xs : List X) → distinct same (map f xs) ≡ distinct test xs
 distinct-of-map same f test e [] = refl

@@ -1,52 +1,33 @@
 -- An attachment never has objects of a kind that its list's plugins don't name.
-use Rattle.std.proofs.Common.{◌≡◌, ℕ, Bool, true, false, List, [], ◌∷◌, ◌++◌, length, Some, refl, sym, ◌∙◌, ap, subst, inl, inr}
-use Rattle.std.proofs.lemmas.Bool.{both_ways, cases_Bool, and_parts}
-use Rattle.std.proofs.lemmas.Option.{same_Some}
-use Rattle.std.specs.Prelude.{filter}
-use Rattle.std.specs.List.{list_all}
+use Rattle.std.proofs.Common.{◌≡◌, ℕ, Bool, true, false, List, [], ◌∷◌, ◌++◌, length, Some, refl, sym, ◌∙◌, ap, subst}
+use Rattle.std.proofs.{Common.{inl, inr}, lemmas.{Bool.{both_ways, cases_Bool, and_parts}, Option.same_Some}}
+use Rattle.std.specs.{List.list_all, Prelude.filter}
 use Rattle.cni_addr.specs.declared.range.RangeSet.{RangeSet}
 use Rattle.net_conf.specs.declared.list.NetList.{NetList}
-use Rattle.pod_file.specs.declared.command.Command.{Command}
-use Rattle.kernel_types.specs.Apply.{apply}
-use Rattle.kernel_types.specs.Equal.{att_eq, tag_eq}
-use Rattle.kernel_types.specs.Sound.{IsSound}
-use Rattle.kernel_types.specs.Terms.{is_own}
-use Rattle.kernel_types.proofs.Isolation.{att_eq-same}
-use Rattle.kernel_types.proofs.ListLemmas.{filter_never}
-use Rattle.kernel_types.specs.declared.object.Att.{Att}
-use Rattle.kernel_types.specs.declared.object.Host.{Host}
-use Rattle.kernel_types.specs.declared.object.Tag.{Tag}
+use Rattle.pod_file.specs.{Commands.is_of_network, WellFormed.IsOpening, declared.command.Command.Command}
+use Rattle.kernel_types.specs.{Apply.apply, Equal.{att_eq, tag_eq}, Sound.IsSound, Terms.is_own}
+use Rattle.kernel_types.specs.declared.call.{Call.{Call, TheVariants.{Begin, LeaseNext, CacheGet}}, Kind.Kind}
+use Rattle.kernel_types.specs.declared.object.{Att.Att, Host.Host, Tag.Tag}
+use Rattle.kernel_types.proofs.{Isolation.att_eq-same, ListLemmas.filter_never}
 use Rattle.kernel_types.specs.declared.object.Tag.TheVariants as tags
-use Rattle.kernel_types.specs.declared.call.Kind.{Kind}
 use Rattle.kernel_types.specs.declared.call.Kind.TheVariants as kinds
-use Rattle.kernel_types.specs.declared.call.Call.{Call}
-use Rattle.kernel_types.specs.declared.call.Call.TheVariants.{Begin, LeaseNext, CacheGet}
-use Rattle.plugin_base.specs.Calls.{has_kind, is_of_kinds, is_plugin_call_of}
-use Rattle.plugin_base.specs.Share.{share_of, no_objects}
-use Rattle.plugin_base.proofs.OtherCalls.{share-other}
-use Rattle.plugin_base.proofs.OwnCalls.{share-own, share-lease}
-use Rattle.plugin_base.proofs.Refusals.{refused-same, refused-lease}
+use Rattle.plugin_base.specs.{Calls.{has_kind, is_of_kinds, is_plugin_call_of}, Share.{share_of, no_objects}}
+use Rattle.plugin_base.proofs.{OtherCalls.share-other, OwnCalls.{share-own, share-lease}, Refusals.refused-same}
+use Rattle.plugin_base.proofs.Refusals.{refused-lease}
 use Rattle.cni_errors.specs.CommandFields.{att_of}
-use Rattle.cni_verbs.specs.Script.{State, AtBegin, BeforeLeases, Leasing, AfterLeases, ReadingCache, Deleting, FindingEntry, Asking, Changing, Collecting, Over, Calls, turn, state_after}
+use Rattle.cni_verbs.specs.Script.{State, AtBegin, BeforeLeases, Leasing, AfterLeases, ReadingCache, Deleting}
+use Rattle.cni_verbs.specs.Script.{FindingEntry, Asking, Changing, Collecting, Over, Calls, turn, state_after}
 use Rattle.plugin_chain.specs.Wanted.{kinds_of, deletion}
-use Rattle.pod_file.specs.WellFormed.{IsOpening}
-use Rattle.pod_workers.specs.Legal.{Legal}
-use Rattle.pod_file.specs.Commands.{is_of_network}
-use Rattle.pod_workers.specs.Plans.{Placed, IsWellFormed, list_for, list_named}
-use Rattle.pod_workers.specs.World.{World, entry_of, host_of, after_entry, own_replies}
-use Rattle.pod_workers.specs.declared.plan.Entry.{Entry}
-use Rattle.pod_workers.specs.declared.plan.Plan.{Plan}
-use Rattle.pod_workers.proofs.Histories.{after-append}
-use Rattle.pod_workers.proofs.AddCalls.{leases-kinds_of}
-use Rattle.pod_workers.proofs.OfPlugins.{LeftAreOfPlugins, left-are-of_plugins}
-use Rattle.pod_workers.proofs.Sound.{sound_host, if-listed}
-use Rattle.gc_sweep.proofs.Deletable.{done_or_not, leased_or_not}
+use Rattle.pod_workers.specs.{Legal.Legal, Plans.{Placed, IsWellFormed, list_for, list_named}, World.{World, entry_of}}
+use Rattle.pod_workers.specs.{World.{host_of, after_entry, own_replies}, declared.plan.{Entry.Entry, Plan.Plan}}
+use Rattle.pod_workers.proofs.{AddCalls.leases-kinds_of, Histories.after-append, OfPlugins.LeftAreOfPlugins}
+use Rattle.pod_workers.proofs.{OfPlugins.left-are-of_plugins, Sound.{sound_host, if-listed}}
+use Rattle.gc_sweep.proofs.{Deletable.{done_or_not, leased_or_not}, OfKinds.{HasKindsAlone, HasKindsAlone-nothing}}
+use Rattle.gc_sweep.proofs.{OfKinds.{HasKindsAlone-call, HasKindsAlone-removes}, Removes.removes-deletion}
 use Rattle.pod_laws.specs.Moments.{objects_after}
-use Rattle.gc_sweep.proofs.OfKinds.{HasKindsAlone, HasKindsAlone-nothing, HasKindsAlone-call, HasKindsAlone-removes}
-use Rattle.gc_sweep.proofs.Removes.{removes-deletion}
 use Rattle.pod_laws.proofs.Histories.States.{LeftFit, is_question, left-fit, question-leaves, asked-is_question}
-use Rattle.pod_laws.proofs.Histories.Steps.{Changes, GoesOn, by-entries, on-entry}
-use Rattle.pod_laws.proofs.Histories.Turns.{AsksOrCollects, removes-changed, turn-of, work-turn}
+use Rattle.pod_laws.proofs.Histories.{Steps.{Changes, GoesOn, by-entries, on-entry}, Turns.AsksOrCollects}
+use Rattle.pod_laws.proofs.Histories.Turns.{removes-changed, turn-of, work-turn}
 
 -- ---- what a run's own call makes stays within its list's kinds
 

@@ -1,5 +1,4 @@
-use Rattle.std.specs.Int.{w128, to_be_bytes}
-use Rattle.std.specs.Net.Addr.{segments_of}
+use Rattle.std.specs.{Int.{w128, to_be_bytes}, Net.Addr.segments_of}
 use Rattle.cni_addr.proofs.GroupTexts.{hex_groups_text-IsRecommended}
 use Rattle.cni_addr.proofs.laws.group_text_laws.Goals as goal
 

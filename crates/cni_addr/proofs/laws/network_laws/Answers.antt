@@ -1,4 +1,6 @@
-use Rattle.cni_addr.proofs.Networks.{contains_between, contains_own, contains_first, contains_last, network_cleared, network_of_network, contains_of_network, last_of_network, IsCidr-network_of, IsAddr-last_of}
+use Rattle.cni_addr.proofs.Networks.{contains_between, contains_own, contains_first, contains_last, network_cleared}
+use Rattle.cni_addr.proofs.Networks.{network_of_network, contains_of_network, last_of_network, IsCidr-network_of}
+use Rattle.cni_addr.proofs.Networks.{IsAddr-last_of}
 use Rattle.cni_addr.proofs.laws.network_laws.Goals as goal
 
 pub returns : goal.returns

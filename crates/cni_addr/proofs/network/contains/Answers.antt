@@ -1,7 +1,7 @@
 use Rattle.std.proofs.Common.{true≢false, sym, ◌∙◌}
-use Rattle.cni_addr.proofs.Networks.{other_family, none_below, those_within}
+use Rattle.cni_addr.proofs.{Networks.{other_family, none_below, those_within}, network.contains.Goals.then-eq}
+use Rattle.cni_addr.proofs.network.contains.Goals.{else-eq}
 use Rattle.cni_addr.proofs.network.contains.Goals as goal
-use Rattle.cni_addr.proofs.network.contains.Goals.{then-eq, else-eq}
 
 pub returns-then-first-addr : goal.returns-then-first-addr
 returns-then-first-addr c =

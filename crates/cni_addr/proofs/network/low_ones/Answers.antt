@@ -1,5 +1,4 @@
-use Rattle.std.proofs.Common.{arith}
-use Rattle.std.proofs.lemmas.Nat.{pow_below}
+use Rattle.std.proofs.{Common.arith, lemmas.Nat.pow_below}
 use Rattle.cni_addr.proofs.network.low_ones.Goals as goal
 
 pub pow-requires : goal.pow-requires

@@ -1,9 +1,7 @@
 use Rattle.std.proofs.Common.{◌≡◌, ℕ, Option, Some, sym, ap, ◌∙◌}
 use Rattle.std.specs.declared.net.ip_addr.IpAddr.TheVariants as ip
 use Rattle.std.specs.Net.Addr.{ipv4_bits, ipv6_bits}
-use Rattle.cni_addr.specs.declared.address.Family.{Family}
-use Rattle.cni_addr.specs.declared.address.Family.TheVariants.{V4, V6}
-use Rattle.cni_addr.specs.Value.{AddrValue}
+use Rattle.cni_addr.specs.{Value.AddrValue, declared.address.Family.{Family, TheVariants.{V4, V6}}}
 use Rattle.cni_addr.proofs.AddrTexts.{read_dotted, read_groups, none_spelled}
 use Rattle.cni_addr.proofs.read.read_addr.Goals as goal
 

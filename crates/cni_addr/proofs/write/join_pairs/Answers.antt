@@ -1,9 +1,9 @@
 use Rattle.std.proofs.Common.{◌++◌, get_or, ap, ◌∙◌, arith}
 use Rattle.std.specs.String.{string_bytes}
 use Rattle.cni_addr.specs.MacText.{byte_text}
-use Rattle.cni_addr.proofs.MacTexts.{first_byte, next_byte}
+use Rattle.cni_addr.proofs.{MacTexts.{first_byte, next_byte}, write.join_pairs.Goals.then-place-gt0+in_ok-push}
+use Rattle.cni_addr.proofs.write.join_pairs.Goals.{else-place-gt0}
 use Rattle.cni_addr.proofs.write.join_pairs.Goals as goal
-use Rattle.cni_addr.proofs.write.join_pairs.Goals.{then-place-gt0+in_ok-push, else-place-gt0}
 
 pub loop-place-preserved : goal.loop-place-preserved
 loop-place-preserved c =

@@ -1,6 +1,5 @@
 use Rattle.std.proofs.Common.{◌≡◌, take, map}
-use Rattle.std.specs.List.{join_with_byte}
-use Rattle.std.specs.String.{string_bytes}
+use Rattle.std.specs.{List.join_with_byte, String.string_bytes}
 use Rattle.cni_addr.specs.MacText.{colon, byte_text}
 use Rattle.cni_addr.proofs.write.join_pairs.Given as goal
 

@@ -1,7 +1,5 @@
 use Rattle.std.proofs.Common.{◌≡◌, subst, ap, ◌∙◌}
-use Rattle.std.specs.Prelude.{IfOk}
-use Rattle.std.specs.Net.Addr.{IsIpv4OfBits}
-use Rattle.std.specs.Net.Text.{ipv4_text}
+use Rattle.std.specs.{Net.{Addr.IsIpv4OfBits, Text.ipv4_text}, Prelude.IfOk}
 use Rattle.cni_addr.proofs.write.write_v4.Goals as goal
 
 pub returns : goal.returns

@@ -1,7 +1,5 @@
 use Rattle.std.proofs.Common.{◌≡◌, subst, ap, ◌∙◌}
-use Rattle.std.specs.Prelude.{IfOk}
-use Rattle.std.specs.Net.Addr.{IsIpv6OfBits, ipv6_segments}
-use Rattle.std.specs.Net.Text.{hex_groups_text}
+use Rattle.std.specs.{Net.{Addr.{IsIpv6OfBits, ipv6_segments}, Text.hex_groups_text}, Prelude.IfOk}
 use Rattle.cni_addr.proofs.write.write_v6.Goals as goal
 
 pub returns : goal.returns

@@ -1,8 +1,7 @@
-use Rattle.std.proofs.Common.{lit<, rules}
+use Rattle.std.proofs.{Common.{lit<, rules}, lemmas.Iterator.Search.all_from_yields_List}
+use Rattle.std.proofs.lemmas.Iterator.Splits.{YieldsList-from_str_split}
 use Rattle.std.specs.Prelude.{is_some}
 use borrow.Author.Tests.{tests}
-use Rattle.std.proofs.lemmas.Iterator.Search.{all_from_yields_List}
-use Rattle.std.proofs.lemmas.Iterator.Splits.{YieldsList-from_str_split}
 use Rattle.cni_errors.specs.CommandFields.{argument_of}
 use Rattle.cni_errors.proofs.fields.all_arguments.Goals as goal
 

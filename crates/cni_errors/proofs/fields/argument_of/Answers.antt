@@ -1,8 +1,7 @@
 use Rattle.std.proofs.Common.{◌≡◌, Bool, true, false, cond, Some, None, sym, lit<}
 use Rattle.std.proofs.lemmas.Str.Pattern.{split_once_first}
 use Rattle.cni_errors.specs.CommandFields as fields
-use Rattle.cni_errors.proofs.Arguments.{uncut_is_none, argument_is}
-use Rattle.cni_errors.proofs.fields.argument_of.Goals.{After-is_pair}
+use Rattle.cni_errors.proofs.{Arguments.{uncut_is_none, argument_is}, fields.argument_of.Goals.After-is_pair}
 use Rattle.cni_errors.proofs.fields.argument_of.Goals as goal
 
 -- a piece that is cut at `=`, by whether the two parts are a pair

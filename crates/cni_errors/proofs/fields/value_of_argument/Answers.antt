@@ -1,6 +1,5 @@
-use Rattle.std.proofs.Common.{◌∙◌, sym, ap, lit<, rules}
+use Rattle.std.proofs.{Common.{◌∙◌, sym, ap, lit<, rules}, lemmas.Str.Pattern.split_once_first}
 use Rattle.std.specs.Option.{option_copied}
-use Rattle.std.proofs.lemmas.Str.Pattern.{split_once_first}
 use denote.Shadow.{shadow}
 use denote.Text.{Utf8}
 use Rattle.cni_errors.specs.CommandFields.{value_of_argument}

@@ -1,5 +1,4 @@
-use Rattle.std.proofs.Common.{rules}
-use Rattle.std.proofs.lemmas.Fn.{filter_same}
+use Rattle.std.proofs.{Common.rules, lemmas.Fn.filter_same}
 use Rattle.cni_io.proofs.mem_files.remove_named.Goals as goal
 
 pub returns-clause-others : goal.returns-clause-others

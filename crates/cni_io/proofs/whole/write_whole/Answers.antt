@@ -1,5 +1,4 @@
-use Rattle.std.proofs.Common.{arith}
-use Rattle.std.proofs.lemmas.Grind.{common_steps}
+use Rattle.std.proofs.{Common.arith, lemmas.Grind.common_steps}
 use Rattle.cni_io.specs.Whole.TakesInTurn.{NoWrite, OneMore}
 use Rattle.cni_io.proofs.KnownBytes.{append_known-more, left_is_drop}
 use Rattle.cni_io.proofs.whole.write_whole.Goals as goal

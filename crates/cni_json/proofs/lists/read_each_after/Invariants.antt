@@ -1,8 +1,6 @@
 use Rattle.std.proofs.Common.{◌≡◌, List, drop, Result}
-use Rattle.serde_json.specs.Data.{Data}
-use Rattle.serde_json.specs.View.{items_view}
-use Rattle.cni_json.specs.Each.{each_after}
-use Rattle.cni_json.specs.Readers.{IsReaderAfter}
+use Rattle.serde_json.specs.{Data.Data, View.items_view}
+use Rattle.cni_json.specs.{Each.each_after, Readers.IsReaderAfter}
 use Rattle.cni_json.proofs.lists.read_each_after.Given as goal
 
 -- those that were found, and all after them

@@ -1,9 +1,7 @@
 use Rattle.std.proofs.Common.{rules, ◌≡◌, [], ◌∷◌, ◌++◌, string_bytes, string_cmp, sym, ap, ◌∙◌, subst, append_assoc}
-use Rattle.std.specs.List.Sorted.{IsStrictlySortedBy}
-use Rattle.std.specs.Map.{keys_of}
+use Rattle.std.specs.{List.Sorted.IsStrictlySortedBy, Map.keys_of}
 use Rattle.serde_json.proofs.Views.{Entry}
-use Rattle.serde_json.specs.Data.{put}
-use Rattle.serde_json.specs.View.{view}
+use Rattle.serde_json.specs.{Data.put, View.view}
 use Rattle.cni_json.proofs.KeptMembers.{put-where_last, where_last}
 use Rattle.cni_json.specs.Members.{members_of}
 use Rattle.cni_json.proofs.members.kept_members.Goals as goal

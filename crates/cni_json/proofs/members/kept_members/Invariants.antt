@@ -1,8 +1,7 @@
 use Rattle.std.proofs.Common.{◌≡◌, ℕ, List, Bool, ◌++◌}
 use Rattle.serde_json.proofs.Views.{Entry}
 use Rattle.serde_json.specs.View.{members_view}
-use Rattle.cni_json.specs.Members.{members_of, members_where}
-use Rattle.cni_json.specs.Readers.{IsKeyTest}
+use Rattle.cni_json.specs.{Members.{members_of, members_where}, Readers.IsKeyTest}
 use Rattle.cni_json.proofs.members.kept_members.Given as goal
 
 -- those of the members so far that pass

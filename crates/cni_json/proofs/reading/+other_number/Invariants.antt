@@ -1,6 +1,5 @@
 use Rattle.std.proofs.Common.{◌≡◌, drop}
-use Rattle.serde_json.specs.View.{items_view, members_view}
-use Rattle.serde_json.specs.Written.{items_have_float, members_have_float}
+use Rattle.serde_json.specs.{View.{items_view, members_view}, Written.{items_have_float, members_have_float}}
 use Rattle.cni_json.proofs.reading.+other_number.Given as goal
 
 -- What is left decides.

@@ -1,10 +1,7 @@
-use Rattle.std.proofs.Common.{◌≡◌, rules, [], ◌∷◌, ◌++◌, IsUtf8, sym, subst, ap, ◌∙◌}
-use Rattle.std.proofs.lemmas.Str.{IsUtf8-append}
+use Rattle.std.proofs.{Common.{◌≡◌, rules, [], ◌∷◌, ◌++◌, IsUtf8, sym, subst, ap, ◌∙◌}, lemmas.Str.IsUtf8-append}
 use Rattle.serde_json.specs.View.{view}
 use Rattle.cni_json.specs.Json.{json_of}
-use Rattle.cni_json.proofs.Ascending.{KeysAscend-json_of}
-use Rattle.cni_json.proofs.LineFeed.{IsUtf8-line_feed}
-use Rattle.cni_json.proofs.Lines.{json_of-text}
+use Rattle.cni_json.proofs.{Ascending.KeysAscend-json_of, LineFeed.IsUtf8-line_feed, Lines.json_of-text}
 use Rattle.cni_json.proofs.writing.line.Goals as goal
 
 pub returns-clause-utf8 : goal.returns-clause-utf8

@@ -1,6 +1,5 @@
-use Rattle.std.proofs.Common.{◌≡◌, ◌∙◌, List, Some, get_or, sym, ap}
+use Rattle.std.proofs.{Common.{◌≡◌, ◌∙◌, List, Some, get_or, sym, ap}, lemmas.Option.slice_get-get_or}
 use Rattle.std.specs.Prelude.{slice_get}
-use Rattle.std.proofs.lemmas.Option.{slice_get-get_or}
 use Rattle.cni_errors.specs.declared.answer.Question.{Question}
 use Rattle.cni_verbs.proofs.PhaseSteps.{taken-at}
 use Rattle.cni_verbs.proofs.advance.denied.Goals as goal

@@ -1,6 +1,7 @@
 use Rattle.std.specs.Prelude.{◌+◌}
 use Rattle.std.proofs.lemmas.Result.{IfOk-weaker}
-use Rattle.cni_verbs.proofs.PhaseSteps.{goes_begin, goes_before, goes_lease, goes_after, goes_cache, goes_deleting, goes_entry, goes_asking, goes_changing, kept_result, over_goes}
+use Rattle.cni_verbs.proofs.PhaseSteps.{goes_begin, goes_before, goes_lease, goes_after, goes_cache, goes_deleting}
+use Rattle.cni_verbs.proofs.PhaseSteps.{goes_entry, goes_asking, goes_changing, kept_result, over_goes}
 use Rattle.cni_verbs.proofs.advance.next_phase.Goals as goal
 
 pub returns-in_ok-after_begin-in-AtBegin-clause-ok : goal.returns-in_ok-after_begin-in-AtBegin-clause-ok

@@ -1,7 +1,6 @@
 use Rattle.std.proofs.Common.{◌≡◌, Bool, true, false, Some}
-use Rattle.cni_verbs.specs.Phases.{state_in}
+use Rattle.cni_verbs.specs.{Phases.state_in, Script.{State, IsOpen}}
 use Rattle.cni_verbs.specs.Progress as progress
-use Rattle.cni_verbs.specs.Script.{State, IsOpen}
 use Rattle.cni_verbs.proofs.Ends.{IsOverIf, unended}
 use Rattle.cni_verbs.proofs.ending.answer_in.Goals as goal
 

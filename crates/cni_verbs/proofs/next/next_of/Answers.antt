@@ -1,7 +1,8 @@
 use Rattle.std.proofs.Common.{◌∙◌, List, ap}
 use Rattle.std.specs.Prelude.{option_map, slice_get}
 use Rattle.cni_errors.specs.declared.answer.Question.{Question}
-use Rattle.cni_verbs.proofs.NextCalls.{ok_by, next_begin, next_before, next_lease, next_after, next_cache, next_deletion, next_asking, next_change, next_over, is-prepared}
+use Rattle.cni_verbs.proofs.NextCalls.{ok_by, next_begin, next_before, next_lease, next_after, next_cache}
+use Rattle.cni_verbs.proofs.NextCalls.{next_deletion, next_asking, next_change, next_over, is-prepared}
 use Rattle.cni_verbs.proofs.next.next_of.Goals as goal
 
 pub returns-in-AtBegin : goal.returns-in-AtBegin

@@ -1,6 +1,5 @@
 use Rattle.std.proofs.Common.{◌≡◌, ◌++◌}
-use Rattle.std.specs.Iterator.Adapters.{zip_first, zip_second}
-use Rattle.std.specs.Slice.Iter.{iter_rest}
+use Rattle.std.specs.{Iterator.Adapters.{zip_first, zip_second}, Slice.Iter.iter_rest}
 use Rattle.host_local.specs.Leases as leases
 use Rattle.host_local.proofs.leases.given_of.Given as goal
 

@@ -1,7 +1,5 @@
-use Rattle.std.proofs.Common.{◌+◌, take, find, ap, sym, ◌∙◌}
-use Rattle.std.proofs.lemmas.List.{take_rest}
-use Rattle.ip_pool.specs.Pool.{is_free}
-use Rattle.ip_pool.specs.WayRound.{way_round}
+use Rattle.std.proofs.{Common.{◌+◌, take, find, ap, sym, ◌∙◌}, lemmas.List.take_rest}
+use Rattle.ip_pool.specs.{Pool.is_free, WayRound.way_round}
 use Rattle.ip_pool.proofs.WayRound.{way_round-is, no_way_round, last-below_end}
 use Rattle.ip_pool.proofs.by_runs.first_free_after.Goals as goal
 

@@ -1,6 +1,5 @@
 use Rattle.std.proofs.Common.{◌≡◌, rules, ◌+◌, find}
-use Rattle.std.specs.List.{flat_map}
-use Rattle.std.specs.Option.{option_or}
+use Rattle.std.specs.{List.flat_map, Option.option_or}
 use Rattle.ip_pool.specs.Pool.{is_free, candidates_in, candidates_between}
 use Rattle.ip_pool.proofs.Lists.{find-four}
 use Rattle.ip_pool.proofs.free.first_free_round.Goals as goal

@@ -1,9 +1,9 @@
 use Rattle.std.proofs.Common.{rules, ◌≡◌, ◌+◌, ◌≤◌, ◌<◌, true, false, length, take, drop, ◌++◌, ap, sym, ◌∙◌}
 use Rattle.std.specs.List.{list_all}
-use Rattle.ip_pool.specs.Runs.{ends_before}
-use Rattle.ip_pool.specs.RunEdits.{is_next, run_up_to, with_addr}
+use Rattle.ip_pool.specs.{RunEdits.{is_next, run_up_to, with_addr}, Runs.ends_before}
 use Rattle.ip_pool.proofs.RunPlaces.{add-extends, add-begins, add-ends}
-use Rattle.ip_pool.proofs.runs.add_addr.Goals.{else-place-len-via-then-place-len+else-is_after, else-place-len-via-else-place-len}
+use Rattle.ip_pool.proofs.runs.add_addr.Goals.{else-place-len-via-then-place-len+else-is_after}
+use Rattle.ip_pool.proofs.runs.add_addr.Goals.{else-place-len-via-else-place-len}
 use Rattle.ip_pool.proofs.runs.add_addr.Goals as goal
 
 pub returns-then-is_after-clause-items : goal.returns-then-is_after-clause-items

@@ -1,8 +1,9 @@
-use Rattle.std.proofs.Common.{rules, ◌≡◌, ◌+◌, ◌≤◌, ◌<◌, length, take, drop, ◌++◌, slice_index_or, slice_set, ap, sym, ◌∙◌}
-use Rattle.std.proofs.lemmas.List.{get_or_default}
+use Rattle.std.proofs.Common.{rules, ◌≡◌, ◌+◌, ◌≤◌, ◌<◌, length, take, drop, ◌++◌, slice_index_or, slice_set, ap, sym}
+use Rattle.std.proofs.{Common.◌∙◌, lemmas.List.get_or_default}
 use Rattle.ip_pool.specs.RunEdits.{run_up_to}
 use Rattle.ip_pool.proofs.RunPlaces.{put-apart, put-last}
-use Rattle.ip_pool.proofs.runs.extend_run.Goals.{else-next-len-via-then-next-len+else-begins_after, else-next-len-via-else-next-len}
+use Rattle.ip_pool.proofs.runs.extend_run.Goals.{else-next-len-via-then-next-len+else-begins_after}
+use Rattle.ip_pool.proofs.runs.extend_run.Goals.{else-next-len-via-else-next-len}
 use Rattle.ip_pool.proofs.runs.extend_run.Goals as goal
 
 pub returns-else-next-len-clause-items : goal.returns-else-next-len-clause-items

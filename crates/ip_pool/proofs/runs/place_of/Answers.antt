@@ -1,5 +1,4 @@
-use Rattle.std.proofs.Common.{rules, arith}
-use Rattle.std.proofs.lemmas.List.Sorted.{IsPartitionPoint-from_clause}
+use Rattle.std.proofs.{Common.{rules, arith}, lemmas.List.Sorted.IsPartitionPoint-from_clause}
 use Rattle.ip_pool.specs.Runs.{ends_before}
 use Rattle.ip_pool.proofs.RunPlaces.{runs-partitioned, all_within-take}
 use Rattle.ip_pool.proofs.runs.place_of.Goals as goal

@@ -1,8 +1,9 @@
-use Rattle.std.proofs.Common.{rules, ◌≡◌, ◌+◌, ◌++◌, ◌≤◌, ◌<◌, true, false, cond, Some, None, length, take, drop, find, ap, ap₂, sym, ◌∙◌, arith}
+use Rattle.std.proofs.Common.{rules, ◌≡◌, ◌+◌, ◌++◌, ◌≤◌, ◌<◌, true, false, cond, Some, None, length, take, drop, find}
+use Rattle.std.proofs.Common.{ap, ap₂, sym, ◌∙◌, arith}
 use Rattle.std.specs.List.{list_all}
 use Rattle.ip_pool.specs.Runs.{ends_before, is_in_run, is_run, run_size}
-use Rattle.ip_pool.proofs.RunMembers.{none-has}
-use Rattle.ip_pool.proofs.RunPlaces.{find-at, find-past_all, keep-at, keep-all, remove-at, parts-length, length-run-le-size}
+use Rattle.ip_pool.proofs.{RunMembers.none-has, RunPlaces.{find-at, find-past_all, keep-at, keep-all, remove-at}}
+use Rattle.ip_pool.proofs.RunPlaces.{parts-length, length-run-le-size}
 use Rattle.ip_pool.proofs.runs.remove_addr.Goals as goal
 
 pub returns-then-place-len-clause-found : goal.returns-then-place-len-clause-found

@@ -1,10 +1,7 @@
-use Rattle.std.proofs.Common.{◌≡◌, ◌∙◌, List, [], sym, ap, rules, Some, None}
+use Rattle.std.proofs.{Common.{◌≡◌, ◌∙◌, List, [], sym, ap, rules, Some, None}, lemmas.List.Sums.fold_push}
 use Rattle.std.specs.List.{filter_map}
-use Rattle.std.proofs.lemmas.List.Sums.{fold_push}
 use Rattle.cni_addr.specs.Lists.{each_key_once, push_unless_there}
-use Rattle.kernel_types.specs.Equal.{att_eq}
-use Rattle.kernel_types.specs.Apply.Calls.{owner_in}
-use Rattle.kernel_types.specs.declared.object.Att.{Att}
+use Rattle.kernel_types.specs.{Apply.Calls.owner_in, Equal.att_eq, declared.object.Att.Att}
 use Rattle.kernel_model.proofs.TaggedOwners.{owners-more, owners-same}
 use Rattle.kernel_model.proofs.owners.add_owner_in.Goals as goal
 

@@ -1,8 +1,7 @@
 use Rattle.std.proofs.Common.{◌≡◌, map, take}
 use Rattle.std.specs.List.{filter_map}
-use Rattle.kernel_types.specs.Equal.{att_eq}
+use Rattle.kernel_types.specs.{Apply.Calls.owner_in, Equal.att_eq}
 use Rattle.cni_addr.specs.Lists.{each_key_once}
-use Rattle.kernel_types.specs.Apply.Calls.{owner_in}
 use Rattle.kernel_model.proofs.owners.owners_among.Given as goal
 
 -- the owners of the objects so far

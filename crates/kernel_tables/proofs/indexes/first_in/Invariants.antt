@@ -1,6 +1,5 @@
 use Rattle.std.proofs.Common.{◌≡◌, drop}
-use Rattle.kernel_tables.specs.Places.{passing}
-use Rattle.kernel_tables.specs.Table.{has_key}
+use Rattle.kernel_tables.specs.{Places.passing, Table.has_key}
 use Rattle.kernel_tables.proofs.indexes.first_in.Given as goal
 
 -- the places so far went, and none of them counts

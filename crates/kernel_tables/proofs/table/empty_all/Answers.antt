@@ -1,5 +1,4 @@
-use Rattle.std.proofs.Common.{arith, ap, get_or}
-use Rattle.std.proofs.lemmas.List.Edits.{map_over_more}
+use Rattle.std.proofs.{Common.{arith, ap, get_or}, lemmas.List.Edits.map_over_more}
 use Rattle.kernel_tables.specs.Places.{emptied}
 use Rattle.kernel_tables.proofs.table.empty_all.Goals as goal
 

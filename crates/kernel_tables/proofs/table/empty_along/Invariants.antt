@@ -1,6 +1,5 @@
 use Rattle.std.proofs.Common.{◌≡◌, ◌&&◌, take}
-use Rattle.kernel_tables.specs.Places.{emptied_at}
-use Rattle.kernel_tables.specs.Table.{has_key}
+use Rattle.kernel_tables.specs.{Places.emptied_at, Table.has_key}
 use Rattle.kernel_tables.proofs.table.empty_along.Given as goal
 
 -- the places so far are seen to

@@ -1,6 +1,5 @@
 use Rattle.kernel_types.specs.Apply as apply
-use Rattle.kernel_types.proofs.EveryCall.{Touches-apply}
-use Rattle.kernel_types.proofs.Isolation.{KeepsPart-Touches}
+use Rattle.kernel_types.proofs.{EveryCall.Touches-apply, Isolation.KeepsPart-Touches}
 use Rattle.kernel_types.proofs.laws.no_call_changes_another_attachment.Goals as goal
 
 pub returns : goal.returns

@@ -1,10 +1,7 @@
-use Rattle.std.proofs.Common.{◌≡◌, ◌<◌, ℕ, List, codes, ltb-true, nat_lt, refl, true}
-use Rattle.std.proofs.lemmas.List.Elements.{All-weaker}
-use Rattle.std.proofs.lemmas.List.Sums.{AllPass-from_list_all}
+use Rattle.std.proofs.{Common.{◌≡◌, ◌<◌, ℕ, List, codes, ltb-true, nat_lt, refl, true}, lemmas.List.Elements.All-weaker}
+use Rattle.std.proofs.lemmas.{List.Sums.AllPass-from_list_all, Str.{IsAscii-append, IsUtf8-from_ascii}}
 use Rattle.std.proofs.lemmas.Str.Ascii.{IsAscii-from_all}
-use Rattle.std.proofs.lemmas.Str.{IsAscii-append, IsUtf8-from_ascii}
-use Rattle.std.specs.List.{list_all}
-use Rattle.std.specs.Str.{IsAscii}
+use Rattle.std.specs.{List.list_all, Str.IsAscii}
 use Rattle.hex.proofs.HexLemmas.{IsAscii-encode_with}
 use Rattle.hex.specs.Hex.{lower_digits}
 use Rattle.link_names.proofs.host_name.host_name_text.Goals as goal

@@ -1,7 +1,5 @@
 use Rattle.std.proofs.Common.{List, sym, ap, ap₂, ◌∙◌}
-use Rattle.serde_json.specs.View.{view, items_view}
-use Rattle.serde_json.specs.Data.{array}
-use Rattle.serde_json.specs.declared.value.Value.{Value}
+use Rattle.serde_json.specs.{Data.array, View.{view, items_view}, declared.value.Value.Value}
 use Rattle.serde_json.proofs.Views.{view-Array}
 use Rattle.net_conf.specs.Accepted.{accepts, is_empty_list}
 use Rattle.net_conf.proofs.ValueLemmas.{empty_items}

@@ -1,5 +1,4 @@
-use Rattle.net_conf.proofs.ChainFacts.{network_list_at-each}
-use Rattle.net_conf.proofs.ListFacts.{header_at-ok, list_of-ok}
+use Rattle.net_conf.proofs.{ChainFacts.network_list_at-each, ListFacts.{header_at-ok, list_of-ok}}
 use Rattle.net_conf.proofs.laws.network_list_laws.Goals as goal
 
 pub returns : goal.returns

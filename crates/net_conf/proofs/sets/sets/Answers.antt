@@ -1,6 +1,4 @@
-use Rattle.std.proofs.Common.{length, nat_le, arith}
-use Rattle.std.proofs.lemmas.Bool.{and_parts}
-use Rattle.std.proofs.lemmas.Bool.Decides.{nat_tests}
+use Rattle.std.proofs.{Common.{length, nat_le, arith}, lemmas.Bool.{and_parts, Decides.nat_tests}}
 use Rattle.net_conf.proofs.SetFacts.{sets_at-ok}
 use Rattle.net_conf.specs.Sets.{most_sets}
 use Rattle.net_conf.proofs.sets.sets.Goals as goal

@@ -1,7 +1,5 @@
 use Rattle.std.proofs.Common.{◌≡◌, ℕ, Bool, true, false, Some, sym, ap, ◌∙◌}
-use Rattle.std.specs.Prelude.{is_some, if◌then◌else◌}
-use Rattle.std.specs.BTreeMap.{BTreeMap, get}
-use Rattle.std.specs.Ordering.{is_eq}
+use Rattle.std.specs.{BTreeMap.{BTreeMap, get}, Ordering.is_eq, Prelude.{is_some, if◌then◌else◌}}
 use Rattle.packet_probe.specs.Kinds.{Key, key_cmp}
 use Rattle.packet_probe.proofs.host_rules.with_first.Goals as goal
 use Rattle.packet_probe.proofs.host_rules.with_first.Goals.{then-not-contains_key+in_ok-insert, else-not-contains_key}

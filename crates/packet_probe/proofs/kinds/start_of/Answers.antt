@@ -1,7 +1,5 @@
 use Rattle.std.proofs.Common.{ap, ◌∙◌}
-use Rattle.cni_addr.specs.Network.{network_of}
-use Rattle.cni_addr.specs.declared.address.Addr.{Addr}
-use Rattle.cni_addr.specs.declared.address.Cidr.{Cidr}
+use Rattle.cni_addr.specs.{Network.network_of, declared.address.{Addr.Addr, Cidr.Cidr}}
 use Rattle.packet_probe.proofs.kinds.start_of.Goals as goal
 
 pub returns : goal.returns

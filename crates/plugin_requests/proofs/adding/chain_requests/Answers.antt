@@ -1,9 +1,7 @@
 use Rattle.std.proofs.Common.{◌≡◌, false, length, List, [], ◌∷◌, ◌++◌, slice_range, ap, sym, ◌∙◌}
 use Rattle.std.proofs.lemmas.List.Elements.{All-head, All-nil, All-push, All-rest, All-same}
-use Rattle.std.specs.Iterator.Adapters.{zip_first, zip_second}
-use Rattle.std.specs.Slice.Iter.{iter_rest}
-use Rattle.serde_json.specs.View.{view}
-use Rattle.serde_json.specs.Written.{has_float}
+use Rattle.std.specs.{Iterator.Adapters.{zip_first, zip_second}, Slice.Iter.iter_rest}
+use Rattle.serde_json.specs.{View.view, Written.has_float}
 use Rattle.plugin_requests.proofs.Placed.{first-and-rest, requests_left-begin, requests_left-next, requests_left-end}
 use Rattle.plugin_requests.specs.Adding as defined
 use Rattle.plugin_requests.specs.Raw.{IsPluginObject}

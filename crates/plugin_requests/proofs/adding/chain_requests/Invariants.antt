@@ -1,13 +1,9 @@
 use Rattle.std.proofs.Common.{◌≡◌, ◌++◌, false, map}
-use Rattle.std.specs.Prelude.{All}
-use Rattle.std.specs.Iterator.Adapters.{zip_first, zip_second}
-use Rattle.std.specs.Slice.Iter.{iter_rest}
-use Rattle.serde_json.specs.View.{view}
-use Rattle.serde_json.specs.Written.{has_float}
+use Rattle.std.specs.{Iterator.Adapters.{zip_first, zip_second}, Prelude.All, Slice.Iter.iter_rest}
+use Rattle.serde_json.specs.{View.view, Written.has_float}
 use Rattle.plugin_requests.proofs.Placed.{requests_left}
 use Rattle.plugin_requests.proofs.adding.chain_requests.Given as goal
-use Rattle.plugin_requests.specs.Raw.{IsPluginObject}
-use Rattle.plugin_requests.specs.Adding.{chain_requests}
+use Rattle.plugin_requests.specs.{Adding.chain_requests, Raw.IsPluginObject}
 
 -- the requests so far and those to the plugins that are left are all
 abbrev pub invariant-loop-plugin : goal.invariant-loop-plugin

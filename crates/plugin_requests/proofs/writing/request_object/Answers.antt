@@ -1,6 +1,5 @@
 use Rattle.std.proofs.Common.{ap, ap₂, ◌∙◌}
-use Rattle.std.specs.Option.{option_copied}
-use Rattle.std.specs.Prelude.{codes}
+use Rattle.std.specs.{Option.option_copied, Prelude.codes}
 use Rattle.serde_json.specs.Data.{put}
 use Rattle.cni_json.specs.Members.{list_data, put_if, put_object_unless_empty, text_data}
 use Rattle.cni_result.specs.Results.{result_data, version_data}

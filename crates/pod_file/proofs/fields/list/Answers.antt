@@ -1,6 +1,5 @@
 use Rattle.std.proofs.Common.{rules}
-use Rattle.pod_file.specs.Members.{list_at}
-use Rattle.pod_file.specs.Refusals.{key_path}
+use Rattle.pod_file.specs.{Members.list_at, Refusals.key_path}
 use Rattle.pod_file.specs.declared.error.PodError.TheVariants as refusal
 use Rattle.pod_file.proofs.fields.list.Goals as goal
 

@@ -1,7 +1,6 @@
 use Rattle.std.proofs.Common.{ap, sym, ◌∙◌, subst}
 use Rattle.pod_file.proofs.GeneratorFacts.{rounds_for-few, rounds_for-ok}
-use Rattle.pod_file.specs.Rounds.{are_few, all_numbered}
-use Rattle.pod_file.specs.WellFormed.{AreWellFormedRounds}
+use Rattle.pod_file.specs.{Rounds.{are_few, all_numbered}, WellFormed.AreWellFormedRounds}
 use Rattle.pod_file.proofs.generator.pods_for.Goals as goal
 
 pub all_numbered-numbered-requires : goal.all_numbered-numbered-requires

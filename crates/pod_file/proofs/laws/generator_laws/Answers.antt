@@ -1,5 +1,5 @@
-use Rattle.pod_file.proofs.GeneratedListFacts.{generated_list-ok}
-use Rattle.pod_file.proofs.GeneratorFacts.{generated_pods-ok, generated-named, generated-count}
+use Rattle.pod_file.proofs.{GeneratedListFacts.generated_list-ok, GeneratorFacts.{generated_pods-ok, generated-named}}
+use Rattle.pod_file.proofs.GeneratorFacts.{generated-count}
 use Rattle.pod_file.proofs.laws.generator_laws.Goals as goal
 
 pub returns : goal.returns

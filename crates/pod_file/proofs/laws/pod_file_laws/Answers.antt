@@ -1,6 +1,4 @@
-use Rattle.pod_file.proofs.CommandFacts.{faults_at-ok, stop_at-ok}
-use Rattle.pod_file.proofs.OpeningFacts.{opening_of-ok}
-use Rattle.pod_file.proofs.PodFacts.{pods_of-ok}
+use Rattle.pod_file.proofs.{CommandFacts.{faults_at-ok, stop_at-ok}, OpeningFacts.opening_of-ok, PodFacts.pods_of-ok}
 use Rattle.pod_file.proofs.laws.pod_file_laws.Goals as goal
 
 pub returns : goal.returns

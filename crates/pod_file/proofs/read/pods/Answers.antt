@@ -1,7 +1,6 @@
 use Rattle.std.proofs.Common.{◌≡◌, true, Ok, sym, ap, ◌∙◌, subst}
 use Rattle.pod_file.proofs.PodFacts.{numbered-ok}
-use Rattle.pod_file.specs.Rounds.{are_few, each_alone}
-use Rattle.pod_file.specs.WellFormed.{AreWellFormedRounds}
+use Rattle.pod_file.specs.{Rounds.{are_few, each_alone}, WellFormed.AreWellFormedRounds}
 use Rattle.pod_file.proofs.read.pods.Goals as goal
 
 pub of_items-requires : goal.of_items-requires

@@ -1,9 +1,7 @@
-use Rattle.std.proofs.Common.{◌≡◌, ◌∙◌, ◌++◌, ◌∷◌, [], List, suc, ap, sym, subst, map, append_assoc, arith, rules, false}
-use Rattle.std.specs.Prelude.{All}
-use Rattle.std.specs.Vec.Iter.{into_iter_items}
-use Rattle.serde_json.specs.Data.{Data}
-use Rattle.serde_json.specs.View.{view}
-use Rattle.serde_json.specs.Written.{has_float}
+use Rattle.std.proofs.Common.{◌≡◌, ◌∙◌, ◌++◌, ◌∷◌, [], List, suc, ap, sym, subst, map, append_assoc, arith, rules}
+use Rattle.std.proofs.Common.{false}
+use Rattle.std.specs.{Prelude.All, Vec.Iter.into_iter_items}
+use Rattle.serde_json.specs.{Data.Data, View.view, Written.has_float}
 use Rattle.pod_text.proofs.printable.printables.Goals as goal
 
 -- what is so of all is so of those after the first

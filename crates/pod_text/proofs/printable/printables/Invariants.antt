@@ -1,8 +1,6 @@
 use Rattle.std.proofs.Common.{◌≡◌, ◌++◌, false, map}
-use Rattle.std.specs.Prelude.{All}
-use Rattle.std.specs.Vec.Iter.{into_iter_items}
-use Rattle.serde_json.specs.View.{view}
-use Rattle.serde_json.specs.Written.{has_float}
+use Rattle.std.specs.{Prelude.All, Vec.Iter.into_iter_items}
+use Rattle.serde_json.specs.{View.view, Written.has_float}
 use Rattle.pod_text.proofs.printable.printables.Given as goal
 
 -- what is made so far, with what is left, is all

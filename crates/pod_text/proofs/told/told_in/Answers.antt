@@ -1,5 +1,4 @@
-use Rattle.std.proofs.Common.{arith}
-use Rattle.std.proofs.lemmas.Grind.{common_steps}
+use Rattle.std.proofs.{Common.arith, lemmas.Grind.common_steps}
 use Rattle.pod_text.proofs.Telling.{told_in-push}
 use Rattle.pod_text.proofs.told.told_in.Goals as goal
 

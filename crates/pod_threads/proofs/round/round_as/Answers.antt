@@ -1,6 +1,5 @@
 use Rattle.std.proofs.Common.{◌+◌, length, sum, sym, ◌∙◌, ap, subst}
-use Rattle.pod_workers.specs.Extends.{Extends, Rounds}
-use Rattle.pod_workers.specs.World.{World}
+use Rattle.pod_workers.specs.{Extends.{Extends, Rounds}, World.World}
 use Rattle.pod_threads.proofs.Counting.{first-count, rounds-after, whole-count}
 use Rattle.pod_threads.proofs.round.round_as.Goals as goal
 

@@ -1,6 +1,5 @@
 use Rattle.std.proofs.Common.{take}
-use Rattle.pod_workers.specs.Index.{IsIndex}
-use Rattle.pod_workers.specs.Plans.{placed_from}
+use Rattle.pod_workers.specs.{Index.IsIndex, Plans.placed_from}
 use Rattle.pod_workers.proofs.index.index_of.Given as goal
 
 abbrev pub invariant-loop-round : goal.invariant-loop-round

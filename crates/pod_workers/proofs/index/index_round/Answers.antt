@@ -1,10 +1,6 @@
 use Rattle.std.proofs.Common.{◌≡◌, ℕ, List, Option, Some, cond, length, ◌∙◌, ap, arith}
-use Rattle.std.specs.BTreeMap.{is_at}
-use Rattle.std.specs.Cmp.Lexicographic.{slice_cmp}
-use Rattle.std.specs.Map.{lookup}
-use Rattle.std.specs.Ordering.{nat_cmp}
-use Rattle.std.specs.Str.{bytes_eq}
 use Rattle.std.proofs.lemmas.Map.Text.{btree_map_updates_str}
+use Rattle.std.specs.{BTreeMap.is_at, Cmp.Lexicographic.slice_cmp, Map.lookup, Ordering.nat_cmp, Str.bytes_eq}
 use Rattle.pod_workers.specs.declared.index.Place.{Place}
 use Rattle.pod_workers.proofs.Indexed.{all-indexed, at_text, count-more, indexed-more, nothing-indexed}
 use Rattle.pod_workers.proofs.index.index_round.Goals as goal

@@ -1,7 +1,6 @@
 use Rattle.std.proofs.Common.{◌≡◌, ◌+◌, List, Some, length, take, slice_get}
 use Rattle.pod_file.specs.declared.command.Command.{Command}
-use Rattle.pod_workers.specs.Index.{AreBefore, IsIndex}
-use Rattle.pod_workers.specs.Plans.{Placed}
+use Rattle.pod_workers.specs.{Index.{AreBefore, IsIndex}, Plans.Placed}
 use Rattle.pod_workers.proofs.Indexed.{IsIndexedTo, at_text}
 use Rattle.pod_workers.proofs.index.index_round.Given as goal
 

@@ -1,7 +1,6 @@
 use Rattle.std.proofs.Common.{sym, ◌∙◌, ap, subst}
 use Rattle.std.specs.Prelude.{option_map, ◌||◌}
-use Rattle.cni_verbs.specs.Progress.{Progress, answer_by}
-use Rattle.cni_verbs.specs.Script.{IsOpen, next_call, finish_of}
+use Rattle.cni_verbs.specs.{Progress.{Progress, answer_by}, Script.{IsOpen, next_call, finish_of}}
 use Rattle.cni_errors.specs.declared.answer.Answer.TheVariants.{Stopped}
 use Rattle.pod_workers.specs.World.{is_faulty, is_stop}
 use Rattle.pod_workers.specs.declared.plan.Next.TheVariants as next

@@ -1,5 +1,4 @@
-use Rattle.std.proofs.Common.{◌≤◌, ℕ, subst, sym}
-use Rattle.std.proofs.lemmas.Result.{err_from_is_err_and}
+use Rattle.std.proofs.{Common.{◌≤◌, ℕ, subst, sym}, lemmas.Result.err_from_is_err_and}
 use Rattle.pod_workers.specs.Plans.{IsWellFormed}
 use Rattle.tool_plan.specs.Seen.{files_seen}
 use Rattle.tool_plan.proofs.Dues.{asked_by, comes_to_no_plan, comes_to_plan, names_none}

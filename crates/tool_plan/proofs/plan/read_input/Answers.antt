@@ -1,10 +1,9 @@
-use Rattle.std.proofs.Common.{◌≡◌, ◌∙◌, List, Ok, Err, ap, arith, subst, sym}
-use Rattle.std.proofs.lemmas.Result.{err_from_is_err_and}
+use Rattle.std.proofs.{Common.{◌≡◌, ◌∙◌, List, Ok, Err, ap, arith, subst, sym}, lemmas.Result.err_from_is_err_and}
 use Rattle.net_conf.specs.declared.list.NetList.{NetList}
 use Rattle.pod_workers.specs.declared.plan.Plan.{Plan}
-use Rattle.tool_plan.specs.Causes.{GivesJudged}
-use Rattle.tool_plan.specs.Verdict.{judged_plan, lists_of}
-use Rattle.tool_plan.proofs.Inputs.{input-made, lists-stop, packets-stop, plan-stops, pods-stop, requests-are, taken_lists, taken_packets, taken_pods}
+use Rattle.tool_plan.specs.{Causes.GivesJudged, Verdict.{judged_plan, lists_of}}
+use Rattle.tool_plan.proofs.Inputs.{input-made, lists-stop, packets-stop, plan-stops, pods-stop, requests-are}
+use Rattle.tool_plan.proofs.Inputs.{taken_lists, taken_packets, taken_pods}
 use Rattle.tool_plan.proofs.plan.read_input.Goals as goal
 
 pub returns-in_err-pods-clause-gives : goal.returns-in_err-pods-clause-gives

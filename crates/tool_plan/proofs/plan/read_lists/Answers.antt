@@ -1,7 +1,6 @@
 use Rattle.std.proofs.Common.{◌≡◌, ◌∙◌, ◌+◌, ap, subst, arith, ℕ, List, [], ◌∷◌, ◌++◌, sym, length}
+use Rattle.std.proofs.lemmas.{List.length-append, Result.err_from_is_err_and}
 use Rattle.std.specs.List.{slice_index_or}
-use Rattle.std.proofs.lemmas.List.{length-append}
-use Rattle.std.proofs.lemmas.Result.{err_from_is_err_and}
 use Rattle.plugin_requests.specs.Raw.{RawView}
 use Rattle.tool_plan.proofs.Lists.{Front, front-next, front-whole, lists-stop}
 use Rattle.tool_plan.proofs.plan.read_lists.Goals as goal

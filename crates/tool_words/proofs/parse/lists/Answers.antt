@@ -1,8 +1,6 @@
 use Rattle.std.proofs.Common.{◌≡◌, ◌∙◌, ap, List, [], map, Option, Some, None, option_map, unwrap_or}
-use Rattle.std.specs.Borrow.{Bor}
-use Rattle.std.specs.Option.{UnwrapsOrElse}
-use Rattle.clap.specs.Matches.{found_of}
-use Rattle.clap.specs.Walk.{Text}
+use Rattle.std.specs.{Borrow.Bor, Option.UnwrapsOrElse}
+use Rattle.clap.specs.{Matches.found_of, Walk.Text}
 use Rattle.clap.proofs.WalkLemmas.{raw_values-rows}
 use Rattle.tool_words.specs.Command.{lists_word}
 use Rattle.tool_words.proofs.parse.lists.Goals as goal

@@ -1,8 +1,8 @@
 use Rattle.std.proofs.Common.{◌∙◌, map-id, refl}
-use Rattle.tool_words.proofs.App.{taken, rows-are, not_taken}
+use Rattle.tool_words.proofs.{App.{taken, rows-are, not_taken}, Given.passes_parser}
 use Rattle.clap.specs.declared.builder.value_parser.ValueParser.TheVariants as parser
-use Rattle.tool_words.specs.Command.{counts_to, dump_flag, flag_rule, greatest_entry, most_threads, requests_flag, stop_rule, threads_rule, trace_flag}
-use Rattle.tool_words.proofs.Given.{passes_parser}
+use Rattle.tool_words.specs.Command.{counts_to, dump_flag, flag_rule, greatest_entry, most_threads, requests_flag}
+use Rattle.tool_words.specs.Command.{stop_rule, threads_rule, trace_flag}
 use Rattle.tool_words.proofs.parse.parse.Goals as goal
 
 pub returns-in-Ok-try_get_matches_from : goal.returns-in-Ok-try_get_matches_from

@@ -1,7 +1,5 @@
-use Rattle.std.proofs.Common.{rules, sym, None, Some}
-use Rattle.std.proofs.lemmas.Result.{err_from_is_err_and}
-use Rattle.tool_words.proofs.Counts.{source-within}
-use Rattle.tool_words.proofs.Saying.{by_source, refused, says}
+use Rattle.std.proofs.{Common.{rules, sym, None, Some}, lemmas.Result.err_from_is_err_and}
+use Rattle.tool_words.proofs.{Counts.source-within, Saying.{by_source, refused, says}}
 use Rattle.tool_words.proofs.words.read_words.Goals as goal
 
 pub returns-in_err-matches-clause-exact : goal.returns-in_err-matches-clause-exact

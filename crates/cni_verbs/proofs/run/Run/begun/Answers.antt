@@ -1,6 +1,5 @@
 use Rattle.std.proofs.Common.{Some, ap}
-use Rattle.cni_verbs.specs.Progress.{Progress}
-use Rattle.cni_verbs.specs.Script.{State}
+use Rattle.cni_verbs.specs.{Progress.Progress, Script.State}
 use Rattle.cni_verbs.proofs.NextCalls.{kept_at_start, seen_at_start}
 use Rattle.cni_verbs.proofs.run.Run.begun.Goals as goal
 

@@ -1,6 +1,5 @@
 use Rattle.std.proofs.Common.{◌∙◌, ap}
-use Rattle.cni_verbs.specs.Progress.{RunView}
-use Rattle.cni_verbs.specs.Script.{next_call}
+use Rattle.cni_verbs.specs.{Progress.RunView, Script.next_call}
 use Rattle.cni_verbs.proofs.NextCalls.{ok_by, outside_next}
 use Rattle.cni_verbs.proofs.run.Run.next.Goals as goal
 

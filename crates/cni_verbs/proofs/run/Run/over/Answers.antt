@@ -3,8 +3,7 @@ use Rattle.cni_addr.specs.declared.address.Addr.{Addr}
 use Rattle.net_conf.specs.declared.list.NetList.{NetList}
 use Rattle.pod_file.specs.declared.command.Command.{Command}
 use Rattle.kernel_types.specs.declared.call.Kind.{Kind}
-use Rattle.cni_verbs.specs.Phases.{KeepsOfList, KeepsOfListBy, state_in, state_by_phase}
-use Rattle.cni_verbs.specs.Progress.{RunView}
+use Rattle.cni_verbs.specs.{Phases.{KeepsOfList, KeepsOfListBy, state_in, state_by_phase}, Progress.RunView}
 use Rattle.cni_verbs.specs.declared.phase.Phase.{Phase}
 use Rattle.cni_verbs.proofs.Ends.{IsOverIf, outside-over}
 use Rattle.cni_verbs.proofs.run.Run.over.Goals as goal

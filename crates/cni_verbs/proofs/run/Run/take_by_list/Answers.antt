@@ -3,9 +3,7 @@ use Rattle.std.specs.Prelude.{is_some}
 use Rattle.cni_addr.specs.declared.address.Addr.{Addr}
 use Rattle.net_conf.specs.declared.list.NetList.{NetList}
 use Rattle.pod_file.specs.declared.command.Command.{Command}
-use Rattle.cni_verbs.specs.Phases.{Awaits, is_prepared_by, state_by_phase}
-use Rattle.cni_verbs.specs.Progress.{RunView}
-use Rattle.cni_verbs.specs.Script.{IsOpen}
+use Rattle.cni_verbs.specs.{Phases.{Awaits, is_prepared_by, state_by_phase}, Progress.RunView, Script.IsOpen}
 use Rattle.cni_verbs.specs.declared.phase.Phase.{Phase}
 use Rattle.cni_verbs.proofs.PhaseSteps.{awaits}
 use Rattle.cni_verbs.proofs.run.Run.take_by_list.Goals as goal

@@ -1,7 +1,6 @@
 use Rattle.std.proofs.Common.{◌≡◌, ◌∙◌, ◌≤◌, true, length, sym, ap, subst, arith, rules}
 use Rattle.std.proofs.lemmas.Bool.Decides.{nat_tests}
-use Rattle.kernel_types.specs.declared.call.Reply.{Reply}
-use Rattle.kernel_types.specs.declared.call.Reply.TheVariants.{Owners}
+use Rattle.kernel_types.specs.declared.call.Reply.{Reply, TheVariants.Owners}
 use Rattle.gc_sweep.specs.View.{HasTaken, sweep_of, sweeps_after, jobs_left}
 use Rattle.gc_sweep.proofs.Places.{ends_step, has_job_left, leaves_owner, no_jobs, owner_stays, skipped, step_ends}
 use Rattle.gc_sweep.proofs.place.SweepPlace.take.Goals as goal

@@ -1,5 +1,4 @@
-use Rattle.std.proofs.Common.{rules, ap, subst, sym, ◌∙◌}
-use Rattle.std.proofs.lemmas.Fn.{always_returns_same}
+use Rattle.std.proofs.{Common.{rules, ap, subst, sym, ◌∙◌}, lemmas.Fn.always_returns_same}
 use Rattle.cni_verbs.specs.Sweep.{is_valid}
 use Rattle.gc_sweep.specs.Valid.{AreInOrder, names_cmp, names_of}
 use Rattle.gc_sweep.proofs.Indexed.{found-valid}

@@ -1,7 +1,6 @@
 use Rattle.std.proofs.Common.{◌≡◌, true, List, ap, subst}
 use Rattle.cni_addr.specs.declared.address.Addr.{Addr}
-use Rattle.ip_pool.specs.AddrSets.{ascends}
-use Rattle.ip_pool.specs.Runs.{addresses_of}
+use Rattle.ip_pool.specs.{AddrSets.ascends, Runs.addresses_of}
 use Rattle.ip_pool.proofs.RunMembers.{addresses-ascend}
 use Rattle.ip_pool.proofs.addr_runs.AddrRuns.addresses_ascend.Goals as goal
 

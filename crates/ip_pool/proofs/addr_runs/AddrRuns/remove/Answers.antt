@@ -1,12 +1,8 @@
 use Rattle.std.proofs.Common.{◌≡◌, ◌+◌, ◌-◌, true, false, cond, not, ◌&&◌, List, ap, sym, ◌∙◌, arith}
 use Rattle.std.specs.Vec.{vec_capacity}
-use Rattle.cni_addr.specs.Equal.{addr_eq}
-use Rattle.cni_addr.specs.declared.address.Addr.{Addr}
-use Rattle.ip_pool.specs.AddrSets.{ascends}
-use Rattle.ip_pool.specs.NextAddress.{is_taken}
-use Rattle.ip_pool.specs.declared.runs.Run.{Run}
-use Rattle.ip_pool.specs.Runs.{addresses_of, are_runs, is_in_runs, size_of}
-use Rattle.ip_pool.specs.RunEdits.{without_addr}
+use Rattle.cni_addr.specs.{Equal.addr_eq, declared.address.Addr.Addr}
+use Rattle.ip_pool.specs.{AddrSets.ascends, NextAddress.is_taken, RunEdits.without_addr, Runs.{addresses_of, are_runs}}
+use Rattle.ip_pool.specs.{Runs.{is_in_runs, size_of}, declared.runs.Run.Run}
 use Rattle.ip_pool.proofs.RunEdits.{without_addr-absent, without_addr-members, without_addr-size, without_addr-runs}
 use Rattle.ip_pool.proofs.RunMembers.{taken-runs, addresses-ascend}
 use Rattle.ip_pool.proofs.addr_runs.AddrRuns.remove.Goals as goal

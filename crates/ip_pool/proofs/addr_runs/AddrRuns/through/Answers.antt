@@ -1,8 +1,6 @@
 use Rattle.std.proofs.Common.{◌≡◌, List, subst, ap, sym, ◌∙◌, Some, None, find}
 use Rattle.cni_addr.specs.declared.address.Addr.{Addr}
-use Rattle.ip_pool.specs.AddrSets.{IsRunEnd}
-use Rattle.ip_pool.specs.NextAddress.{is_taken}
-use Rattle.ip_pool.specs.Runs.{addresses_of, is_in_run}
+use Rattle.ip_pool.specs.{AddrSets.IsRunEnd, NextAddress.is_taken, Runs.{addresses_of, is_in_run}}
 use Rattle.ip_pool.proofs.RunMembers.{run-end, no_run-not_taken}
 use Rattle.ip_pool.proofs.addr_runs.AddrRuns.through.Goals as goal
 

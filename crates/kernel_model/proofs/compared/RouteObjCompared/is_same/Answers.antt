@@ -1,6 +1,5 @@
 use Rattle.std.proofs.Common.{◌≡◌, ◌&&◌, Bool, rules, ◌∙◌, arith}
-use Rattle.std.specs.Str.{bytes_eq}
-use Rattle.std.specs.Option.{option_eq}
+use Rattle.std.specs.{Option.option_eq, Str.bytes_eq}
 use Rattle.kernel_types.specs.Equal.{addr_eq, cidr_eq, tag_eq}
 use Rattle.kernel_model.proofs.compared.RouteObjCompared.is_same.Goals as goal
 

@@ -1,7 +1,5 @@
-use Rattle.std.proofs.Common.{◌≡◌, true, rules}
-use Rattle.std.specs.Prelude.{find}
-use Rattle.std.specs.Option.{option_map}
-use Rattle.std.proofs.lemmas.Result.{IfOk-weaker}
+use Rattle.std.proofs.{Common.{◌≡◌, true, rules}, lemmas.Result.IfOk-weaker}
+use Rattle.std.specs.{Option.option_map, Prelude.find}
 use Rattle.kernel_types.specs.Apply.Calls.{has_link_of, is_same_addr}
 use Rattle.kernel_model.proofs.list_kernel.HostLists.addr_add.Goals as goal
 

@@ -1,8 +1,6 @@
-use Rattle.std.proofs.Common.{◌≡◌, true, rules}
+use Rattle.std.proofs.{Common.{◌≡◌, true, rules}, lemmas.Result.IfOk-weaker}
 use Rattle.std.specs.Option.{option_map}
-use Rattle.std.proofs.lemmas.Result.{IfOk-weaker}
-use Rattle.kernel_types.specs.Terms.{has_named_ns, link_at}
-use Rattle.kernel_types.specs.Apply.Calls.{has_master}
+use Rattle.kernel_types.specs.{Apply.Calls.has_master, Terms.{has_named_ns, link_at}}
 use Rattle.kernel_model.proofs.list_kernel.HostLists.macvlan_add.Goals as goal
 
 pub returns-clause-ok : goal.returns-clause-ok

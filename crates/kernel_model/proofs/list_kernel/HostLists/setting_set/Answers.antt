@@ -1,9 +1,6 @@
-use Rattle.std.proofs.Common.{◌≡◌, true, rules}
-use Rattle.std.specs.Prelude.{find}
-use Rattle.std.specs.Option.{option_map}
-use Rattle.std.proofs.lemmas.Result.{IfOk-weaker}
-use Rattle.kernel_types.specs.Terms.{has_named_ns}
-use Rattle.kernel_types.specs.Apply.Calls.{is_same_setting}
+use Rattle.std.proofs.{Common.{◌≡◌, true, rules}, lemmas.Result.IfOk-weaker}
+use Rattle.std.specs.{Option.option_map, Prelude.find}
+use Rattle.kernel_types.specs.{Apply.Calls.is_same_setting, Terms.has_named_ns}
 use Rattle.kernel_model.proofs.list_kernel.HostLists.setting_set.Goals as goal
 
 pub returns-clause-ok : goal.returns-clause-ok

@@ -1,6 +1,5 @@
 use Rattle.std.proofs.Common.{◌≡◌, take, not}
-use Rattle.std.specs.Prelude.{filter, ◌&&◌}
-use Rattle.std.specs.List.{list_any}
+use Rattle.std.specs.{List.list_any, Prelude.{filter, ◌&&◌}}
 use Rattle.kernel_model.proofs.list_kernel.leaving.drop_objects_on_leaving.Given as goal
 
 -- what lies on the leaving links so far is dropped

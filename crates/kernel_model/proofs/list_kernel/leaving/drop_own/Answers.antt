@@ -1,9 +1,7 @@
 use Rattle.std.proofs.Common.{not, sym, ap, ◌∙◌}
 use Rattle.std.specs.Prelude.{filter}
-use Rattle.kernel_types.specs.Terms.{is_own}
-use Rattle.kernel_types.specs.Apply.Calls.{goes_with}
-use Rattle.kernel_types.proofs.ListLemmas.{filter-without_first_of}
-use Rattle.kernel_types.proofs.Removal.{goes_with-itself}
+use Rattle.kernel_types.specs.{Apply.Calls.goes_with, Terms.is_own}
+use Rattle.kernel_types.proofs.{ListLemmas.filter-without_first_of, Removal.goes_with-itself}
 use Rattle.kernel_model.proofs.list_kernel.leaving.drop_own.Goals as goal
 
 pub returns-in-Some : goal.returns-in-Some

@@ -1,5 +1,4 @@
-use Rattle.std.proofs.Common.{arith, ap, get_or}
-use Rattle.std.proofs.lemmas.List.Edits.{map_over_more}
+use Rattle.std.proofs.{Common.{arith, ap, get_or}, lemmas.List.Edits.map_over_more}
 use Rattle.kernel_types.specs.Apply.Calls.{moved_last}
 use Rattle.kernel_model.proofs.list_kernel.pool.move_lasts.Goals as goal
 

@@ -1,9 +1,7 @@
 use Rattle.std.proofs.Common.{◌≡◌, ◌∙◌, ap, Some, None, false, true, rules}
-use Rattle.std.specs.Prelude.{find}
-use Rattle.std.specs.Option.{option_to_list}
+use Rattle.std.specs.{Option.option_to_list, Prelude.find}
 use Rattle.indexmap.specs.IndexMap.{get}
-use Rattle.kernel_tables.specs.Places.{at_first}
-use Rattle.kernel_tables.specs.Table.{has_key}
+use Rattle.kernel_tables.specs.{Places.at_first, Table.has_key}
 use Rattle.kernel_tables.proofs.Places.{found-noted, passed-noted, empty-noted}
 use Rattle.kernel_tables.proofs.table.Table.find.Goals.{in_default-via-in-Some+else-has_key, in_default-via-in_default}
 use Rattle.kernel_tables.proofs.table.Table.find.Goals as goal

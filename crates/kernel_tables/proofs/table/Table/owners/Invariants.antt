@@ -1,6 +1,5 @@
 use Rattle.std.proofs.Common.{◌≡◌, take}
-use Rattle.std.specs.Prelude.{filter}
-use Rattle.std.specs.List.{filter_map}
+use Rattle.std.specs.{List.filter_map, Prelude.filter}
 use Rattle.cni_addr.specs.Lists.{each_key_once}
 use Rattle.kernel_tables.specs.Places.{rows_of}
 use Rattle.kernel_tables.proofs.table.Table.owners.Given as goal

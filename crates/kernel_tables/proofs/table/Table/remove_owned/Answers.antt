@@ -1,12 +1,8 @@
 use Rattle.std.proofs.Common.{◌≡◌, ◌&&◌, ◌∙◌, [], ap, sym, None, Some, rules}
-use Rattle.std.specs.Prelude.{filter, not}
-use Rattle.std.specs.Option.{option_map_or}
-use Rattle.std.specs.VecDeque.{deque_items}
+use Rattle.std.specs.{Option.option_map_or, Prelude.{filter, not}, VecDeque.deque_items}
 use Rattle.indexmap.specs.IndexMap.{get}
-use Rattle.kernel_tables.specs.Places.{rows_of, passing, places_where}
-use Rattle.kernel_tables.specs.Table.{has_key}
-use Rattle.kernel_tables.proofs.Places.{Finds-retain, rows_of-retain}
-use Rattle.kernel_tables.proofs.Along.{emptied-along, both-along}
+use Rattle.kernel_tables.specs.{Places.{rows_of, passing, places_where}, Table.has_key}
+use Rattle.kernel_tables.proofs.{Along.{emptied-along, both-along}, Places.{Finds-retain, rows_of-retain}}
 use Rattle.kernel_tables.proofs.table.Table.remove_owned.Goals as goal
 
 pub invariant_of-self : goal.invariant_of-self

@@ -1,12 +1,11 @@
 use Rattle.std.proofs.Common.{◌≡◌, ◌∙◌, ap, sym, [], ◌∷◌, Some, None, false, true, set, rules}
-use Rattle.std.specs.Prelude.{find, filter, not}
-use Rattle.std.specs.Option.{option_to_list}
 use Rattle.std.proofs.lemmas.List.{get_or_default}
+use Rattle.std.specs.{Option.option_to_list, Prelude.{find, filter, not}}
 use Rattle.indexmap.specs.IndexMap.{get}
-use Rattle.kernel_tables.specs.Places.{passes, passing, places_where, row_at, rows_of}
-use Rattle.kernel_tables.specs.Table.{has_key}
+use Rattle.kernel_tables.specs.{Places.{passes, passing, places_where, row_at, rows_of}, Table.has_key}
 use Rattle.kernel_tables.proofs.Places.{Finds-clear, goes-alone, none-alone, not-passing}
-use Rattle.kernel_tables.proofs.table.Table.take.Goals.{in_default-via-in-Some+else-is_keyed_at, in_default-via-in_default}
+use Rattle.kernel_tables.proofs.table.Table.take.Goals.{in_default-via-in-Some+else-is_keyed_at}
+use Rattle.kernel_tables.proofs.table.Table.take.Goals.{in_default-via-in_default}
 use Rattle.kernel_tables.proofs.table.Table.take.Goals as goal
 
 pub invariant_of-self : goal.invariant_of-self

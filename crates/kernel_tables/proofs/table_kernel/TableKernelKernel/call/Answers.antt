@@ -1,16 +1,9 @@
-use Rattle.std.proofs.Common.{◌≡◌, ◌∙◌, ap, sym, subst}
+use Rattle.std.proofs.{Common.{◌≡◌, ◌∙◌, ap, sym, subst}, lemmas.Result.IfOk-weaker}
 use Rattle.std.specs.Prelude.{Result, Ok, Err, IfOk, OnErr}
-use Rattle.std.proofs.lemmas.Result.{IfOk-weaker}
 use Rattle.cni_addr.specs.declared.memory.NoMemory.{NoMemory}
-use Rattle.kernel_types.specs.Allowed.{IsAllowed}
-use Rattle.kernel_types.specs.Apply.{apply}
-use Rattle.kernel_types.specs.Replies.{is_fault}
-use Rattle.kernel_types.specs.Sound.{IsSound}
-use Rattle.kernel_types.proofs.EveryCall.{IsSound-apply}
-use Rattle.kernel_types.proofs.Replies.{IsReplyOf-apply}
-use Rattle.kernel_types.specs.declared.object.Host.{Host}
-use Rattle.kernel_types.specs.declared.call.Call.{Call}
-use Rattle.kernel_types.specs.declared.call.Reply.{Reply}
+use Rattle.kernel_types.specs.{Allowed.IsAllowed, Apply.apply, Replies.is_fault, Sound.IsSound, declared.call.Call.Call}
+use Rattle.kernel_types.specs.declared.{call.Reply.Reply, object.Host.Host}
+use Rattle.kernel_types.proofs.{EveryCall.IsSound-apply, Replies.IsReplyOf-apply}
 use Rattle.kernel_tables.proofs.table_kernel.TableKernelKernel.call.Goals as goal
 
 -- the tables before the call are what `self` means: it is sound, and the call may be made in it

@@ -1,8 +1,6 @@
 use Rattle.std.proofs.Common.{◌≡◌, ◌∙◌, ap, sym, None, false, rules}
-use Rattle.std.specs.Prelude.{find}
-use Rattle.std.specs.List.{list_any}
-use Rattle.kernel_types.specs.Terms.{is_at, is_host_link}
-use Rattle.kernel_types.specs.declared.object.Link.{Link}
+use Rattle.std.specs.{List.list_any, Prelude.find}
+use Rattle.kernel_types.specs.{Terms.{is_at, is_host_link}, declared.object.Link.Link}
 use Rattle.kernel_types.proofs.ListLemmas.{list_any-find_none}
 use Rattle.kernel_tables.proofs.Free.{any-host, link-alias_free, link-key_free}
 use Rattle.kernel_tables.proofs.tables.Tables.bridge_ensure.Goals as goal

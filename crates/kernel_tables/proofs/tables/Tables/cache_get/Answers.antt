@@ -1,7 +1,6 @@
 use Rattle.std.proofs.Common.{◌≡◌, ◌∙◌, Some, None, sym, refl}
 use Rattle.std.specs.Prelude.{find}
-use Rattle.kernel_types.specs.Terms.{is_own}
-use Rattle.kernel_types.specs.declared.object.CachedObj.{CachedObj}
+use Rattle.kernel_types.specs.{Terms.is_own, declared.object.CachedObj.CachedObj}
 use Rattle.kernel_tables.proofs.Owned.{find-own}
 use Rattle.kernel_tables.proofs.tables.Tables.cache_get.Goals as goal
 

@@ -1,12 +1,9 @@
 use Rattle.std.proofs.Common.{◌≡◌, ◌∙◌, ap, sym, refl, true, false}
-use Rattle.std.specs.Prelude.{is_some}
-use Rattle.std.specs.List.{list_any}
-use Rattle.kernel_types.specs.Terms.{is_own}
+use Rattle.std.specs.{List.list_any, Prelude.is_some}
+use Rattle.kernel_types.specs.{Terms.is_own, contracts.object.AttPartialEq.TheImpl.eq-value}
 use Rattle.kernel_types.specs.declared.object.CachedObj.{CachedObj}
-use Rattle.kernel_types.specs.contracts.object.AttPartialEq.TheImpl.{eq-value}
 use Rattle.kernel_tables.specs.Rows.{owner_named}
-use Rattle.kernel_tables.proofs.Added.{free-key}
-use Rattle.kernel_tables.proofs.Owned.{any-own, some-find, some-copied}
+use Rattle.kernel_tables.proofs.{Added.free-key, Owned.{any-own, some-find, some-copied}}
 use Rattle.kernel_tables.proofs.tables.Tables.cache_put.Goals as goal
 
 pub returns-then-is_some-clause-ok : goal.returns-then-is_some-clause-ok

@@ -1,11 +1,7 @@
 use Rattle.std.proofs.Common.{◌≡◌, ◌&&◌, ◌∙◌, ap, sym, not, true, false, None, Some, refl, rules}
 use Rattle.std.specs.Prelude.{filter, find}
-use Rattle.kernel_types.specs.Terms.{has_ns_in, is_at, is_own}
-use Rattle.kernel_types.specs.declared.call.Reply.TheVariants.{Gone}
-use Rattle.kernel_types.specs.declared.object.AddrObj.{AddrObj}
-use Rattle.kernel_types.specs.declared.object.Host.{Host}
-use Rattle.kernel_types.specs.declared.object.Link.{Link}
-use Rattle.kernel_types.specs.declared.object.RouteObj.{RouteObj}
+use Rattle.kernel_types.specs.{Terms.{has_ns_in, is_at, is_own}, declared.call.Reply.TheVariants.Gone}
+use Rattle.kernel_types.specs.declared.object.{AddrObj.AddrObj, Host.Host, Link.Link, RouteObj.RouteObj}
 use Rattle.kernel_types.specs.declared.object.Tag.TheVariants.{Own}
 use Rattle.kernel_tables.specs.Leaving.{has_end_at, is_peer}
 use Rattle.kernel_tables.proofs.Leaving.{drop_link-there, link-leaves, no-link-leaves, owned-leaves}

@@ -1,9 +1,6 @@
 use Rattle.std.proofs.Common.{◌≡◌, ◌&&◌, ◌∙◌, not, None, rules}
 use Rattle.std.specs.Prelude.{filter}
-use Rattle.kernel_types.specs.Terms.{is_own}
-use Rattle.kernel_types.specs.declared.object.AddrObj.{AddrObj}
-use Rattle.kernel_types.specs.declared.object.Link.{Link}
-use Rattle.kernel_types.specs.declared.object.RouteObj.{RouteObj}
+use Rattle.kernel_types.specs.{Terms.is_own, declared.object.{AddrObj.AddrObj, Link.Link, RouteObj.RouteObj}}
 use Rattle.kernel_tables.specs.Leaving.{has_end_at, is_peer}
 use Rattle.kernel_tables.proofs.Leaving.{gone-own, no-peer}
 use Rattle.kernel_tables.proofs.tables.Tables.drop_with_own.Goals as goal

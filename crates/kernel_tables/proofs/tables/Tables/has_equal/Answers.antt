@@ -1,12 +1,10 @@
 use Rattle.std.proofs.Common.{◌≡◌, ◌∙◌, ap, sym, rules}
-use Rattle.std.specs.Prelude.{is_some}
-use Rattle.std.specs.List.{list_any}
-use Rattle.kernel_types.specs.Apply.Calls.{has_object}
-use Rattle.kernel_types.specs.Equal.{addr_obj_eq, lease_eq, route_eq, rule_eq, setting_eq}
+use Rattle.std.specs.{List.list_any, Prelude.is_some}
+use Rattle.kernel_types.specs.{Apply.Calls.has_object, Equal.{addr_obj_eq, lease_eq, route_eq, rule_eq, setting_eq}}
 use Rattle.kernel_types.specs.declared.call.Object.TheVariants.{Address, Route, Rule, Setting, Lease}
 use Rattle.kernel_types.specs.declared.call.Probe.TheVariants.{Whole}
-use Rattle.kernel_tables.proofs.Owned.{some-find, some-copied}
-use Rattle.kernel_tables.proofs.Questions.{address-same, lease-same, route-same, rule-same, setting-same}
+use Rattle.kernel_tables.proofs.{Owned.{some-find, some-copied}, Questions.{address-same, lease-same, route-same}}
+use Rattle.kernel_tables.proofs.Questions.{rule-same, setting-same}
 use Rattle.kernel_tables.proofs.tables.Tables.has_equal.Goals as goal
 
 pub returns-in-Address : goal.returns-in-Address

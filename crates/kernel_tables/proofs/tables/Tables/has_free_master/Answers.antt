@@ -1,9 +1,6 @@
 use Rattle.std.proofs.Common.{◌≡◌, ◌∙◌, ap, sym, Some, None, false, rules}
-use Rattle.std.specs.Prelude.{find, not}
-use Rattle.std.specs.Option.{option_map_or}
-use Rattle.kernel_types.specs.Keys.{is_same_link}
-use Rattle.kernel_types.specs.Terms.{is_owned, is_host_link}
-use Rattle.kernel_types.specs.declared.object.Link.{Link}
+use Rattle.std.specs.{Option.option_map_or, Prelude.{find, not}}
+use Rattle.kernel_types.specs.{Keys.is_same_link, Terms.{is_owned, is_host_link}, declared.object.Link.Link}
 use Rattle.kernel_tables.proofs.Free.{any-both, host-alike}
 use Rattle.kernel_tables.proofs.tables.Tables.has_free_master.Goals as goal
 

@@ -1,7 +1,6 @@
 use Rattle.std.proofs.Common.{◌≡◌, ◌∙◌, ap, sym, rules}
 use Rattle.std.specs.List.{list_any}
-use Rattle.kernel_types.specs.Equal.{link_eq}
-use Rattle.kernel_types.specs.declared.object.Tag.TheVariants.{Own}
+use Rattle.kernel_types.specs.{Equal.link_eq, declared.object.Tag.TheVariants.Own}
 use Rattle.kernel_tables.proofs.Questions.{equal-owned}
 use Rattle.kernel_tables.proofs.tables.Tables.has_link.Goals as goal
 

@@ -1,8 +1,6 @@
 use Rattle.std.proofs.Common.{◌∙◌, ap}
-use Rattle.std.specs.Prelude.{is_some}
-use Rattle.std.specs.Str.{bytes_eq}
-use Rattle.kernel_types.specs.Terms.{has_named_ns}
-use Rattle.kernel_types.specs.declared.object.NsObj.{NsObj}
+use Rattle.std.specs.{Prelude.is_some, Str.bytes_eq}
+use Rattle.kernel_types.specs.{Terms.has_named_ns, declared.object.NsObj.NsObj}
 use Rattle.kernel_tables.proofs.Owned.{some-find, some-copied}
 use Rattle.kernel_tables.proofs.tables.Tables.has_named_ns.Goals as goal
 

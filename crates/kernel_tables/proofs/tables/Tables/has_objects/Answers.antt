@@ -1,13 +1,7 @@
 use Rattle.std.proofs.Common.{◌∙◌, refl}
 use Rattle.kernel_tables.proofs.Owned.{any-own}
-use Rattle.kernel_types.specs.declared.object.NsObj.{NsObj}
-use Rattle.kernel_types.specs.declared.object.Link.{Link}
-use Rattle.kernel_types.specs.declared.object.AddrObj.{AddrObj}
-use Rattle.kernel_types.specs.declared.object.RouteObj.{RouteObj}
-use Rattle.kernel_types.specs.declared.rule.Rule.{Rule}
-use Rattle.kernel_types.specs.declared.object.Setting.{Setting}
-use Rattle.kernel_types.specs.declared.object.Lease.{Lease}
-use Rattle.kernel_types.specs.declared.object.CachedObj.{CachedObj}
+use Rattle.kernel_types.specs.declared.object.{AddrObj.AddrObj, CachedObj.CachedObj, Lease.Lease, Link.Link}
+use Rattle.kernel_types.specs.declared.{object.{NsObj.NsObj, RouteObj.RouteObj, Setting.Setting}, rule.Rule.Rule}
 use Rattle.kernel_tables.proofs.tables.Tables.has_objects.Goals as goal
 
 pub returns-clause-found : goal.returns-clause-found

@@ -1,9 +1,6 @@
 use Rattle.std.proofs.Common.{◌≡◌, ◌∙◌, ap, sym, Some, None, false, rules}
-use Rattle.std.specs.Prelude.{find}
-use Rattle.std.specs.Option.{option_map_or}
-use Rattle.kernel_types.specs.Keys.{is_same_link}
-use Rattle.kernel_types.specs.Terms.{is_at, is_own}
-use Rattle.kernel_types.specs.declared.object.Link.{Link}
+use Rattle.std.specs.{Option.option_map_or, Prelude.find}
+use Rattle.kernel_types.specs.{Keys.is_same_link, Terms.{is_at, is_own}, declared.object.Link.Link}
 use Rattle.kernel_tables.proofs.Free.{any-both, place-alike}
 use Rattle.kernel_tables.proofs.tables.Tables.has_own_at.Goals as goal
 

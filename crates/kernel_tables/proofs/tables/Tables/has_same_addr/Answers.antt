@@ -1,12 +1,9 @@
 use Rattle.std.proofs.Common.{◌∙◌, ap}
-use Rattle.std.specs.Prelude.{is_some, ◌&&◌}
-use Rattle.std.specs.List.{list_any}
-use Rattle.std.specs.Str.{bytes_eq}
+use Rattle.std.specs.{List.list_any, Prelude.{is_some, ◌&&◌}, Str.bytes_eq}
 use Rattle.cni_addr.specs.Equal.{addr_eq}
 use Rattle.kernel_types.specs.Keys.{is_same_addr}
 use Rattle.kernel_tables.specs.declared.keys.AddrKey.{AddrKey}
-use Rattle.kernel_tables.proofs.Free.{any-addr}
-use Rattle.kernel_tables.proofs.Owned.{some-find, some-copied}
+use Rattle.kernel_tables.proofs.{Free.any-addr, Owned.{some-find, some-copied}}
 use Rattle.kernel_tables.proofs.tables.Tables.has_same_addr.Goals as goal
 
 pub returns : goal.returns

@@ -1,6 +1,5 @@
 use Rattle.std.proofs.Common.{◌∙◌, ap, rules}
-use Rattle.std.specs.Prelude.{is_some}
-use Rattle.std.specs.Str.{bytes_eq}
+use Rattle.std.specs.{Prelude.is_some, Str.bytes_eq}
 use Rattle.kernel_types.specs.declared.object.NsObj.{NsObj}
 use Rattle.kernel_tables.proofs.Owned.{some-find, some-copied}
 use Rattle.kernel_tables.proofs.tables.Tables.is_host_or_ns.Goals as goal

@@ -1,18 +1,12 @@
 use Rattle.std.proofs.Common.{◌≡◌, ◌∙◌, ap, sym, subst, refl, Some, None, rules}
-use Rattle.std.specs.Prelude.{find, is_some}
-use Rattle.std.specs.List.{list_any}
+use Rattle.std.specs.{List.list_any, Prelude.{find, is_some}}
 use Rattle.cni_addr.specs.Lists.{without_first}
+use Rattle.kernel_types.specs.{Keys.is_same_lease, Sound.HasDistinctKeys, Terms.is_own}
 use Rattle.kernel_types.specs.contracts.object.AttPartialEq.TheImpl.{eq-value as att_eq-value}
-use Rattle.kernel_types.specs.Keys.{is_same_lease}
-use Rattle.kernel_types.specs.Sound.{HasDistinctKeys}
-use Rattle.kernel_types.specs.Terms.{is_own}
 use Rattle.kernel_types.specs.declared.object.Lease.{Lease}
 use Rattle.kernel_types.proofs.ListLemmas.{list_any-find_none, without_first-none}
-use Rattle.kernel_tables.specs.Leased.{AreLeased}
-use Rattle.kernel_tables.specs.Rows.{owner_named}
-use Rattle.kernel_tables.specs.Table.{is_key}
-use Rattle.kernel_tables.proofs.Kept.{AreLeased-gone}
-use Rattle.kernel_tables.proofs.Owned.{any-own, first-own, some-find}
+use Rattle.kernel_tables.specs.{Leased.AreLeased, Rows.owner_named, Table.is_key}
+use Rattle.kernel_tables.proofs.{Kept.AreLeased-gone, Owned.{any-own, first-own, some-find}}
 use Rattle.kernel_tables.proofs.tables.Tables.lease_del.Goals.{in-Some, in_default}
 use Rattle.kernel_tables.proofs.tables.Tables.lease_del.Goals as goal
 

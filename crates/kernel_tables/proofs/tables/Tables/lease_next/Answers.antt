@@ -1,6 +1,5 @@
 use Rattle.std.proofs.Common.{◌≡◌, ◌∙◌, Some, sym, subst, false, rules}
-use Rattle.ip_pool.specs.NextAddress.{is_taken}
-use Rattle.ip_pool.specs.Pool.{pick_of}
+use Rattle.ip_pool.specs.{NextAddress.is_taken, Pool.pick_of}
 use Rattle.ip_pool.proofs.Choice.{picked-free}
 use Rattle.kernel_types.specs.Terms.{last_leased, leased_addresses}
 use Rattle.kernel_tables.proofs.tables.Tables.lease_next.Goals as goal

@@ -1,15 +1,10 @@
 use Rattle.std.proofs.Common.{◌≡◌, ◌&&◌, ◌∙◌, ap, sym, not, true, false, None, Some, refl, rules}
 use Rattle.std.specs.Prelude.{filter, find}
 use Rattle.cni_addr.specs.Lists.{without_first}
-use Rattle.kernel_types.specs.Terms.{is_own}
-use Rattle.kernel_types.specs.declared.call.Reply.TheVariants.{Gone}
-use Rattle.kernel_types.specs.declared.object.AddrObj.{AddrObj}
-use Rattle.kernel_types.specs.declared.object.Host.{Host}
-use Rattle.kernel_types.specs.declared.object.Link.{Link}
-use Rattle.kernel_types.specs.declared.object.RouteObj.{RouteObj}
+use Rattle.kernel_types.specs.{Terms.is_own, declared.{call.Reply.TheVariants.Gone, object.AddrObj.AddrObj}}
+use Rattle.kernel_types.specs.declared.object.{Host.Host, Link.Link, RouteObj.RouteObj}
 use Rattle.kernel_tables.specs.Leaving.{has_end_at, is_peer}
-use Rattle.kernel_tables.proofs.Owned.{find-own, first-own}
-use Rattle.kernel_tables.proofs.Leaving.{none-leaves, own-leaves}
+use Rattle.kernel_tables.proofs.{Leaving.{none-leaves, own-leaves}, Owned.{find-own, first-own}}
 use Rattle.kernel_tables.proofs.tables.Tables.link_del.Goals as goal
 
 pub returns-in-Some : goal.returns-in-Some

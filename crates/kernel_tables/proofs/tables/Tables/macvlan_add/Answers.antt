@@ -1,7 +1,6 @@
 use Rattle.std.proofs.Common.{◌≡◌, ap, None, false, rules}
 use Rattle.std.specs.List.{list_any}
-use Rattle.kernel_types.specs.Terms.{is_at}
-use Rattle.kernel_types.specs.declared.object.Host.{Host}
+use Rattle.kernel_types.specs.{Terms.is_at, declared.object.Host.Host}
 use Rattle.kernel_tables.proofs.Free.{link-alias_free, link-key_free, place-free}
 use Rattle.kernel_tables.proofs.tables.Tables.macvlan_add.Goals as goal
 

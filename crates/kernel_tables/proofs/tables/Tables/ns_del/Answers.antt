@@ -1,14 +1,7 @@
 use Rattle.std.proofs.Common.{◌≡◌, ◌∙◌, ap, not, true, rules}
-use Rattle.std.specs.Prelude.{filter}
-use Rattle.std.specs.Str.{bytes_eq}
-use Rattle.kernel_types.specs.Apply.Calls.{goes_with_ns}
-use Rattle.kernel_types.specs.Terms.{has_named_ns}
-use Rattle.kernel_types.specs.declared.call.Reply.TheVariants.{Done}
-use Rattle.kernel_types.specs.declared.object.AddrObj.{AddrObj}
-use Rattle.kernel_types.specs.declared.object.Host.{Host}
-use Rattle.kernel_types.specs.declared.object.Link.{Link}
-use Rattle.kernel_types.specs.declared.object.NsObj.{NsObj}
-use Rattle.kernel_types.specs.declared.object.RouteObj.{RouteObj}
+use Rattle.std.specs.{Prelude.filter, Str.bytes_eq}
+use Rattle.kernel_types.specs.{Apply.Calls.goes_with_ns, Terms.has_named_ns, declared.call.Reply.TheVariants.Done}
+use Rattle.kernel_types.specs.declared.object.{AddrObj.AddrObj, Host.Host, Link.Link, NsObj.NsObj, RouteObj.RouteObj}
 use Rattle.kernel_types.specs.declared.object.Setting.{Setting}
 use Rattle.kernel_tables.specs.Leaving.{place_goes_with_ns}
 use Rattle.kernel_tables.proofs.Namespaces.{ns-leaves}

@@ -2,7 +2,9 @@ use Rattle.std.proofs.Common.{◌∙◌, ap, sym}
 use Rattle.std.specs.Str.{bytes_eq}
 use Rattle.ip_pool.specs.NextAddress.{is_taken}
 use Rattle.kernel_types.specs.Terms.{addresses_in}
-use Rattle.kernel_tables.proofs.Opening.{addr-aliases, addr-keys, cached-keys, last-keys, lease-keys, link-aliases, link-keys, namespace-keys, once-none, route-aliases, route-keys, rule-keys, setting-aliases, setting-keys}
+use Rattle.kernel_tables.proofs.Opening.{addr-aliases, addr-keys, cached-keys, last-keys, lease-keys, link-aliases}
+use Rattle.kernel_tables.proofs.Opening.{link-keys, namespace-keys, once-none, route-aliases, route-keys, rule-keys}
+use Rattle.kernel_tables.proofs.Opening.{setting-aliases, setting-keys}
 use Rattle.kernel_tables.proofs.tables.Tables.of_host.Goals as goal
 
 pub of_rows-requires : goal.of_rows-requires

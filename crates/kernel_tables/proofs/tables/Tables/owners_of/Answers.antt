@@ -1,22 +1,17 @@
 use Rattle.std.proofs.Common.{◌≡◌, ◌∙◌, ap, sym, rules}
-use Rattle.std.specs.Prelude.{filter}
-use Rattle.std.specs.List.{filter_map}
-use Rattle.std.specs.Str.{bytes_eq}
+use Rattle.std.specs.{List.filter_map, Prelude.filter, Str.bytes_eq}
 use Rattle.cni_addr.specs.Lists.{each_key_once}
+use Rattle.kernel_types.specs.{Apply.Calls.{owners_of, tags_of}, Equal.att_eq, Terms.owner_in}
 use Rattle.kernel_types.specs.contracts.object.AttPartialEq.TheImpl.{eq-value as att_eq-value}
-use Rattle.kernel_types.specs.Apply.Calls.{owners_of, tags_of}
-use Rattle.kernel_types.specs.Equal.{att_eq}
-use Rattle.kernel_types.specs.Terms.{owner_in}
+use Rattle.kernel_types.specs.declared.{call.Reply.TheVariants.Owners, object.{CachedObj.CachedObj, Lease.Lease}}
+use Rattle.kernel_types.specs.declared.{object.{Link.Link, Setting.Setting}, rule.Rule.Rule}
 use Rattle.kernel_types.specs.declared.call.Kind.TheVariants as kinds
-use Rattle.kernel_types.specs.declared.call.Reply.TheVariants.{Owners}
-use Rattle.kernel_types.specs.declared.object.CachedObj.{CachedObj}
-use Rattle.kernel_types.specs.declared.object.Lease.{Lease}
-use Rattle.kernel_types.specs.declared.object.Link.{Link}
-use Rattle.kernel_types.specs.declared.object.Setting.{Setting}
-use Rattle.kernel_types.specs.declared.rule.Rule.{Rule}
 use Rattle.kernel_tables.specs.Rows.{owner_named}
-use Rattle.kernel_tables.proofs.Questions.{owners-once}
-use Rattle.kernel_tables.proofs.tables.Tables.owners_of.Goals.{in-Links+in_ok-owners-in-Links, in-Rules+in_ok-owners-in-Rules, in-Settings+in_ok-owners-in-Settings, in-Leases+in_ok-owners-in-Leases, in-Cached+in_ok-owners-in-Cached}
+use Rattle.kernel_tables.proofs.{Questions.owners-once, tables.Tables.owners_of.Goals.in-Links+in_ok-owners-in-Links}
+use Rattle.kernel_tables.proofs.tables.Tables.owners_of.Goals.{in-Rules+in_ok-owners-in-Rules}
+use Rattle.kernel_tables.proofs.tables.Tables.owners_of.Goals.{in-Settings+in_ok-owners-in-Settings}
+use Rattle.kernel_tables.proofs.tables.Tables.owners_of.Goals.{in-Leases+in_ok-owners-in-Leases}
+use Rattle.kernel_tables.proofs.tables.Tables.owners_of.Goals.{in-Cached+in_ok-owners-in-Cached}
 use Rattle.kernel_tables.proofs.tables.Tables.owners_of.Goals as goal
 
 pub returns : goal.returns

@@ -1,11 +1,8 @@
 use Rattle.std.proofs.Common.{◌≡◌, ◌∙◌, Some, ap, sym, refl, true, false}
-use Rattle.std.specs.Prelude.{is_some}
-use Rattle.std.specs.List.{list_any}
-use Rattle.kernel_types.specs.Keys.{is_same_rule}
+use Rattle.std.specs.{List.list_any, Prelude.is_some}
+use Rattle.kernel_types.specs.{Keys.is_same_rule, contracts.rule.RulePartialEq.TheImpl.eq-value}
 use Rattle.kernel_types.specs.declared.rule.Rule.{Rule}
-use Rattle.kernel_types.specs.contracts.rule.RulePartialEq.TheImpl.{eq-value}
-use Rattle.kernel_tables.proofs.Added.{free-key, any-same_rule}
-use Rattle.kernel_tables.proofs.Owned.{some-find, some-copied}
+use Rattle.kernel_tables.proofs.{Added.{free-key, any-same_rule}, Owned.{some-find, some-copied}}
 use Rattle.kernel_tables.proofs.tables.Tables.rule_append.Goals as goal
 
 pub returns-then-is_some-clause-ok : goal.returns-then-is_some-clause-ok

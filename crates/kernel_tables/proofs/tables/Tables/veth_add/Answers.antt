@@ -1,10 +1,9 @@
 use Rattle.std.proofs.Common.{◌≡◌, ◌∙◌, ◌++◌, ◌∷◌, [], ap, None, true, false, rules}
 use Rattle.std.specs.List.{list_any}
-use Rattle.kernel_types.specs.Apply.Calls.{master_is_bridge_or_none}
-use Rattle.kernel_types.specs.Terms.{has_named_ns, is_at, is_host_ns}
-use Rattle.kernel_types.specs.declared.object.Host.{Host}
-use Rattle.kernel_types.specs.declared.object.Link.{Link}
-use Rattle.kernel_tables.proofs.Free.{first-back, link-alias_free, link-key_free, nothing-at, place-free, second-free, veth-added}
+use Rattle.kernel_types.specs.{Apply.Calls.master_is_bridge_or_none, Terms.{has_named_ns, is_at, is_host_ns}}
+use Rattle.kernel_types.specs.declared.object.{Host.Host, Link.Link}
+use Rattle.kernel_tables.proofs.Free.{first-back, link-alias_free, link-key_free, nothing-at, place-free, second-free}
+use Rattle.kernel_tables.proofs.Free.{veth-added}
 use Rattle.kernel_tables.proofs.tables.Tables.veth_add.Goals as goal
 
 pub push-requires-clause-key : goal.push-requires-clause-key

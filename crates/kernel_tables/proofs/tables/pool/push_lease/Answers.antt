@@ -1,9 +1,7 @@
 use Rattle.std.proofs.Common.{◌≡◌, ◌∙◌, ap, sym, true, false}
-use Rattle.std.specs.Prelude.{is_some}
-use Rattle.std.specs.List.{list_any}
+use Rattle.std.specs.{List.list_any, Prelude.is_some}
 use Rattle.kernel_types.specs.Terms.{is_of_pool}
-use Rattle.kernel_tables.proofs.NewLease.{any-pool}
-use Rattle.kernel_tables.proofs.Owned.{some-copied, some-find}
+use Rattle.kernel_tables.proofs.{NewLease.any-pool, Owned.{some-copied, some-find}}
 use Rattle.kernel_tables.proofs.tables.pool.push_lease.Goals as goal
 
 pub lease_first-requires-clause-none : goal.lease_first-requires-clause-none

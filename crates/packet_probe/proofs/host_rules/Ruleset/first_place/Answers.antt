@@ -1,15 +1,10 @@
-use Rattle.std.proofs.Common.{◌≡◌, ℕ, [], ◌∷◌, List, length, sym, ap, ◌∙◌, subst, arith}
-use Rattle.std.specs.Prelude.{min}
-use Rattle.std.specs.List.{position_or_len}
-use Rattle.std.specs.Map.Iter.{deref}
-use Rattle.std.proofs.lemmas.Map.Iter.{rest_all, rest_more}
+use Rattle.std.proofs.{Common.{◌≡◌, ℕ, [], ◌∷◌, List, length, sym, ap, ◌∙◌, subst, arith}, lemmas.Map.Iter.rest_all}
+use Rattle.std.proofs.lemmas.Map.Iter.{rest_more}
+use Rattle.std.specs.{List.position_or_len, Map.Iter.deref, Prelude.min}
 use Rattle.kernel_types.specs.declared.rule.Rule.{Rule}
-use Rattle.packet_probe.proofs.Filing.{is_found, place-found, place-next}
-use Rattle.packet_probe.proofs.Places.{last-least, place-bound, place-none, take-least}
-use Rattle.packet_probe.specs.Fate.{matches_in}
-use Rattle.packet_probe.specs.Filed.{is_found_at}
-use Rattle.packet_probe.specs.Value.{IsPacket}
-use Rattle.packet_probe.specs.declared.kinds.Kind.{Kind}
+use Rattle.packet_probe.proofs.{Filing.{is_found, place-found, place-next}, Places.{last-least, place-bound}}
+use Rattle.packet_probe.proofs.Places.{place-none, take-least}
+use Rattle.packet_probe.specs.{Fate.matches_in, Filed.is_found_at, Value.IsPacket, declared.kinds.Kind.Kind}
 use Rattle.packet_probe.proofs.host_rules.Ruleset.first_place.Goals as goal
 
 pub loop-kind-init : goal.loop-kind-init

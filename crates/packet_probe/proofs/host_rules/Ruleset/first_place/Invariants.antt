@@ -1,6 +1,5 @@
 use Rattle.std.proofs.Common.{◌≡◌, ◌≤◌, length}
-use Rattle.std.specs.Prelude.{min}
-use Rattle.std.specs.List.{position_or_len}
+use Rattle.std.specs.{List.position_or_len, Prelude.min}
 use Rattle.packet_probe.proofs.Filing.{is_found}
 use Rattle.packet_probe.proofs.host_rules.Ruleset.first_place.Given as goal
 

@@ -1,12 +1,8 @@
 use Rattle.std.proofs.Common.{List, length, sym, ap, ap₂, ◌∙◌}
-use Rattle.std.specs.Prelude.{unwrap_or}
-use Rattle.std.specs.BTreeMap.{get}
-use Rattle.std.specs.List.{position_or_len}
+use Rattle.std.specs.{BTreeMap.get, List.position_or_len, Prelude.unwrap_or}
 use Rattle.kernel_types.specs.declared.rule.Rule.{Rule}
 use Rattle.packet_probe.proofs.Filing.{place-admitted, place-refused}
-use Rattle.packet_probe.specs.Filed.{is_found_at}
-use Rattle.packet_probe.specs.Kinds.{key_cmp}
-use Rattle.packet_probe.specs.declared.kinds.Values.{Values}
+use Rattle.packet_probe.specs.{Filed.is_found_at, Kinds.key_cmp, declared.kinds.Values.Values}
 use Rattle.packet_probe.proofs.host_rules.Ruleset.place_of_kind.Goals as goal
 
 pub returns-then-admits : goal.returns-then-admits

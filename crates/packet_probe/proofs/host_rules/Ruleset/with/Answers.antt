@@ -1,10 +1,7 @@
 use Rattle.std.proofs.Common.{◌≡◌, ℕ, true, cond, length, sym, ap, ap₂, ◌∙◌, subst}
-use Rattle.std.specs.BTreeMap.{get}
-use Rattle.std.specs.BTreeSet.{contains}
-use Rattle.std.specs.Ordering.{is_eq}
+use Rattle.std.specs.{BTreeMap.get, BTreeSet.contains, Ordering.is_eq}
 use Rattle.packet_probe.proofs.Filing.{filed-more}
-use Rattle.packet_probe.specs.Filed.{IsFiled, first_with}
-use Rattle.packet_probe.specs.Kinds.{Key, key_cmp, key_of, kind_cmp, kind_of}
+use Rattle.packet_probe.specs.{Filed.{IsFiled, first_with}, Kinds.{Key, key_cmp, key_of, kind_cmp, kind_of}}
 use Rattle.packet_probe.specs.declared.kinds.Kind.{Kind}
 use Rattle.packet_probe.proofs.host_rules.Ruleset.with.Goals as goal
 

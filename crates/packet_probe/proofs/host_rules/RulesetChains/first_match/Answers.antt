@@ -1,6 +1,5 @@
-use Rattle.std.proofs.Common.{sym, ap₂, ◌∙◌}
+use Rattle.std.proofs.{Common.{sym, ap₂, ◌∙◌}, lemmas.List.Folds.find_at}
 use Rattle.std.specs.List.{slice_get}
-use Rattle.std.proofs.lemmas.List.Folds.{find_at}
 use Rattle.packet_probe.proofs.Places.{option_copied-item}
 use Rattle.packet_probe.specs.Fate.{matches_in}
 use Rattle.packet_probe.proofs.host_rules.RulesetChains.first_match.Goals as goal

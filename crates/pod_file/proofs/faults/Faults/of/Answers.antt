@@ -1,8 +1,7 @@
-use Rattle.std.proofs.Common.{sym, subst}
-use Rattle.std.proofs.lemmas.List.{take_more}
+use Rattle.std.proofs.{Common.{sym, subst}, lemmas.List.take_more}
 use Rattle.pod_file.proofs.FaultFacts.{AreBefore, before-more, before-zero}
-use Rattle.pod_file.proofs.faults.Faults.of.Goals as goal
 use Rattle.pod_file.proofs.faults.Faults.of.Goals.{then-number-gt0+in_ok-insert, else-number-gt0}
+use Rattle.pod_file.proofs.faults.Faults.of.Goals as goal
 
 pub loop-number-preserved : goal.loop-number-preserved
 loop-number-preserved c =

@@ -1,6 +1,5 @@
 use Rattle.std.proofs.Common.{◌≡◌, true, cond, ap, sym, subst, ◌∙◌}
-use Rattle.std.specs.BTreeSet.{contains}
-use Rattle.std.specs.Ordering.{is_eq}
+use Rattle.std.specs.{BTreeSet.contains, Ordering.is_eq}
 use Rattle.pod_file.proofs.IndexFacts.{HasOneMore, names-more}
 use Rattle.pod_file.specs.Indexed.{HasNames, name_cmp}
 use Rattle.pod_file.proofs.indexed.Names.with.Goals as goal

@@ -1,6 +1,5 @@
 use Rattle.std.proofs.Common.{◌≡◌, ℕ, List, true, cond, ap₂, sym, subst, ◌∙◌}
-use Rattle.std.specs.BTreeSet.{contains}
-use Rattle.std.specs.Ordering.{is_eq}
+use Rattle.std.specs.{BTreeSet.contains, Ordering.is_eq}
 use Rattle.pod_file.proofs.IndexFacts.{HasOneMore, places-more}
 use Rattle.pod_file.specs.Indexed.{HasPlaces, link_place_cmp}
 use Rattle.pod_file.proofs.indexed.PlacedLinks.with.Goals as goal

@@ -1,7 +1,6 @@
 use Rattle.std.proofs.Common.{length, subst, ap, arith}
 use Rattle.pod_workers.proofs.RoundDone.{extends_refl}
-use Rattle.pod_workers.specs.Extends.{Extends}
-use Rattle.pod_workers.specs.World.{World}
+use Rattle.pod_workers.specs.{Extends.Extends, World.World}
 use Rattle.pod_threads.proofs.shared.Shared.new.Goals as goal
 
 pub invariant_of-result : goal.invariant_of-result

@@ -1,7 +1,6 @@
 use Rattle.std.proofs.Common.{◌≡◌, length, arith}
 use Rattle.pod_workers.specs.Plans.{commands_of}
-use Rattle.pod_workers.proofs.FileOrder.{file_order_begun}
-use Rattle.pod_workers.proofs.KeptAtBegin.{begun-here, begun-is}
+use Rattle.pod_workers.proofs.{FileOrder.file_order_begun, KeptAtBegin.{begun-here, begun-is}}
 use Rattle.pod_workers.proofs.WellFormedPlans.{few_commands}
 use Rattle.pod_workers.proofs.book.Book.begin.Goals as goal
 

@@ -1,8 +1,6 @@
 use Rattle.std.proofs.Common.{◌≡◌, ℕ, ◌+◌}
-use Rattle.pod_workers.specs.Extends.{Extends}
-use Rattle.pod_workers.specs.Order.{EarlierAreAnswered, IsInFileOrder}
-use Rattle.pod_workers.proofs.Appended.{AppendsOwn}
-use Rattle.pod_workers.proofs.StepsLeft.{steps_left}
+use Rattle.pod_workers.specs.{Extends.Extends, Order.{EarlierAreAnswered, IsInFileOrder}}
+use Rattle.pod_workers.proofs.{Appended.AppendsOwn, StepsLeft.steps_left}
 use Rattle.pod_workers.proofs.book.Book.finish.Given as goal
 
 abbrev pub invariant-loop-self : goal.invariant-loop-self

@@ -1,8 +1,7 @@
 use Rattle.std.proofs.Common.{◌≡◌, ◌+◌, ◌≤◌, length, subst, arith}
 use Rattle.pod_file.specs.Rounds.{file_limit}
 use Rattle.pod_workers.specs.Slots.{AreNumbersOf}
-use Rattle.pod_workers.proofs.RoundDone.{numbers-of, round-fits, round-there}
-use Rattle.pod_workers.proofs.book.Book.numbers.Given.{Over}
+use Rattle.pod_workers.proofs.{RoundDone.{numbers-of, round-fits, round-there}, book.Book.numbers.Given.Over}
 use Rattle.pod_workers.proofs.book.Book.numbers.Goals.{After-self}
 use Rattle.pod_workers.proofs.book.Book.numbers.Goals as goal
 

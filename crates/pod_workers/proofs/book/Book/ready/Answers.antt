@@ -1,9 +1,7 @@
 use Rattle.std.proofs.Common.{◌≡◌, ◌+◌, ◌-◌, sym, ◌∙◌, ap, arith}
 use Rattle.std.specs.Option.{option_copied}
-use Rattle.pod_workers.specs.Index.{may_step_by}
-use Rattle.pod_workers.specs.World.{at_number}
-use Rattle.pod_workers.proofs.Elements.{numbered}
-use Rattle.pod_workers.proofs.ReadyByIndex.{place-answered, ready-nowhere, ready-tells}
+use Rattle.pod_workers.specs.{Index.may_step_by, World.at_number}
+use Rattle.pod_workers.proofs.{Elements.numbered, ReadyByIndex.{place-answered, ready-nowhere, ready-tells}}
 use Rattle.pod_workers.proofs.book.Book.ready.Goals as goal
 
 pub overflow_sub-n : goal.overflow_sub-n
