@@ -7,9 +7,9 @@ Each file that a document names in backticks is there. Each `crate::item` is an 
 edit that must be refused, and each bare name in the documents on the code stands in some crate. docs/GUARANTEES.md
 names every law. The picture of docs/ARCHITECTURE.md has every crate above those that it stands on, and the page names
 every file that tells plugins apart. Each definition of docs/DEFINITIONS.md stands in the file beside it. docs/INDEX.md
-is what index.py finds. examples/first is as the data of crates/cnitool, and examples/plugins as the pages of the
-plugins. Some command of the documents makes each picture. With a program, the documents' sessions and examples are run
-by examples.py.
+is what index.py finds, and definitions and proofs begin with their imports as imports.py lays them out. examples/first
+is as the data of crates/cnitool, and examples/plugins as the pages of the plugins. Some command of the documents makes
+each picture. With a program, the documents' sessions and examples are run by examples.py.
 """
 
 import os
@@ -20,6 +20,7 @@ import sys
 sys.dont_write_bytecode = True
 
 import examples
+import imports
 import index
 from program import TOP, program_of
 from written import is_other
@@ -175,6 +176,8 @@ def main():
     wrong += examples.wrong_pictures({it: it.read_text(encoding="utf-8") for it in documents()})
     if is_other(index.INDEX, index.index()):
         wrong.append("docs/INDEX.md isn't what tests/docs/index.py writes")
+    others = [path for path, text in imports.heads().items() if is_other(path, text)]
+    wrong += [f"{path.relative_to(TOP)}: its imports aren't as tests/docs/imports.py writes them" for path in others]
     for it in wrong:
         print(f"docs: {it}")
     print(f"docs: {len(wrong)} wrong")

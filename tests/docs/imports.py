@@ -1,18 +1,26 @@
 #!/usr/bin/env python3
 """The heads of definitions and proofs: imports in one group a crate and side, in lines of at most 120 columns.
 
-    tests/docs/imports.py [--write] [FILE ..]
+    imports.py          writes each head so
+    imports.py --check  fails where one has another form
 
-Without --write it names each file whose head has another form, and ends with 1 where there is one. Without a FILE it
-looks at every .antt file of crates/.
+check.py looks at it too. A group that is wider than a line goes on in another; a module that gets another name has a
+line of its own, as the prover asks.
 """
 
 import pathlib
 import re
 import sys
 
+sys.dont_write_bytecode = True
+sys.path.insert(0, str(pathlib.Path(__file__).resolve().parent.parent))
+
+from program import TOP
+from written import settle
+
 WIDTH = 120
-ROOT = pathlib.Path(__file__).resolve().parents[2]
+# the modules before a name, and the name: an operator may hold a full stop
+PATH = re.compile(r"((?:[A-Za-z_+][\w+-]*\.)*)(.+)")
 
 
 def statements(lines):
@@ -29,6 +37,16 @@ def statements(lines):
         found.append(text[4:])
         at += 1
     return begin, found, at
+
+
+def statements_in(text):
+    """Each `use` statement of a library's names, in definitions, proofs and code."""
+    for found in re.finditer(r"\buse (?=Rattle\.)", text):
+        depth, end = 0, found.end()
+        while end < len(text) and (depth or text[end] not in ";\n"):
+            depth += (text[end] == "{") - (text[end] == "}")
+            end += 1
+        yield " ".join(text[found.end() : end].split())
 
 
 def split_group(text):
@@ -53,38 +71,25 @@ def names(statement):
 
 
 def path_of(name):
-    """The parts of a path. A name with its `as` is one part, and so is an operator."""
-    path, _, other = name.partition(" as ")
-    parts = re.split(r"\.(?=[^.\s])", path) if "◌" not in path and "[" not in path else split_operator(path)
-    if other:
-        parts[-1] += f" as {other}"
-    return parts
+    """The modules of a path, and the name, which is one part with its `as`."""
+    modules, last = PATH.fullmatch(name).groups()
+    return [*modules.split(".")[:-1], last]
 
 
-def split_operator(path):
-    """Of a path that ends in an operator: modules begin with a letter and end at a full stop."""
-    found = re.match(r"((?:[A-Za-z_+][\w+-]*\.)*)(.+)$", path)
-    return [*found[1].split(".")[:-1], found[2]]
-
-
-class Node:
-    def __init__(self):
-        self.children = {}
-
-
-def tree_of(all_names):
-    root = Node()
-    for name in all_names:
-        node = root
+def tree_of(some):
+    """Names by their modules: of each part of a path what stands below it."""
+    tree = {}
+    for name in some:
+        below = tree
         for part in path_of(name):
-            node = node.children.setdefault(part, Node())
-    return root
+            below = below.setdefault(part, {})
+    return tree
 
 
-def text_of(node):
-    """What stands below a node, in braces where it is more than one path."""
-    below = [part + (f".{text_of(child)}" if child.children else "") for part, child in node.children.items()]
-    return below[0] if len(below) == 1 else "{" + ", ".join(below) + "}"
+def text_of(tree):
+    """The paths of a tree, in braces where there is more than one."""
+    paths = [f"{part}.{text_of(below)}" if below else part for part, below in tree.items()]
+    return paths[0] if len(paths) == 1 else "{" + ", ".join(paths) + "}"
 
 
 def side_of(parts):
@@ -134,20 +139,14 @@ def mended(text):
     return "\n".join(lines[:begin] + head_of(found) + lines[end:])
 
 
+def heads():
+    """Each file of definitions or proofs with the text that it should have."""
+    paths = sorted((TOP / "crates").glob("*/*/**/*.antt"))
+    return {path: mended(path.read_text(encoding="utf-8")) for path in paths}
+
+
 def main():
-    write = "--write" in sys.argv
-    files = [pathlib.Path(it) for it in sys.argv[1:] if it != "--write"] or sorted(ROOT.glob("crates/*/*/**/*.antt"))
-    wrong = 0
-    for file in files:
-        text = file.read_text()
-        if mended(text) == text:
-            continue
-        wrong += 1
-        if write:
-            file.write_text(mended(text))
-        else:
-            print(f"{file.relative_to(ROOT)}: imports aren't in one group a crate and side, in lines of {WIDTH} columns")
-    return 1 if wrong and not write else 0
+    return settle(heads())
 
 
 if __name__ == "__main__":

@@ -17,6 +17,7 @@ import sys
 sys.dont_write_bytecode = True
 sys.path.insert(0, str(pathlib.Path(__file__).resolve().parent.parent))
 
+import imports
 from program import TOP
 from written import settle
 
@@ -31,9 +32,9 @@ NEXT_ITEM = re.compile(r"^(?=\S)", re.MULTILINE)
 # a module that the root of a crate keeps for itself, and the names that it hands on from its modules
 KEPT = re.compile(r"^mod (\w+);", re.MULTILINE)
 HANDED_ON = re.compile(r"^pub use (?:\w+::)+(\w+|{[^}]*});", re.MULTILINE)
-# names of a module, and a module by another name
-USE_NAMES = re.compile(r"use Rattle\.(\w+)\.specs\.([\w.]+?)\.{([^}]*)}", re.DOTALL)
-USE_MODULE = re.compile(r"use Rattle\.(\w+)\.specs\.([\w.]+?) as (\w+)")
+# a name of a module, and a module by another name
+OF_MODULE = re.compile(r"Rattle\.(\w+)\.specs\.([\w.]+)\.([^.\s]+)")
+MODULE_AS = re.compile(r"Rattle\.(\w+)\.specs\.([\w.]+?) as (\w+)")
 MODEL = re.compile(r"^impl\b[^{\n]*\b(?:Model|PartialEq) for (\w+).*?^}", re.MULTILINE | re.DOTALL)
 FUNCTION = re.compile(r"^ *(pub )?(?:const )?fn ", re.MULTILINE)
 CLAUSE = re.compile(r"\b(?:requires|ensures)(?: \w+)? {|\bghost (?!use\b|invariant\b)[\w ]+ = {")
@@ -123,11 +124,13 @@ class Names:
     """What the names of a file mean: definitions, modules by another name, and declared types."""
 
     def __init__(self, text):
-        self.modules = {}
-        self.types = set()
-        self.short = {short: (crate, module) for crate, module, short in USE_MODULE.findall(text)}
-        for crate, module, names in USE_NAMES.findall(text):
-            for name in re.split(r"[,\s]+", names.strip(", \n")):
+        self.modules, self.types, self.short = {}, set(), {}
+        for statement in imports.statements_in(text):
+            if not statement.endswith("}"):
+                self.short |= {short: (crate, module) for crate, module, short in MODULE_AS.findall(statement)}
+                continue
+            for found in filter(None, map(OF_MODULE.match, imports.names(statement))):
+                crate, module, name = found.groups()
                 self.modules[name] = (crate, module)
                 if module.startswith("declared."):
                     self.types.add((crate, name))
