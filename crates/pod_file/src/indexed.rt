@@ -1,11 +1,11 @@
 //! What is read of an opening so far, in order and by key, so that no name and no place is sought by going through all.
+//! Whoever writes a file chooses its names, and could choose many of one hash, so they are looked up by their order.
 
 ghost use Rattle.std.specs.Prelude.{◌≡◌, [], ◌∷◌, ◌++◌, IfOk};
 ghost use Rattle.std.specs.List.{list_any};
 ghost use Rattle.std.specs.Str.{bytes_eq};
 ghost use Rattle.kernel_types.specs.Terms.{is_at};
 
-use crate::name::Name;
 use cni_addr::{Duplicate, Items, NoMemory, Text};
 use kernel_types::Link;
 use std::alloc::Global;
@@ -16,7 +16,7 @@ use std::marker::Model;
 #[derive(Drop)]
 pub(crate) struct Names {
     in_order: Items<Text>,
-    keys: BTreeSet<Name>,
+    keys: BTreeSet<Text>,
 }
 
 impl Model for Names {
@@ -43,7 +43,7 @@ impl Names {
     }
 
     /// Whether the name is one of these.
-    pub(crate) fn contains(&self, name: &Name) -> bool
+    pub(crate) fn contains(&self, name: &Text) -> bool
         ensures { result ≡ list_any (bytes_eq name.now) self.now }
     {
         self.keys.contains(name)
@@ -57,7 +57,7 @@ impl Names {
             mut in_order,
             mut keys,
         } = self;
-        keys.insert(Name::of(name.copy()?))?;
+        keys.insert(name.copy()?)?;
         in_order.push(name)?;
         Ok(Names { in_order, keys })
     }
@@ -73,7 +73,7 @@ impl Names {
 #[derive(Drop)]
 pub(crate) struct PlacedLinks {
     in_order: Items<Link>,
-    places: BTreeSet<(Name, Name)>,
+    places: BTreeSet<(Text, Text)>,
 }
 
 impl Model for PlacedLinks {
@@ -101,7 +101,7 @@ impl PlacedLinks {
     }
 
     /// Whether a link stands at this place, a namespace and a name.
-    pub(crate) fn has_at(&self, place: &(Name, Name)) -> bool
+    pub(crate) fn has_at(&self, place: &(Text, Text)) -> bool
         ensures { result ≡ list_any (is_at place.now.0 place.now.1) self.now }
     {
         self.places.contains(place)
@@ -115,7 +115,7 @@ impl PlacedLinks {
             mut in_order,
             mut places,
         } = self;
-        places.insert((Name::of(link.ns.copy()?), Name::of(link.name.copy()?)))?;
+        places.insert((link.ns.copy()?, link.name.copy()?))?;
         in_order.push(link)?;
         Ok(PlacedLinks { in_order, places })
     }

@@ -28,7 +28,6 @@ mod indexed;
 pub mod laws;
 mod links;
 mod mappings;
-mod name;
 mod opening;
 mod place;
 pub mod pods;

@@ -10,7 +10,6 @@ ghost use Rattle.pod_file.specs.declared.error.PodError.TheVariants as refusal;
 
 use crate::error::{PodError, wrong, wrong_member};
 use crate::indexed::{Names, PlacedLinks};
-use crate::name::Name;
 use cni_addr::{Items, Text};
 use cni_json::{Field, Value, field_list, field_str, field_u64, need_object};
 use kernel_types::terms::is_host_ns;
@@ -73,10 +72,10 @@ fn link(
     let kind = kind(alloc, index, member)?;
     let ns = ns(alloc, names, index, member)?;
     let mtu = mtu(alloc, index, member)?;
-    let place = (Name::of(ns), Name::of(name));
+    let place = (ns, name);
     not_taken(alloc, before, index, &place)?;
     let (ns, name) = place;
-    Ok(outside_link(ns.into_text(), name.into_text(), kind, mtu))
+    Ok(outside_link(ns, name, kind, mtu))
 }
 
 /// A link that was made outside.
@@ -131,16 +130,16 @@ fn ns(alloc: Global, names: &Names, index: usize, member: &Value) -> Result<Text
 fn place_named(alloc: Global, names: &Names, index: usize, ns: &str) -> Result<Text, PodError>
     ensures { Gives is_out_of_memory result (defined.place_named names.now index ns.now) }
 {
-    let ns = Name::of(Text::of(alloc, ns)?);
+    let ns = Text::of(alloc, ns)?;
     if is_place(names, &ns) {
-        Ok(ns.into_text())
+        Ok(ns)
     } else {
         Err(wrong_link(alloc, index))
     }
 }
 
 /// Whether the text is the host's, or the name of one of the namespaces.
-fn is_place(names: &Names, ns: &Name) -> bool
+fn is_place(names: &Names, ns: &Text) -> bool
     ensures { result ≡ defined.is_place names.now ns.now }
 {
     is_host_ns(ns.as_str()) || names.contains(ns)
@@ -162,7 +161,7 @@ fn not_taken(
     alloc: Global,
     before: &PlacedLinks,
     index: usize,
-    place: &(Name, Name),
+    place: &(Text, Text),
 ) -> Result<(), PodError>
     ensures { Gives is_out_of_memory result (defined.not_taken before.now index place.now.0 place.now.1) }
 {

@@ -11,7 +11,6 @@ ghost use Rattle.pod_file.specs.declared.error.PodError.TheVariants as refusal;
 use crate::error::{PodError, wrong, wrong_member};
 use crate::indexed::Names;
 use crate::links::links;
-use crate::name::Name;
 use cni_addr::{Items, Text};
 use cni_json::{Field, Value, field_list, member};
 use kernel_types::terms::is_host_ns;
@@ -103,16 +102,16 @@ fn name_or_refused(
 ) -> Result<Text, PodError>
     ensures { Gives is_out_of_memory result (defined.name_or_refused before.now index name.now) }
 {
-    let name = Name::of(Text::of(alloc, name)?);
+    let name = Text::of(alloc, name)?;
     if is_refused_name(before, &name) {
         Err(wrong_namespace(alloc, index))
     } else {
-        Ok(name.into_text())
+        Ok(name)
     }
 }
 
 /// Whether the name is the host's, or one that another namespace has.
-fn is_refused_name(before: &Names, name: &Name) -> bool
+fn is_refused_name(before: &Names, name: &Text) -> bool
     ensures { result ≡ defined.is_refused_name before.now name.now }
 {
     is_host_ns(name.as_str()) || before.contains(name)

@@ -10,6 +10,6 @@ invariant_of-result c =
     let after = contains name_cmp c.insert.new.self in
     let grown : HasOneMore name_cmp before after c.args.name =
     λ q. c.in_ok-insert.ensures.updates.0 q
-    ∙ ap (λ key. cond (is_eq (name_cmp key q)) true (before q)) (c.of.ensures ∙ c.in_ok-copy.ensures) in
+    ∙ ap (λ key. cond (is_eq (name_cmp key q)) true (before q)) c.in_ok-copy.ensures in
     subst (HasNames after) (sym c.in_ok-push.ensures.ok)
     (names-more before after c.self.inside.in_order c.args.name c.self.invariant grown)
