@@ -3,19 +3,26 @@ use Rattle.std.proofs.Common.{◌≡◌, ℕ, Bool, true, false, ap, List, [], �
 use Rattle.std.specs.{List.list_any, Prelude.{find, ◌&&◌}, Str.bytes_eq}
 use Rattle.cni_addr.specs.Lists.{distinct}
 use Rattle.kernel_types.proofs.{ListLemmas.{list_any-find_none, list_any-none}, Removal.same_place}
-use Rattle.kernel_types.specs.{Equal.{tag_eq, rule_eq}, Keys.{is_same_addr, is_same_link, is_same_route, is_same_rule}}
+use Rattle.kernel_types.specs.Equal.{tag_eq, rule_eq}
+pub use Rattle.kernel_types.specs.Keys.{addr_key, route_key, setting_key}
+use Rattle.kernel_types.specs.Keys.{is_same_addr, is_same_link, is_same_route, is_same_rule}
 use Rattle.kernel_types.specs.Terms.{is_at, has_link_in, is_link_of}
+use Rattle.kernel_types.specs.declared.object.AddrObj.{AddrObj}
+use Rattle.kernel_types.specs.declared.object.Link.{Link}
+use Rattle.kernel_types.specs.declared.object.RouteObj.{RouteObj}
+use Rattle.kernel_types.specs.declared.object.Setting.{Setting}
+use Rattle.kernel_types.specs.declared.object.Tag.{Tag}
+use Rattle.kernel_types.specs.declared.object.Tag.TheVariants.{Outside, Base, Own}
+use Rattle.kernel_types.specs.declared.rule.Rule.{Rule}
+use Rattle.kernel_types.specs.contracts.object.TagPartialEq.TheImpl.{eq-value as tag-value}
+use Rattle.kernel_types.specs.contracts.rule.RulePartialEq.TheImpl.{eq-value as rule-value}
 use Rattle.kernel_types.specs.contracts.object.AddrObjPartialEq.TheImpl.{eq-value as addr_obj-value}
 use Rattle.kernel_types.specs.contracts.object.RouteObjPartialEq.TheImpl.{eq-value as route-value}
 use Rattle.kernel_types.specs.contracts.object.SettingPartialEq.TheImpl.{eq-value as setting-value}
-use Rattle.kernel_types.specs.contracts.object.TagPartialEq.TheImpl.{eq-value as tag-value}
-use Rattle.kernel_types.specs.contracts.rule.RulePartialEq.TheImpl.{eq-value as rule-value}
-use Rattle.kernel_types.specs.declared.object.{AddrObj.AddrObj, Link.Link, RouteObj.RouteObj, Setting.Setting, Tag.Tag}
-use Rattle.kernel_types.specs.declared.{object.Tag.TheVariants.{Outside, Base, Own}, rule.Rule.Rule}
-use Rattle.kernel_tables.specs.{Table.has_key, contracts.keys.AddrKeyPartialEq.TheImpl.eq-value as addr_key-value}
-use Rattle.kernel_tables.specs.contracts.keys.RouteKeyPartialEq.TheImpl.{eq-value as route_key-value}
-use Rattle.kernel_tables.specs.contracts.keys.SettingKeyPartialEq.TheImpl.{eq-value as setting_key-value}
-use Rattle.kernel_tables.specs.declared.keys.{AddrKey.AddrKey, RouteKey.RouteKey, SettingKey.SettingKey}
+use Rattle.kernel_types.specs.contracts.keys.AddrKeyPartialEq.TheImpl.{eq-value as addr_key-value}
+use Rattle.kernel_types.specs.contracts.keys.RouteKeyPartialEq.TheImpl.{eq-value as route_key-value}
+use Rattle.kernel_types.specs.contracts.keys.SettingKeyPartialEq.TheImpl.{eq-value as setting_key-value}
+use Rattle.kernel_tables.specs.Table.{has_key}
 use Rattle.kernel_tables.proofs.Owned.{att-same}
 
 some-inj : {K : Type 0} (a b : K) → Some a ≡ Some b → a ≡ b
@@ -34,15 +41,6 @@ pub free-alias : {K T : Type 0} (eq : K → K → Bool) (same : T → T → Bool
 free-alias eq same key_of keyed rows sought own none at alias is =
     ap (λ a. list_any (has_key same (λ x. Some x) a) rows) (sym (some-inj own alias is))
     ∙ list_any-none (λ x. same x own) (λ x. eq (key_of x) sought) (λ x h. ap (eq (key_of x)) (sym at) ∙ keyed x own h) rows none
-
-abbrev pub addr_key : AddrObj → AddrKey
-addr_key a = record { ns = a.ns; link = a.link; addr = a.cidr.addr }
-
-abbrev pub route_key : RouteObj → RouteKey
-route_key r = record { ns = r.ns; dst = r.dst; link = r.link }
-
-abbrev pub setting_key : Setting → SettingKey
-setting_key s = record { ns = s.ns; key = s.key }
 
 -- an object that has the key is the same by it
 addr-at : (a b : AddrObj) → addr_key-value.it (addr_key a) (addr_key b) ≡ is_same_addr b a

@@ -7,17 +7,17 @@ use Rattle.cni_addr.specs.{Equal.addr_eq, Lists.distinct, declared.mac.Mac.Mac}
 use Rattle.kernel_types.specs.Apply.Calls.{is_own_at, link_set_of, master_is_bridge_or_none, set_link, veth_add_of}
 use Rattle.kernel_types.specs.{Apply.Calls.with_values, Keys.{is_same_addr, is_same_link, is_same_setting}, Terms.is_at}
 use Rattle.kernel_types.specs.Terms.{is_host_link, is_host_ns, has_named_ns, is_own, link_at}
+use Rattle.kernel_types.specs.contracts.keys.AddrKeyPartialEq.TheImpl.{eq-value as addr_key_eq-value}
+use Rattle.kernel_types.specs.contracts.keys.SettingKeyPartialEq.TheImpl.{eq-value as setting_key_eq-value}
 use Rattle.kernel_types.specs.contracts.object.AddrObjPartialEq.TheImpl.{eq-value as addr_obj_eq-value}
 use Rattle.kernel_types.specs.contracts.object.LinkKeyPartialEq.TheImpl.{eq-value as link_key_eq-value}
 use Rattle.kernel_types.specs.contracts.object.SettingPartialEq.TheImpl.{eq-value as setting_eq-value}
-use Rattle.kernel_types.specs.declared.{call.Reply.{Reply, TheVariants.Done}, object.{AddrObj.AddrObj, Att.Att}}
-use Rattle.kernel_types.specs.declared.object.{Host.Host, Link.Link, LinkKey.LinkKey, Setting.Setting, Tag.Tag}
+use Rattle.kernel_types.specs.declared.{call.Reply.{Reply, TheVariants.Done}, keys.AddrKey.AddrKey}
+use Rattle.kernel_types.specs.declared.{keys.SettingKey.SettingKey, object.{AddrObj.AddrObj, Att.Att, Host.Host}}
+use Rattle.kernel_types.specs.declared.object.{Link.Link, LinkKey.LinkKey, Setting.Setting, Tag.Tag}
 use Rattle.kernel_types.proofs.{Cases.{host_ns-eq, other_host}, ListLemmas.{list_any-append_none, list_any-find_none}}
 use Rattle.kernel_types.proofs.ListLemmas.{list_any-none}
 use Rattle.kernel_tables.specs.{Rows.host_name, Table.{is_key, has_key}}
-use Rattle.kernel_tables.specs.contracts.keys.AddrKeyPartialEq.TheImpl.{eq-value as addr_key_eq-value}
-use Rattle.kernel_tables.specs.contracts.keys.SettingKeyPartialEq.TheImpl.{eq-value as setting_key_eq-value}
-use Rattle.kernel_tables.specs.declared.keys.{AddrKey.AddrKey, SettingKey.SettingKey}
 
 -- ---- at most one element passes
 

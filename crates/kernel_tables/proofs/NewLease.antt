@@ -6,12 +6,11 @@ use Rattle.cni_addr.specs.{Equal.addr_eq, declared.address.Addr.Addr}
 use Rattle.indexmap.specs.IndexMap.{IndexMap}
 use Rattle.ip_pool.specs.{AddrSets.AddrSet, NextAddress.is_taken}
 use Rattle.kernel_types.specs.Terms.{is_lease_at, is_of_pool}
+use Rattle.kernel_types.specs.contracts.keys.PoolKeyPartialEq.TheImpl.{eq-value as pool_eq-value}
 use Rattle.kernel_types.specs.contracts.object.LeasePartialEq.TheImpl.{eq-value as lease_eq-value}
-use Rattle.kernel_types.specs.declared.object.{Last.Last, Lease.Lease}
+use Rattle.kernel_types.specs.declared.{keys.PoolKey.PoolKey, object.{Last.Last, Lease.Lease}}
 use Rattle.kernel_types.proofs.ListLemmas.{filter-push_dropped, list_any-none}
 use Rattle.kernel_tables.specs.{Leased.{kept_for, AreLeased}, Table.has_key}
-use Rattle.kernel_tables.specs.contracts.keys.PoolKeyPartialEq.TheImpl.{eq-value as pool_eq-value}
-use Rattle.kernel_tables.specs.declared.keys.PoolKey.{PoolKey}
 use Rattle.kernel_tables.proofs.Kept.{taken-leased}
 
 -- a lease whose address none has is not there

@@ -11,6 +11,10 @@ use Rattle.ip_pool.specs.{AddrSets.AddrSet, NextAddress.is_taken}
 use Rattle.kernel_types.specs.{Equal.tag_eq, Keys.{is_same_addr, is_same_cached, is_same_last, is_same_lease}}
 use Rattle.kernel_types.specs.Keys.{is_same_link, is_same_namespace, is_same_route, is_same_rule, is_same_setting}
 use Rattle.kernel_types.specs.{Sound.HasDistinctKeys, Terms.{addresses_in, is_host_ns}}
+use Rattle.kernel_types.specs.contracts.keys.AddrKeyPartialEq.TheImpl.{eq-value as addr_key-value}
+use Rattle.kernel_types.specs.contracts.keys.PoolKeyPartialEq.TheImpl.{eq-value as pool-value}
+use Rattle.kernel_types.specs.contracts.keys.RouteKeyPartialEq.TheImpl.{eq-value as route_key-value}
+use Rattle.kernel_types.specs.contracts.keys.SettingKeyPartialEq.TheImpl.{eq-value as setting_key-value}
 use Rattle.kernel_types.specs.contracts.object.AddrObjPartialEq.TheImpl.{eq-value as addr_obj-value}
 use Rattle.kernel_types.specs.contracts.object.AttPartialEq.TheImpl.{eq-value as att-value}
 use Rattle.kernel_types.specs.contracts.object.LeasePartialEq.TheImpl.{eq-value as lease-value}
@@ -18,17 +22,13 @@ use Rattle.kernel_types.specs.contracts.object.LinkKeyPartialEq.TheImpl.{eq-valu
 use Rattle.kernel_types.specs.contracts.object.RouteObjPartialEq.TheImpl.{eq-value as route-value}
 use Rattle.kernel_types.specs.contracts.object.SettingPartialEq.TheImpl.{eq-value as setting-value}
 use Rattle.kernel_types.specs.contracts.rule.RulePartialEq.TheImpl.{eq-value as rule-value}
-use Rattle.kernel_types.specs.declared.object.{AddrObj.AddrObj, CachedObj.CachedObj, Last.Last, Lease.Lease, Link.Link}
-use Rattle.kernel_types.specs.declared.object.{LinkKey.LinkKey, NsObj.NsObj, RouteObj.RouteObj, Setting.Setting}
-use Rattle.kernel_types.specs.declared.{object.Tag.{Tag, TheVariants.{Outside, Base, Own}}, rule.Rule.Rule}
+use Rattle.kernel_types.specs.declared.{keys.PoolKey.PoolKey, object.{AddrObj.AddrObj, CachedObj.CachedObj, Last.Last}}
+use Rattle.kernel_types.specs.declared.object.{Lease.Lease, Link.Link, LinkKey.LinkKey, NsObj.NsObj, RouteObj.RouteObj}
+use Rattle.kernel_types.specs.declared.object.{Setting.Setting, Tag.{Tag, TheVariants.{Outside, Base, Own}}}
+use Rattle.kernel_types.specs.declared.rule.Rule.{Rule}
 use Rattle.kernel_types.proofs.ListLemmas.{list_any-none}
 use Rattle.kernel_tables.specs.{Leased.{kept_for, AreLeased}, Rows.{host_name, owner_named}, Table.{is_key, has_key}}
 use Rattle.kernel_tables.specs.Table.{has_same_key, HasEachKeyOnce}
-use Rattle.kernel_tables.specs.contracts.keys.AddrKeyPartialEq.TheImpl.{eq-value as addr_key-value}
-use Rattle.kernel_tables.specs.contracts.keys.PoolKeyPartialEq.TheImpl.{eq-value as pool-value}
-use Rattle.kernel_tables.specs.contracts.keys.RouteKeyPartialEq.TheImpl.{eq-value as route_key-value}
-use Rattle.kernel_tables.specs.contracts.keys.SettingKeyPartialEq.TheImpl.{eq-value as setting_key-value}
-use Rattle.kernel_tables.specs.declared.keys.PoolKey.{PoolKey}
 use Rattle.kernel_tables.proofs.Added.{addr_key, addr-keyed, route_key, route-keyed, rule-same, setting_key}
 use Rattle.kernel_tables.proofs.{Added.setting-keyed, Free.{host-alike, host-named}, Kept.taken-leased}
 use Rattle.kernel_tables.proofs.{NewLease.{AreLeased-new, same-pool}, Owned.att-same}

@@ -18,7 +18,6 @@
 #![tactic(auto)]
 
 mod indexes;
-mod keys;
 mod leased;
 mod row;
 mod rows;

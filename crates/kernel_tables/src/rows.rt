@@ -9,12 +9,12 @@ ghost use Rattle.kernel_tables.specs.Table.{is_key};
 ghost use Rattle.std.specs.Option.{option_copied};
 ghost use Rattle.kernel_tables.specs.Rows.{owner_named};
 
-use crate::keys::{AddrKey, PoolKey, RouteKey, SettingKey};
 use crate::row::Row;
 use cni_addr::{Duplicate, NoMemory, RefCounted, Text};
 use kernel_types::terms::is_host_ns;
 use kernel_types::{
-    AddrObj, Att, CachedObj, Last, Lease, Link, LinkKey, NsObj, RouteObj, Rule, Setting, Tag,
+    AddrKey, AddrObj, Att, CachedObj, Last, Lease, Link, LinkKey, NsObj, PoolKey, RouteKey,
+    RouteObj, Rule, Setting, SettingKey, Tag,
 };
 
 /// The attachment that a tag names.

@@ -16,13 +16,13 @@ mod pool;
 mod questions;
 mod shared;
 
-use crate::keys::{AddrKey, PoolKey, RouteKey, SettingKey};
 use crate::table::Table;
 use cni_addr::{NoMemory, RefCounted, Text};
 use indexmap::IndexMap;
 use ip_pool::AddrRuns;
 use kernel_types::{
-    AddrObj, Att, CachedObj, Host, Last, Lease, Link, LinkKey, NsObj, RouteObj, Rule, Setting,
+    AddrKey, AddrObj, Att, CachedObj, Host, Last, Lease, Link, LinkKey, NsObj, PoolKey, RouteKey,
+    RouteObj, Rule, Setting, SettingKey,
 };
 use std::alloc::Global;
 use std::marker::Model;

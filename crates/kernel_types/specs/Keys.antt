@@ -1,8 +1,18 @@
 -- When an object has the key of a new one: a list has at most one object of each key.
 use Rattle.std.specs.{Prelude.{Bool, ◌&&◌}, Str.bytes_eq}
 use Rattle.kernel_types.specs.{Equal.{addr_eq, cidr_eq, rule_eq, tag_eq}, Terms.{is_at, is_lease_at, is_of_pool}}
+use Rattle.kernel_types.specs.declared.keys.{AddrKey.AddrKey, RouteKey.RouteKey, SettingKey.SettingKey}
 use Rattle.kernel_types.specs.declared.object.{AddrObj.AddrObj, CachedObj.CachedObj, Last.Last, Lease.Lease, Link.Link}
 use Rattle.kernel_types.specs.declared.{object.{NsObj.NsObj, RouteObj.RouteObj, Setting.Setting}, rule.Rule.Rule}
+
+abbrev pub addr_key : AddrObj → AddrKey
+addr_key a = record { ns = a.ns; link = a.link; addr = a.cidr.addr }
+
+abbrev pub route_key : RouteObj → RouteKey
+route_key r = record { ns = r.ns; dst = r.dst; link = r.link }
+
+abbrev pub setting_key : Setting → SettingKey
+setting_key s = record { ns = s.ns; key = s.key }
 
 abbrev pub is_same_namespace : NsObj → NsObj → Bool
 is_same_namespace new n = bytes_eq n.name new.name

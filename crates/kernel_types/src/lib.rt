@@ -28,6 +28,7 @@
 
 pub mod call;
 mod call_copy;
+pub mod keys;
 pub mod laws;
 pub mod link_values;
 pub mod names;
@@ -39,6 +40,7 @@ pub mod terms;
 pub mod texts;
 
 pub use call::{Call, Change, Given, Kind, Object, Probe, Reply};
+pub use keys::{AddrKey, PoolKey, RouteKey, SettingKey};
 pub use link_values::{LinkValues, set_links};
 pub use names::{NamedAtt, host_name_bytes};
 pub use object::{

@@ -8,7 +8,7 @@ use cni_addr::{Addr, Cidr, Duplicate, Items, Mac, MacvlanMode, NoMemory, RefCoun
 use cni_result::Cached;
 
 /// Whose an object is.
-#[derive(PartialEq, Eq, Hash, Drop)]
+#[derive(PartialEq, Eq, PartialOrd, Ord, Hash, Drop)]
 pub enum Tag {
     /// It was there before, or was made from outside: nobody here takes it away.
     Outside,
@@ -62,7 +62,7 @@ pub enum LinkKind {
 
 /// An attachment of a container to a network (CNI specification, section 2: what the runtime names by `CNI_CONTAINERID`
 /// and `CNI_IFNAME`, with the name of the network).
-#[derive(PartialEq, Eq, Hash, Drop)]
+#[derive(PartialEq, Eq, PartialOrd, Ord, Hash, Drop)]
 pub struct Att {
     pub network: Text,
     pub container: Text,
@@ -81,7 +81,7 @@ impl Duplicate for Att {
 }
 
 /// The place of a link; the host's own namespace has the empty name.
-#[derive(PartialEq, Eq, Hash, Drop)]
+#[derive(PartialEq, Eq, PartialOrd, Ord, Hash, Drop)]
 pub struct LinkKey {
     pub ns: Text,
     pub name: Text,

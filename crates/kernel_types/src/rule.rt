@@ -4,6 +4,7 @@
 use crate::object::Tag;
 use cni_addr::{Addr, Cidr, Duplicate, NoMemory};
 use cni_result::Proto;
+use std::cmp::Ordering;
 
 /// A table of packet rules.
 #[derive(Clone, Copy, Hash)]
@@ -32,6 +33,39 @@ impl Eq for Table {
     ghost use Rattle.kernel_types.specs.Codes.{table_code};
 
     ghost laws = { on_equiv table_code nat_eq_equiv };
+}
+
+impl PartialOrd for Table {
+    ghost use Rattle.std.specs.Ordering.{as_partial_cmp, nat_cmp, on};
+    ghost use Rattle.std.specs.Cmp.{nat_cmp_total, on_total, po, unsigned_ties};
+    ghost use Rattle.kernel_types.specs.Codes.{table_code};
+
+    ghost partial_cmp = { as_partial_cmp (on table_code nat_cmp) };
+
+    ghost laws = { po (on_total table_code nat_cmp_total) (λ x y. unsigned_ties (table_code x) (table_code y)) };
+
+    fn partial_cmp(&self, other: &Table) -> Option<Ordering> {
+        Some(self.cmp(other))
+    }
+}
+
+impl Ord for Table {
+    ghost use Rattle.std.specs.Prelude.{refl};
+    ghost use Rattle.std.specs.Ordering.{nat_cmp, on};
+    ghost use Rattle.std.specs.Cmp.{nat_cmp_total, on_total, unsigned_ties};
+    ghost use Rattle.kernel_types.specs.Codes.{table_code};
+
+    ghost cmp = { on table_code nat_cmp };
+
+    ghost total = { on_total table_code nat_cmp_total };
+
+    ghost matches_partial_cmp = { λ x y. refl };
+
+    ghost matches_eq = { λ x y. unsigned_ties (table_code x) (table_code y) };
+
+    fn cmp(&self, other: &Table) -> Ordering {
+        (*self as u8).cmp(&(*other as u8))
+    }
 }
 
 /// A chain of packet rules of both families. The plugins' chains of one purpose are one here.
@@ -67,8 +101,41 @@ impl Eq for Chain {
     ghost laws = { on_equiv chain_code nat_eq_equiv };
 }
 
+impl PartialOrd for Chain {
+    ghost use Rattle.std.specs.Ordering.{as_partial_cmp, nat_cmp, on};
+    ghost use Rattle.std.specs.Cmp.{nat_cmp_total, on_total, po, unsigned_ties};
+    ghost use Rattle.kernel_types.specs.Codes.{chain_code};
+
+    ghost partial_cmp = { as_partial_cmp (on chain_code nat_cmp) };
+
+    ghost laws = { po (on_total chain_code nat_cmp_total) (λ x y. unsigned_ties (chain_code x) (chain_code y)) };
+
+    fn partial_cmp(&self, other: &Chain) -> Option<Ordering> {
+        Some(self.cmp(other))
+    }
+}
+
+impl Ord for Chain {
+    ghost use Rattle.std.specs.Prelude.{refl};
+    ghost use Rattle.std.specs.Ordering.{nat_cmp, on};
+    ghost use Rattle.std.specs.Cmp.{nat_cmp_total, on_total, unsigned_ties};
+    ghost use Rattle.kernel_types.specs.Codes.{chain_code};
+
+    ghost cmp = { on chain_code nat_cmp };
+
+    ghost total = { on_total chain_code nat_cmp_total };
+
+    ghost matches_partial_cmp = { λ x y. refl };
+
+    ghost matches_eq = { λ x y. unsigned_ties (chain_code x) (chain_code y) };
+
+    fn cmp(&self, other: &Chain) -> Ordering {
+        (*self as u8).cmp(&(*other as u8))
+    }
+}
+
 /// What becomes of a packet that a rule fits.
-#[derive(Clone, Copy, PartialEq, Eq, Hash)]
+#[derive(Clone, Copy, PartialEq, Eq, PartialOrd, Ord, Hash)]
 pub enum Target {
     /// It passes.
     Accept,
@@ -79,7 +146,7 @@ pub enum Target {
 }
 
 /// A rule of a chain. It is of one family: that of its networks, and without these that of the address in its target.
-#[derive(PartialEq, Eq, Hash, Drop)]
+#[derive(PartialEq, Eq, PartialOrd, Ord, Hash, Drop)]
 pub struct Rule {
     pub table: Table,
     pub chain: Chain,

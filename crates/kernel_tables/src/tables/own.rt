@@ -6,9 +6,10 @@ ghost use Rattle.kernel_types.specs.Sound.{IsSound};
 ghost use Rattle.kernel_types.specs.Terms.{has_named_ns};
 
 use super::Tables;
-use crate::keys::{AddrKey, RouteKey, SettingKey};
 use cni_addr::{Duplicate, NoMemory, RefCounted, Text};
-use kernel_types::{AddrObj, LinkKey, Reply, RouteObj, Rule, Setting, Tag};
+use kernel_types::{
+    AddrKey, AddrObj, LinkKey, Reply, RouteKey, RouteObj, Rule, Setting, SettingKey, Tag,
+};
 use std::alloc::Global;
 
 impl Tables {

@@ -9,9 +9,8 @@ ghost use Rattle.kernel_types.specs.Sound.{IsSound};
 ghost use Rattle.kernel_types.specs.Terms.{has_host_bridge, is_host_link};
 
 use super::Tables;
-use crate::keys::{AddrKey, SettingKey};
 use cni_addr::{Cidr, Duplicate, Family, NoMemory, Text};
-use kernel_types::{AddrObj, Link, Reply, Setting};
+use kernel_types::{AddrKey, AddrObj, Link, Reply, Setting, SettingKey};
 use std::alloc::Global;
 
 impl Tables {

@@ -1,8 +1,7 @@
 use Rattle.std.proofs.Common.{◌∙◌, ap}
 use Rattle.std.specs.{List.list_any, Prelude.{is_some, ◌&&◌}, Str.bytes_eq}
 use Rattle.cni_addr.specs.Equal.{addr_eq}
-use Rattle.kernel_types.specs.Keys.{is_same_addr}
-use Rattle.kernel_tables.specs.declared.keys.AddrKey.{AddrKey}
+use Rattle.kernel_types.specs.{Keys.is_same_addr, declared.keys.AddrKey.AddrKey}
 use Rattle.kernel_tables.proofs.{Free.any-addr, Owned.{some-find, some-copied}}
 use Rattle.kernel_tables.proofs.tables.Tables.has_same_addr.Goals as goal
 

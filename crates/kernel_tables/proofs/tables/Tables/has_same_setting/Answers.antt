@@ -1,7 +1,6 @@
 use Rattle.std.proofs.Common.{◌∙◌, ap}
 use Rattle.std.specs.{List.list_any, Prelude.{is_some, ◌&&◌}, Str.bytes_eq}
-use Rattle.kernel_types.specs.Keys.{is_same_setting}
-use Rattle.kernel_tables.specs.declared.keys.SettingKey.{SettingKey}
+use Rattle.kernel_types.specs.{Keys.is_same_setting, declared.keys.SettingKey.SettingKey}
 use Rattle.kernel_tables.proofs.{Free.any-setting, Owned.{some-find, some-copied}}
 use Rattle.kernel_tables.proofs.tables.Tables.has_same_setting.Goals as goal
 

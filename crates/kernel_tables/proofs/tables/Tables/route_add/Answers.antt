@@ -1,9 +1,9 @@
 use Rattle.std.proofs.Common.{◌≡◌, ◌∙◌, Some, None, ap, sym, refl, true}
 use Rattle.std.specs.Prelude.{find}
 use Rattle.kernel_types.specs.{Apply.Calls.has_link_of, Keys.is_same_route}
+use Rattle.kernel_types.specs.contracts.keys.RouteKeyPartialEq.TheImpl.{eq-value}
 use Rattle.kernel_types.specs.contracts.object.RouteObjPartialEq.TheImpl.{eq-value as same-value}
 use Rattle.kernel_types.proofs.ListLemmas.{list_any-find_none}
-use Rattle.kernel_tables.specs.contracts.keys.RouteKeyPartialEq.TheImpl.{eq-value}
 use Rattle.kernel_tables.proofs.Added.{route_key, route-keyed, find-same_route, free-key, free-alias}
 use Rattle.kernel_tables.proofs.tables.Tables.route_add.Goals as goal
 

@@ -1,9 +1,9 @@
 use Rattle.std.proofs.Common.{◌≡◌, ◌∙◌, Some, None, ap, sym, refl, true, false}
 use Rattle.std.specs.Prelude.{find}
 use Rattle.kernel_types.specs.{Keys.is_same_setting, Terms.has_named_ns}
+use Rattle.kernel_types.specs.contracts.keys.SettingKeyPartialEq.TheImpl.{eq-value}
 use Rattle.kernel_types.specs.contracts.object.SettingPartialEq.TheImpl.{eq-value as same-value}
 use Rattle.kernel_types.proofs.ListLemmas.{list_any-find_none}
-use Rattle.kernel_tables.specs.contracts.keys.SettingKeyPartialEq.TheImpl.{eq-value}
 use Rattle.kernel_tables.proofs.Added.{setting_key, setting-keyed, free-key, free-alias}
 use Rattle.kernel_tables.proofs.tables.Tables.setting_set.Goals as goal
 

@@ -1,8 +1,8 @@
 use Rattle.std.proofs.Common.{◌≡◌, ◌∙◌, ap, [], ◌∷◌, ◌++◌, true, arith, rules}
 use Rattle.std.specs.Prelude.{filter, not}
+use Rattle.kernel_types.specs.contracts.keys.PoolKeyPartialEq.TheImpl.{eq-value as pool_eq-value}
 use Rattle.kernel_types.specs.declared.object.Last.{Last}
 use Rattle.kernel_types.proofs.Leases.{pool_itself}
-use Rattle.kernel_tables.specs.contracts.keys.PoolKeyPartialEq.TheImpl.{eq-value as pool_eq-value}
 use Rattle.kernel_tables.proofs.NewLease.{absent-lease, any-pool, on_err-with, pushed-out, same-pool}
 use Rattle.kernel_tables.proofs.tables.pool.lease_first.Goals as goal
 
