@@ -45,7 +45,8 @@ fit-gateways conf att netns given =
     (passes-once p gateway_call is_same_gateway (gateway_of conf.bridge) (λ g. fits-gateway ks links (Some conf.bridge) att netns conf.bridge (nat_list_eq_equiv.refl conf.bridge) (gateway_of conf.bridge g).cidr) given)
     (fit-forward ks links (Some conf.bridge) att netns given))
 
-bridge-after : (conf : BridgeConf) (att : Att) (netns : List ℕ) (given : List Given) → AreCallsAfter (bridge_plugin conf) att netns given
+bridge-after : (conf : BridgeConf) (att : Att) (netns : List ℕ) (given : List Given)
+    → AreCallsAfter (bridge_plugin conf) att netns given
 bridge-after conf att netns given =
     let ks = bridge_kinds_of conf in
     let links = veth_links att netns (Some conf.bridge) conf.mtu (hairpin conf.mode) in
@@ -70,7 +71,8 @@ length-added : (b : Bool) (routes : List RouteEntry) (o : Option IpEntry) → le
 length-added b routes None = omega arith
 length-added b routes (Some ip) = length-one _ _
 
-length-bridge_routes : (b : Bool) (routes : List RouteEntry) (ips : List IpEntry) → length (bridge_routes b routes ips) ≤ length routes + 2
+length-bridge_routes : (b : Bool) (routes : List RouteEntry) (ips : List IpEntry)
+    → length (bridge_routes b routes ips) ≤ length routes + 2
 length-bridge_routes b routes ips =
     let v4 = length-added b routes (first_of_family V4 ips) in
     let v6 = length-added b routes (first_of_family V6 ips) in

@@ -29,7 +29,8 @@ ptp-before conf att netns = record {
 
 -- ---- after them
 
-fit-pair : (conf : PtpConf) (att : Att) (netns : List ℕ) (g : Given) → list_all (λ x. fits (ptp_kinds_of conf) (veth_links att netns None conf.mtu false) None att netns (call_for x)) (ptp_objects_for att netns g) ≡ true
+fit-pair : (conf : PtpConf) (att : Att) (netns : List ℕ) (g : Given)
+    → list_all (λ x. fits (ptp_kinds_of conf) (veth_links att netns None conf.mtu false) None att netns (call_for x)) (ptp_objects_for att netns g) ≡ true
 fit-pair conf att netns g =
     let ks = ptp_kinds_of conf in
     let links = veth_links att netns None conf.mtu false in
@@ -42,7 +43,8 @@ fit-pair conf att netns g =
     let back = fits-route ks links None att netns (host_key att) refl outer (whole g.address.addr) None in
     and_from _ _ address (and_from _ _ to_gateway (and_from _ _ to_subnet (and_from _ _ gateway (and_from _ _ back refl))))
 
-fit-objects : (conf : PtpConf) (att : Att) (netns : List ℕ) (given : List Given) → list_all (fits (ptp_kinds_of conf) (veth_links att netns None conf.mtu false) None att netns) (map call_for (ptp_objects conf att netns given)) ≡ true
+fit-objects : (conf : PtpConf) (att : Att) (netns : List ℕ) (given : List Given)
+    → list_all (fits (ptp_kinds_of conf) (veth_links att netns None conf.mtu false) None att netns) (map call_for (ptp_objects conf att netns given)) ≡ true
 fit-objects conf att netns given =
     let ks = ptp_kinds_of conf in
     let links = veth_links att netns None conf.mtu false in
@@ -55,7 +57,8 @@ fit-objects conf att netns given =
     (list_all-append q pairs routes (list_all-flat q (ptp_objects_for att netns) (fit-pair conf att netns) given)
     (list_all-every q (λ r. Route (route_on att netns given r)) (λ r. fits-route ks links None att netns (inner_key att netns) refl (veth-inner att netns None conf.mtu false) r.dst (gateway_for given r)) conf.ipam.routes)))
 
-ptp-after : (conf : PtpConf) (att : Att) (netns : List ℕ) (given : List Given) → AreCallsAfter (ptp_plugin conf) att netns given
+ptp-after : (conf : PtpConf) (att : Att) (netns : List ℕ) (given : List Given)
+    → AreCallsAfter (ptp_plugin conf) att netns given
 ptp-after conf att netns given =
     let ks = ptp_kinds_of conf in
     let links = veth_links att netns None conf.mtu false in

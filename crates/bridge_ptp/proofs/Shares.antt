@@ -20,7 +20,8 @@ share-asked : (s : Share) (xs : List Gateway) → share_after_calls s (map gatew
 share-asked s [] = refl
 share-asked s (x ∷ xs) = share-asked s xs
 
-share-gateways : (conf : BridgeConf) (given : List Given) (s : Share) → share_after_calls s (gateway_calls conf given) ≡ s
+share-gateways : (conf : BridgeConf) (given : List Given) (s : Share)
+    → share_after_calls s (gateway_calls conf given) ≡ s
 share-gateways conf given s =
     let asked = map gateway_call (gateways_on conf.bridge given) in
     share_after_calls-if s (is_gateway conf.gateway) (asked ++ forward_calls given)
@@ -36,7 +37,8 @@ share-bridge_after conf att netns given s =
 
 -- ---- ptp
 
-share-objects : (s : Share) (xs : List AddressOrRoute) → share_after_calls s (map call_for xs) ≡ record s { addresses = s.addresses ++ filter_map address_in xs; routes = s.routes ++ filter_map route_in xs }
+share-objects : (s : Share) (xs : List AddressOrRoute)
+    → share_after_calls s (map call_for xs) ≡ record s { addresses = s.addresses ++ filter_map address_in xs; routes = s.routes ++ filter_map route_in xs }
 share-objects s [] = rw (append-nil s.addresses, append-nil s.routes) refl
 share-objects s (Address x ∷ xs) =
     share-objects (share_after_call s (AddrAdd x)) xs

@@ -28,7 +28,8 @@ Makes list c finish made s [] [] = turn c s ≡ Finishes finish
 Makes list c finish made s (x ∷ xs) (r ∷ rs) = (turn c s ≡ Calls x) × Makes list c finish (made + 1) (advance list c (made + 1) s r) xs rs
 Makes list c finish made s xs rs = ⊥
 
-each-made : (list : NetList) (c : Command) (finish : Finish) (made : ℕ) (s : State) (xs : List Call) (rs : List Reply) → Makes list c finish made s xs rs
+each-made : (list : NetList) (c : Command) (finish : Finish) (made : ℕ) (s : State) (xs : List Call) (rs : List Reply)
+    → Makes list c finish made s xs rs
     → (k : ℕ) (call : Call) → slice_get xs k ≡ Some call → turn c (state_from list c made s (take k rs)) ≡ Calls call
 each-made list c finish made s [] [] h k call at = cc
 each-made list c finish made s [] (r ∷ rs) h k call at = absurd h
@@ -36,7 +37,8 @@ each-made list c finish made s (x ∷ xs) [] h k call at = absurd h
 each-made list c finish made s (x ∷ xs) (r ∷ rs) h zero call at = h.0 ∙ cc
 each-made list c finish made s (x ∷ xs) (r ∷ rs) h (suc k) call at = each-made list c finish (made + 1) (advance list c (made + 1) s r) xs rs h.1 k call at
 
-end-made : (list : NetList) (c : Command) (finish : Finish) (made : ℕ) (s : State) (xs : List Call) (rs : List Reply) → Makes list c finish made s xs rs → turn c (state_from list c made s rs) ≡ Finishes finish
+end-made : (list : NetList) (c : Command) (finish : Finish) (made : ℕ) (s : State) (xs : List Call) (rs : List Reply)
+    → Makes list c finish made s xs rs → turn c (state_from list c made s rs) ≡ Finishes finish
 end-made list c finish made s [] [] h = h
 end-made list c finish made s [] (r ∷ rs) h = absurd h
 end-made list c finish made s (x ∷ xs) [] h = absurd h
@@ -72,7 +74,8 @@ plugin-leases_none : (att : Att) (call : Call) → is_plugin_call_of att call �
 plugin-leases_none att (LeaseNext a number set) own = own
 plugin-leases_none att _ own = refl
 
-all-leases_none : (att : Att) (calls : List Call) → list_all (is_plugin_call_of att) calls ≡ true → list_all leases_none calls ≡ true
+all-leases_none : (att : Att) (calls : List Call) → list_all (is_plugin_call_of att) calls ≡ true
+    → list_all leases_none calls ≡ true
 all-leases_none att [] own = refl
 all-leases_none att (x ∷ xs) own =
     let both = and_parts (is_plugin_call_of att x) (list_all (is_plugin_call_of att) xs) own in
@@ -81,12 +84,15 @@ all-leases_none att (x ∷ xs) own =
 before-leases_none : (list : NetList) (c : Command) → list_all leases_none (before_of list c) ≡ true
 before-leases_none list c = all-leases_none (att_of c) (before_of list c) (own-before list.first (att_of c) c.netns)
 
-back-leases_none : (list : NetList) (c : Command) (given : List Addr) → list_all leases_none (back_of list c given) ≡ true
+back-leases_none : (list : NetList) (c : Command) (given : List Addr)
+    → list_all leases_none (back_of list c given) ≡ true
 back-leases_none list c given = all-leases_none (att_of c) (back_of list c given) (own-back list (att_of c) c.netns (mappings_of list c) given)
 
 -- ---- a run, from its end to its start
 
-makes-back : (list : NetList) (c : Command) (given : List Addr) (made : ℕ) (left : List Call) (rs : List Reply) → list_all leases_none left ≡ true → AreGranted left rs → Makes list c (added given) made (after_leases left given) left rs
+makes-back : (list : NetList) (c : Command) (given : List Addr) (made : ℕ) (left : List Call) (rs : List Reply)
+    → list_all leases_none left ≡ true → AreGranted left rs
+    → Makes list c (added given) made (after_leases left given) left rs
 unfolding turn advance
 makes-back list c given made [] [] none all = refl
 makes-back list c given made [] (r ∷ rs) none all = absurd all
@@ -99,7 +105,8 @@ makes-back list c given made (x ∷ xs) (r ∷ rs) none all =
 abbrev from_leases : NetList → Command → List Addr → ℕ → List RangeSet → List Call
 from_leases list c total number sets = lease_calls_from (att_of c) number sets ++ back_of list c total
 
-makes-leases : (list : NetList) (c : Command) (total given : List Addr) (made : ℕ) (sets : List RangeSet) (rs : List Reply) → total ≡ given ++ leases_in rs
+makes-leases : (list : NetList) (c : Command) (total given : List Addr) (made : ℕ) (sets : List RangeSet) (rs : List Reply)
+    → total ≡ given ++ leases_in rs
     → AreGranted (from_leases list c total (length given) sets) rs → Makes list c (added total) made (leasing list c sets given) (from_leases list c total (length given) sets) rs
 unfolding turn advance
 makes-leases list c total given made [] rs is all =
@@ -121,7 +128,8 @@ makes-leases list c total given made (s ∷ ss) (r ∷ rs) is all =
 abbrev from_before : NetList → Command → List Addr → List Call → List Call
 from_before list c total left = left ++ (lease_calls_of (sets_of list) (att_of c) ++ back_of list c total)
 
-makes-before : (list : NetList) (c : Command) (total : List Addr) (made : ℕ) (left : List Call) (rs : List Reply) → total ≡ leases_in rs → list_all leases_none left ≡ true
+makes-before : (list : NetList) (c : Command) (total : List Addr) (made : ℕ) (left : List Call) (rs : List Reply)
+    → total ≡ leases_in rs → list_all leases_none left ≡ true
     → AreGranted (from_before list c total left) rs → Makes list c (added total) made (before_leases list c left) (from_before list c total left) rs
 unfolding turn advance
 makes-before list c total made [] rs is none all = makes-leases list c total [] made (sets_of list) rs is all
@@ -134,7 +142,8 @@ makes-before list c total made (x ∷ xs) (r ∷ rs) is none all =
           (makes-before list c total (made + 1) xs rs (is ∙ ap (λ q. leases_in (q ∷ rs)) done) both.1 all.1),
     )
 
-makes-all : (list : NetList) (c : Command) (total : List Addr) (rs : List Reply) → total ≡ leases_in rs → AreGranted (calls_of_add list c total) rs → Makes list c (added total) 0 AtBegin (calls_of_add list c total) rs
+makes-all : (list : NetList) (c : Command) (total : List Addr) (rs : List Reply) → total ≡ leases_in rs
+    → AreGranted (calls_of_add list c total) rs → Makes list c (added total) 0 AtBegin (calls_of_add list c total) rs
 unfolding turn advance
 makes-all list c total [] is all = absurd all
 makes-all list c total (r ∷ rs) is all =
@@ -159,7 +168,8 @@ add_makes_its_calls list c rs is none all =
 
 -- ---- replies that grant all
 
-granted-append : (xs ys : List Call) (rs qs : List Reply) → AreGranted xs rs → AreGranted ys qs → AreGranted (xs ++ ys) (rs ++ qs)
+granted-append : (xs ys : List Call) (rs qs : List Reply) → AreGranted xs rs → AreGranted ys qs
+    → AreGranted (xs ++ ys) (rs ++ qs)
 granted-append [] ys [] qs h g = g
 granted-append [] ys (r ∷ rs) qs h g = absurd h
 granted-append (x ∷ xs) ys [] qs h g = absurd h
@@ -178,7 +188,8 @@ granted-dones (x ∷ xs) none =
     let both = and_parts (leases_none x) (list_all leases_none xs) none in
     (by-done x both.0, granted-dones xs both.1)
 
-granted-leases : (att : Att) (number : ℕ) (sets : List RangeSet) (given : List Addr) → length given ≡ length sets → AreGranted (lease_calls_from att number sets) (map Leased given)
+granted-leases : (att : Att) (number : ℕ) (sets : List RangeSet) (given : List Addr) → length given ≡ length sets
+    → AreGranted (lease_calls_from att number sets) (map Leased given)
 granted-leases att number [] [] same = tt
 granted-leases att number [] (a ∷ as_) same = absurd (omega arith)
 granted-leases att number (s ∷ ss) [] same = absurd (omega arith)

@@ -4,11 +4,13 @@ use Rattle.std.proofs.{Common.append_assoc, lemmas.List.drop_more}
 use Rattle.cni_errors.specs.declared.answer.Question.{Question}
 
 -- one more of what is meant is at the end
-pub pushed : {X : Type 0} (before after : List X) (x meant : X) → after ≡ before ++ x ∷ [] → x ≡ meant → after ≡ before ++ meant ∷ []
+pub pushed : {X : Type 0} (before after : List X) (x meant : X) → after ≡ before ++ x ∷ [] → x ≡ meant
+    → after ≡ before ++ meant ∷ []
 pushed before after x meant grown is = grown ∙ ap (λ y. before ++ y ∷ []) is
 
 -- what is left, from its first
-pub left_from : {X : Type 0} (xs : List X) (i : ℕ) (x : X) → i < length xs → x ≡ get_or xs i x → drop i xs ≡ x ∷ drop (i + 1) xs
+pub left_from : {X : Type 0} (xs : List X) (i : ℕ) (x : X) → i < length xs → x ≡ get_or xs i x
+    → drop i xs ≡ x ∷ drop (i + 1) xs
 left_from xs i x within at = drop_more xs i x within ∙ ap (λ y. y ∷ drop (i + 1) xs) (sym at)
 
 -- the next object has its question, by its number

@@ -8,7 +8,8 @@ use Rattle.cni_verbs.specs.{Script.{call_by, finish_of, finish_by}, Sweep.{Job, 
 
 -- ---- a state, by what it does
 
-calling : (c : Command) (s : State) (act : Act) (call : Call) → act_of s ≡ act → call_by c act ≡ Some call → turn_by_act c act ≡ Calls call → finish_by act ≡ None → IsUnended act → IsCalling c s
+calling : (c : Command) (s : State) (act : Act) (call : Call) → act_of s ≡ act → call_by c act ≡ Some call
+    → turn_by_act c act ≡ Calls call → finish_by act ≡ None → IsUnended act → IsCalling c s
 unfolding turn next_call finish_of
 calling c s act call is next_is turn_is unfinished is_open = record {
   call = call;
@@ -18,7 +19,8 @@ calling c s act call is next_is turn_is unfinished is_open = record {
   is_open = subst IsUnended (sym is) is_open;
 }
 
-finished : (c : Command) (s : State) (act : Act) (finish : Finish) → act_of s ≡ act → call_by c act ≡ None → turn_by_act c act ≡ Finishes finish → finish_by act ≡ Some finish → (IsUnended act → ⊥)
+finished : (c : Command) (s : State) (act : Act) (finish : Finish) → act_of s ≡ act → call_by c act ≡ None
+    → turn_by_act c act ≡ Finishes finish → finish_by act ≡ Some finish → (IsUnended act → ⊥)
     → IsFinished c s
 unfolding turn next_call finish_of
 finished c s act finish is none_next turn_is finish_is not_open = record {
@@ -30,7 +32,8 @@ finished c s act finish is none_next turn_is finish_is not_open = record {
 }
 
 -- a GC, by what is left of its work
-collects : (c : Command) (s : State) (jobs : List Job) (sweeps : List Sweep) (faults : List ℕ) → act_of s ≡ Collects (record { jobs = jobs; sweeps = sweeps }) faults → IsCalling c s ⊎ IsFinished c s
+collects : (c : Command) (s : State) (jobs : List Job) (sweeps : List Sweep) (faults : List ℕ)
+    → act_of s ≡ Collects (record { jobs = jobs; sweeps = sweeps }) faults → IsCalling c s ⊎ IsFinished c s
 collects c s [] [] faults is = inr (finished c s _ _ is refl refl refl (λ h. h))
 collects c s [] (sweep ∷ sweeps) faults is = inl (calling c s _ _ is refl refl refl tt)
 collects c s (job ∷ jobs) sweeps faults is = inl (calling c s _ _ is refl refl refl tt)

@@ -11,15 +11,19 @@ use Rattle.cni_errors.specs.declared.answer.Skip.TheVariants as skips
 abbrev pub too_old : Version → Ending
 too_old version = Refused (causes.TooOld version)
 
-by_old : (version : Version) (before : Bool) (P : Option Ending → Type 0) → is_before_1_1 version ≡ before → (is_before_1_1 version ≡ true → P (Some (too_old version))) → (is_before_1_1 version ≡ false → P None)
+by_old : (version : Version) (before : Bool) (P : Option Ending → Type 0) → is_before_1_1 version ≡ before
+    → (is_before_1_1 version ≡ true → P (Some (too_old version))) → (is_before_1_1 version ≡ false → P None)
     → P (then_some before (too_old version))
 by_old version true P is old new = old is
 by_old version false P is old new = new is
 
-pub old_ending-cases : (version : Version) (P : Option Ending → Type 0) → (is_before_1_1 version ≡ true → P (Some (too_old version))) → (is_before_1_1 version ≡ false → P None) → P (old_ending version)
+pub old_ending-cases : (version : Version) (P : Option Ending → Type 0)
+    → (is_before_1_1 version ≡ true → P (Some (too_old version))) → (is_before_1_1 version ≡ false → P None)
+    → P (old_ending version)
 old_ending-cases version P old new = by_old version (is_before_1_1 version) P refl old new
 
-by_early : (version : Version) (disabled before off : Bool) (P : Option Ending → Type 0) → is_before_1_1 version ≡ before → disabled ≡ off
+by_early : (version : Version) (disabled before off : Bool) (P : Option Ending → Type 0)
+    → is_before_1_1 version ≡ before → disabled ≡ off
     → (is_before_1_1 version ≡ true → P (Some (too_old version)))
     → (is_before_1_1 version ≡ false → disabled ≡ true → P (Some (Skipped skips.Gc)))
     → (is_before_1_1 version ≡ false → disabled ≡ false → P None)

@@ -29,7 +29,8 @@ starts-after : (calls : List Call) (addrs : List Addr) → 0 < length calls → 
 starts-after [] addrs h = absurd (omega arith)
 starts-after (call ∷ calls) addrs h = tt
 
-starts-before : (list : NetList) (c : Command) (calls : List Call) → 0 < length calls → IsOpen (script.before_leases list c calls)
+starts-before : (list : NetList) (c : Command) (calls : List Call) → 0 < length calls
+    → IsOpen (script.before_leases list c calls)
 starts-before list c [] h = absurd (omega arith)
 starts-before list c (call ∷ calls) h = tt
 
@@ -41,7 +42,8 @@ ends-with : {X : Type 0} (xs ys : List X) (z : X) → 0 < length (xs ++ (ys ++ z
 ends-with xs ys z = omega (arith, length-append xs (ys ++ z ∷ []), length-append ys (z ∷ []))
 
 -- no calls make no links
-none-made : (first : First) (att : Att) (netns : List ℕ) (calls : List Call) → calls_before first att netns ≡ calls → length calls ≡ 0 → ⊥
+none-made : (first : First) (att : Att) (netns : List ℕ) (calls : List Call) → calls_before first att netns ≡ calls
+    → length calls ≡ 0 → ⊥
 none-made first att netns [] is none =
     let laws = first_laws first in
     let made : no_objects ≡ added_before (plugin_of first) att netns = ap (share_after_calls no_objects) (sym is) ∙ laws.adds_before att netns no_objects in
@@ -119,26 +121,30 @@ pub early-open : (list : NetList) (c : Command) (kinds : List Kind) (room made :
     → KeepsOfList list c kinds room made addrs phase → IsEarly phase → IsOpen (state_in list c addrs phase)
 early-open list c kinds room made addrs phase kept early = open-where list c kinds room made addrs phase kept (told-early phase early)
 
-over-listed : {X : Type 0} (state : List X → State) (items : List X) (passed : ℕ) (over : Bool) → (IsOpen (state []) → ⊥) → ((item : X) (left : List X) → IsOpen (state (item ∷ left)))
+over-listed : {X : Type 0} (state : List X → State) (items : List X) (passed : ℕ) (over : Bool)
+    → (IsOpen (state []) → ⊥) → ((item : X) (left : List X) → IsOpen (state (item ∷ left)))
     → MatchBool over (length items ≤ passed) (passed < length items) → IsOverIf over (state (drop passed items))
 over-listed state items passed true ends starts h = λ opened. let lt = opens state items passed ends opened in omega arith
 over-listed state items passed false ends starts h = subst (λ left. IsOpen (state left)) (sym (left_of items passed h).1.1) (starts _ _)
 
-pub after-leases-over : (list : NetList) (c : Command) (passed : ℕ) (calls read : List Call) (cached : Cached) (addrs : List Addr) (phase : Phase) (over : Bool) → phase ≡ phases.AfterLeases calls passed cached
+pub after-leases-over : (list : NetList) (c : Command) (passed : ℕ) (calls read : List Call) (cached : Cached) (addrs : List Addr) (phase : Phase) (over : Bool)
+    → phase ≡ phases.AfterLeases calls passed cached
     → read ≡ calls → MatchBool over (length read ≤ passed) (passed < length read) → IsOverIf over (state_in list c addrs phase)
 after-leases-over list c passed calls read cached addrs phase over is same h =
     subst (λ p. IsOverIf over (state_in list c addrs p)) (sym is)
     (subst (λ cs. IsOverIf over (script.after_leases (drop passed cs) addrs)) same
     (over-listed (λ left. script.after_leases left addrs) read passed over (λ opened. opened) (λ call left. tt) h))
 
-pub deleting-over : (list : NetList) (c : Command) (passed : ℕ) (ending : Ending) (kinds : List Kind) (addrs : List Addr) (phase : Phase) (over : Bool) → phase ≡ phases.Deleting passed ending
+pub deleting-over : (list : NetList) (c : Command) (passed : ℕ) (ending : Ending) (kinds : List Kind) (addrs : List Addr) (phase : Phase) (over : Bool)
+    → phase ≡ phases.Deleting passed ending
     → kinds ≡ kinds_of list → MatchBool over (length kinds ≤ passed) (passed < length kinds) → IsOverIf over (state_in list c addrs phase)
 deleting-over list c passed ending kinds addrs phase over is same h =
     subst (λ p. IsOverIf over (state_in list c addrs p)) (sym is)
     (subst (λ ks. IsOverIf over (script.deleting (drop passed ks) ending)) same
     (over-listed (λ ks. script.deleting ks ending) kinds passed over (λ opened. opened) (λ kind ks. tt) h))
 
-pub asking-over : (list : NetList) (c : Command) (passed : ℕ) (questions read : List Question) (addrs : List Addr) (phase : Phase) (over : Bool) → phase ≡ phases.Asking questions passed
+pub asking-over : (list : NetList) (c : Command) (passed : ℕ) (questions read : List Question) (addrs : List Addr) (phase : Phase) (over : Bool)
+    → phase ≡ phases.Asking questions passed
     → read ≡ questions → MatchBool over (length read ≤ passed) (passed < length read) → IsOverIf over (state_in list c addrs phase)
 asking-over list c passed questions read addrs phase over is same h =
     subst (λ p. IsOverIf over (state_in list c addrs p)) (sym is)
@@ -147,17 +153,20 @@ asking-over list c passed questions read addrs phase over is same h =
 
 -- ---- a run of no network
 
-pub unless-changing : (phase : Phase) (changing : Bool) → MatchBool changing ((change : Call) × (phase ≡ phases.Changing change)) (((number : ℕ) (r : Reply) → script.outside_advance number (state_outside phase) r ≡ state_outside phase) × (IsOpen (state_outside phase) → ⊥))
+pub unless-changing : (phase : Phase) (changing : Bool)
+    → MatchBool changing ((change : Call) × (phase ≡ phases.Changing change)) (((number : ℕ) (r : Reply) → script.outside_advance number (state_outside phase) r ≡ state_outside phase) × (IsOpen (state_outside phase) → ⊥))
     → IsOverIf (not changing) (state_outside phase)
 unless-changing phase true h = subst (λ p. IsOpen (state_outside p)) (sym h.1) tt
 unless-changing phase false h = h.1
 
-pub outside-over : (list : Option NetList) (c : Command) (addrs : List Addr) (phase : Phase) (over : Bool) → list ≡ None → IsOverIf over (state_outside phase) → IsOverIf over (state_by_phase list c addrs phase)
+pub outside-over : (list : Option NetList) (c : Command) (addrs : List Addr) (phase : Phase) (over : Bool) → list ≡ None
+    → IsOverIf over (state_outside phase) → IsOverIf over (state_by_phase list c addrs phase)
 outside-over list c addrs phase over none h = subst (λ l. IsOverIf over (state_by_phase l c addrs phase)) (sym none) h
 
 -- ---- how it ends
 
-pub unended : {A : Type 0} (c : Command) (s : State) (over : Bool) (f : Finish → A) → over ≡ false → IsOverIf over s → None ≡ option_map f (finish_of s)
+pub unended : {A : Type 0} (c : Command) (s : State) (over : Bool) (f : Finish → A) → over ≡ false → IsOverIf over s
+    → None ≡ option_map f (finish_of s)
 unended c s true f is h = absurd cc
 unended c s false f is h = elim (calls_or_over c s) [
   | inl k ↦ sym (ap (option_map f) k.unfinished)
@@ -165,12 +174,14 @@ unended c s false f is h = elim (calls_or_over c s) [
 ]
 
 -- the end of a list
-finish-listed : {A X : Type 0} (state : List X → State) (items : List X) (finish : Finish) (f : Finish → A) → finish_of (state []) ≡ Some finish → ((item : X) (left : List X) → IsOpen (state (item ∷ left)))
+finish-listed : {A X : Type 0} (state : List X → State) (items : List X) (finish : Finish) (f : Finish → A)
+    → finish_of (state []) ≡ Some finish → ((item : X) (left : List X) → IsOpen (state (item ∷ left)))
     → (IsOpen (state items) → ⊥) → Some (f finish) ≡ option_map f (finish_of (state items))
 finish-listed state [] finish f ends starts over = sym (ap (option_map f) ends)
 finish-listed state (item ∷ left) finish f ends starts over = absurd (over (starts item left))
 
-pub after-finish : {A : Type 0} (list : NetList) (c : Command) (passed : ℕ) (calls : List Call) (cached : Cached) (addrs : List Addr) (phase : Phase) (f : Finish → A) → phase ≡ phases.AfterLeases calls passed cached
+pub after-finish : {A : Type 0} (list : NetList) (c : Command) (passed : ℕ) (calls : List Call) (cached : Cached) (addrs : List Addr) (phase : Phase) (f : Finish → A)
+    → phase ≡ phases.AfterLeases calls passed cached
     → (IsOpen (state_in list c addrs phase) → ⊥) → Some (f (record { ending = Added; given = addrs })) ≡ option_map f (finish_of (state_in list c addrs phase))
 unfolding finish_of
 after-finish list c passed calls cached addrs phase f is over =
@@ -178,7 +189,8 @@ after-finish list c passed calls cached addrs phase f is over =
     (finish-listed (λ left. script.after_leases left addrs) (drop passed calls) (record { ending = Added; given = addrs }) f refl (λ call left. tt)
     (subst (λ p. IsOpen (state_in list c addrs p) → ⊥) is over))
 
-pub deleting-finish : {A : Type 0} (list : NetList) (c : Command) (passed : ℕ) (ending : Ending) (addrs : List Addr) (phase : Phase) (f : Finish → A) → phase ≡ phases.Deleting passed ending
+pub deleting-finish : {A : Type 0} (list : NetList) (c : Command) (passed : ℕ) (ending : Ending) (addrs : List Addr) (phase : Phase) (f : Finish → A)
+    → phase ≡ phases.Deleting passed ending
     → (IsOpen (state_in list c addrs phase) → ⊥) → Some (f (record { ending = ending; given = [] })) ≡ option_map f (finish_of (state_in list c addrs phase))
 unfolding finish_of
 deleting-finish list c passed ending addrs phase f is over =
@@ -186,7 +198,8 @@ deleting-finish list c passed ending addrs phase f is over =
     (finish-listed (λ kinds. script.deleting kinds ending) (drop passed (kinds_of list)) (record { ending = ending; given = [] }) f refl (λ kind kinds. tt)
     (subst (λ p. IsOpen (state_in list c addrs p) → ⊥) is over))
 
-pub asking-finish : {A : Type 0} (list : NetList) (c : Command) (passed : ℕ) (questions : List Question) (addrs : List Addr) (phase : Phase) (f : Finish → A) → phase ≡ phases.Asking questions passed
+pub asking-finish : {A : Type 0} (list : NetList) (c : Command) (passed : ℕ) (questions : List Question) (addrs : List Addr) (phase : Phase) (f : Finish → A)
+    → phase ≡ phases.Asking questions passed
     → (IsOpen (state_in list c addrs phase) → ⊥) → Some (f (record { ending = Yes; given = [] })) ≡ option_map f (finish_of (state_in list c addrs phase))
 unfolding finish_of
 asking-finish list c passed questions addrs phase f is over =
@@ -194,13 +207,15 @@ asking-finish list c passed questions addrs phase f is over =
     (finish-listed script.asking (drop passed questions) (record { ending = Yes; given = [] }) f refl (λ question left. tt)
     (subst (λ p. IsOpen (state_in list c addrs p) → ⊥) is over))
 
-pub over-finish : {A : Type 0} (list : NetList) (c : Command) (ending : Ending) (addrs : List Addr) (phase : Phase) (f : Finish → A) → phase ≡ phases.Over ending
+pub over-finish : {A : Type 0} (list : NetList) (c : Command) (ending : Ending) (addrs : List Addr) (phase : Phase) (f : Finish → A)
+    → phase ≡ phases.Over ending
     → Some (f (record { ending = ending; given = [] })) ≡ option_map f (finish_of (state_in list c addrs phase))
 unfolding finish_of
 over-finish list c ending addrs phase f is = sym (ap (λ p. option_map f (finish_of (state_in list c addrs p))) is)
 
 -- the result that is kept is the answer of an ADD that is over
-pub added-answer : (list : NetList) (c : Command) (calls : List Call) (passed : ℕ) (cached : Cached) (addrs : List Addr) (phase : Phase) → phase ≡ phases.AfterLeases calls passed cached
+pub added-answer : (list : NetList) (c : Command) (calls : List Call) (passed : ℕ) (cached : Cached) (addrs : List Addr) (phase : Phase)
+    → phase ≡ phases.AfterLeases calls passed cached
     → KeepsResult list c addrs phase → cached.result ≡ result_of_add list (att_of c) c.netns addrs
 added-answer list c calls passed cached addrs phase is keeps =
     let K : Phase → Type 0 = λ p. KeepsResult list c addrs p in

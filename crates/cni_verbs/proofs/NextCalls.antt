@@ -20,17 +20,20 @@ pub ok_by : {A E : Type 0} (r : Result A E) {x y : A} → x ≡ y → IfOk r (λ
 ok_by (Ok v) e h = h ∙ e
 ok_by (Err w) e h = h
 
-pub ok_some_by : {A E : Type 0} (r : Result A E) {x : A} {y : Option A} → Some x ≡ y → IfOk r (λ v. v ≡ x) → IfOk r (λ v. Some v ≡ y)
+pub ok_some_by : {A E : Type 0} (r : Result A E) {x : A} {y : Option A} → Some x ≡ y → IfOk r (λ v. v ≡ x)
+    → IfOk r (λ v. Some v ≡ y)
 ok_some_by (Ok v) e h = ap Some h ∙ e
 ok_some_by (Err w) e h = h
 
 -- ---- the next call
 
-pub next_begin : (list : NetList) (c : Command) (addrs : List Addr) (phase : Phase) → phase ≡ phases.AtBegin → Some (Begin (att_of c) c.netns) ≡ next_call c (state_in list c addrs phase)
+pub next_begin : (list : NetList) (c : Command) (addrs : List Addr) (phase : Phase) → phase ≡ phases.AtBegin
+    → Some (Begin (att_of c) c.netns) ≡ next_call c (state_in list c addrs phase)
 unfolding next_call
 next_begin list c addrs phase is = sym (ap (λ p. next_call c (state_in list c addrs p)) is)
 
-at_before : (list : NetList) (c : Command) (passed : ℕ) (calls : List Call) → passed < length calls → slice_get calls passed ≡ next_call c (script.before_leases list c (drop passed calls))
+at_before : (list : NetList) (c : Command) (passed : ℕ) (calls : List Call) → passed < length calls
+    → slice_get calls passed ≡ next_call c (script.before_leases list c (drop passed calls))
 unfolding next_call
 at_before list c passed calls h =
     let left = left_of calls passed h in
@@ -68,14 +71,16 @@ next_listed c state call_of items passed over calls =
       | inr w ↦ ap call_of w.0 ∙ over ∙ sym (ap (λ left. next_call c (state left)) w.1)
     ]
 
-pub next_after : (list : NetList) (c : Command) (passed : ℕ) (calls : List Call) (cached : Cached) (addrs : List Addr) (phase : Phase) → phase ≡ phases.AfterLeases calls passed cached
+pub next_after : (list : NetList) (c : Command) (passed : ℕ) (calls : List Call) (cached : Cached) (addrs : List Addr) (phase : Phase)
+    → phase ≡ phases.AfterLeases calls passed cached
     → slice_get calls passed ≡ next_call c (state_in list c addrs phase)
 unfolding next_call
 next_after list c passed calls cached addrs phase is =
     next_listed c (λ left. script.after_leases left addrs) (λ call. call) calls passed refl (λ call left. refl)
     ∙ sym (ap (λ p. next_call c (state_in list c addrs p)) is)
 
-pub next_cache : (list : NetList) (c : Command) (addrs : List Addr) (phase : Phase) → ((ending : Ending) × (phase ≡ phases.ReadingCache ending)) ⊎ (phase ≡ phases.FindingEntry)
+pub next_cache : (list : NetList) (c : Command) (addrs : List Addr) (phase : Phase)
+    → ((ending : Ending) × (phase ≡ phases.ReadingCache ending)) ⊎ (phase ≡ phases.FindingEntry)
     → Some (CacheGet (att_of c)) ≡ next_call c (state_in list c addrs phase)
 unfolding next_call
 next_cache list c addrs phase (inl w) = sym (ap (λ p. next_call c (state_in list c addrs p)) w.1)
@@ -90,22 +95,26 @@ next_deletion list c kinds room made passed ending addrs phase kept is =
     ∙ ap (λ ks. next_call c (script.deleting (drop passed ks) ending)) kept.kinds_is
     ∙ sym (ap (λ p. next_call c (state_in list c addrs p)) is)
 
-pub next_asking : (list : NetList) (c : Command) (passed : ℕ) (questions : List Question) (addrs : List Addr) (phase : Phase) → phase ≡ phases.Asking questions passed
+pub next_asking : (list : NetList) (c : Command) (passed : ℕ) (questions : List Question) (addrs : List Addr) (phase : Phase)
+    → phase ≡ phases.Asking questions passed
     → option_map (λ question. question.call) (slice_get questions passed) ≡ next_call c (state_in list c addrs phase)
 unfolding next_call
 next_asking list c passed questions addrs phase is =
     next_listed c script.asking (option_map (λ question. question.call)) questions passed refl (λ question left. refl)
     ∙ sym (ap (λ p. next_call c (state_in list c addrs p)) is)
 
-pub next_change : (list : NetList) (c : Command) (change : Call) (addrs : List Addr) (phase : Phase) → phase ≡ phases.Changing change → Some change ≡ next_call c (state_in list c addrs phase)
+pub next_change : (list : NetList) (c : Command) (change : Call) (addrs : List Addr) (phase : Phase)
+    → phase ≡ phases.Changing change → Some change ≡ next_call c (state_in list c addrs phase)
 unfolding next_call
 next_change list c change addrs phase is = sym (ap (λ p. next_call c (state_in list c addrs p)) is)
 
-pub next_over : (list : NetList) (c : Command) (addrs : List Addr) (phase : Phase) (ending : Ending) → phase ≡ phases.Over ending → None ≡ next_call c (state_in list c addrs phase)
+pub next_over : (list : NetList) (c : Command) (addrs : List Addr) (phase : Phase) (ending : Ending)
+    → phase ≡ phases.Over ending → None ≡ next_call c (state_in list c addrs phase)
 unfolding next_call
 next_over list c addrs phase ending is = sym (ap (λ p. next_call c (state_in list c addrs p)) is)
 
-pub is-prepared : (phase : Phase) → is_prepared phase ≡ true → (phase ≡ phases.Begun) ⊎ ((phase ≡ phases.Leased) ⊎ ((cached : Cached) × (phase ≡ phases.Found cached))) → ⊥
+pub is-prepared : (phase : Phase) → is_prepared phase ≡ true
+    → (phase ≡ phases.Begun) ⊎ ((phase ≡ phases.Leased) ⊎ ((cached : Cached) × (phase ≡ phases.Found cached))) → ⊥
 is-prepared phase h (inl is) = let e = ap is_prepared is in cc
 is-prepared phase h (inr (inl is)) = let e = ap is_prepared is in cc
 is-prepared phase h (inr (inr w)) = let e = ap is_prepared w.1 in cc
@@ -125,12 +134,14 @@ kept_at_start list c kinds room given phase starts kinds_is room_is none =
       keeps = subst K (sym none) starts.keeps;
     }
 
-pub seen_at_start : (list : NetList) (c : Command) (given : List Addr) (phase : Phase) → IsPhaseOf list c 0 [] phase (script.start_state list c) → given ≡ []
+pub seen_at_start : (list : NetList) (c : Command) (given : List Addr) (phase : Phase)
+    → IsPhaseOf list c 0 [] phase (script.start_state list c) → given ≡ []
     → state_in list c given phase ≡ script.start_state list c
 seen_at_start list c given phase starts none = ap (λ addrs. state_in list c addrs phase) none ∙ starts.is
 
 -- the phase of a list and a command is that of their copies
-pub starts_for : (l k : NetList) (c d : Command) (phase : Phase) → k ≡ l → d ≡ c → IsPhaseOf l c 0 [] phase (script.start_state l c) → IsPhaseOf k d 0 [] phase (script.start_state k d)
+pub starts_for : (l k : NetList) (c d : Command) (phase : Phase) → k ≡ l → d ≡ c
+    → IsPhaseOf l c 0 [] phase (script.start_state l c) → IsPhaseOf k d 0 [] phase (script.start_state k d)
 starts_for l k c d phase same_list same h =
     let L : NetList → Type 0 = λ x. IsPhaseOf x c 0 [] phase (script.start_state x c) in
     let P : Command → Type 0 = λ x. IsPhaseOf k x 0 [] phase (script.start_state k x) in

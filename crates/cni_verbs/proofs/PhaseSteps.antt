@@ -21,7 +21,8 @@ use Rattle.cni_verbs.specs.declared.phase.Phase.TheVariants as phases
 abbrev pub IsLeft : {X : Type 0} → List X → ℕ → X → Type 0
 IsLeft xs n x = (slice_get xs n ≡ Some x) × (drop n xs ≡ x ∷ drop (n + 1) xs)
 
-left_at : {X : Type 0} (xs : List X) (n : ℕ) (x : X) → n < length xs → slice_get xs n ≡ Some x → get_or xs n x ≡ x → IsLeft xs n x
+left_at : {X : Type 0} (xs : List X) (n : ℕ) (x : X) → n < length xs → slice_get xs n ≡ Some x → get_or xs n x ≡ x
+    → IsLeft xs n x
 left_at xs n x h got is = (got, drop-cons xs n x h ∙ ap (λ y. y ∷ drop (suc n) xs) is ∙ ap (λ k. x ∷ drop k xs) (sym (add-one n)))
 
 pub left_of : {X : Type 0} (xs : List X) (n : ℕ) → n < length xs → (x : X) × IsLeft xs n x
@@ -32,7 +33,8 @@ left_of {X} xs n h =
     ]
 
 -- an element is left at this place, or nothing
-pub left_or_none : {X : Type 0} (xs : List X) (n : ℕ) → ((x : X) × IsLeft xs n x) ⊎ ((slice_get xs n ≡ None) × (drop n xs ≡ []))
+pub left_or_none : {X : Type 0} (xs : List X) (n : ℕ)
+    → ((x : X) × IsLeft xs n x) ⊎ ((slice_get xs n ≡ None) × (drop n xs ≡ []))
 left_or_none {X} xs n =
     elim (slice_get_cases xs n).1 as (λ w. ((x : X) × IsLeft xs n x) ⊎ ((slice_get xs n ≡ None) × (drop n xs ≡ []))) [
       | inl w ↦ inl (w.0, left_at xs n w.0 w.1 w.2 w.3)
@@ -41,7 +43,8 @@ left_or_none {X} xs n =
 
 -- ---- where work is left
 
-pub calls_over : (list : NetList) (c : Command) (made passed : ℕ) (calls : List Call) (phase : Phase) → length calls ≤ passed
+pub calls_over : (list : NetList) (c : Command) (made passed : ℕ) (calls : List Call) (phase : Phase)
+    → length calls ≤ passed
     → IsPhaseOf list c made [] phase (script.leasing list c (drop 0 (sets_of list)) [])
     → IsPhaseOf list c made [] phase (script.before_leases list c (drop passed calls))
 calls_over list c made passed calls phase over goes =
@@ -50,14 +53,16 @@ calls_over list c made passed calls phase over goes =
 
 -- ---- the script's step, by the phase
 
-pub steps_before : (list : NetList) (c : Command) (number passed : ℕ) (calls : List Call) (r : Reply) → passed < length calls
+pub steps_before : (list : NetList) (c : Command) (number passed : ℕ) (calls : List Call) (r : Reply)
+    → passed < length calls
     → script.at_call_before list c number (drop (passed + 1) calls) r ≡ advance list c number (script.before_leases list c (drop passed calls)) r
 unfolding advance
 steps_before list c number passed calls r h =
     let left = left_of calls passed h in
     sym (ap (λ calls. advance list c number (script.before_leases list c calls) r) left.1.1)
 
-pub steps_lease : (list : NetList) (c : Command) (number : ℕ) (addrs : List Addr) (r : Reply) → length addrs < length (sets_of list)
+pub steps_lease : (list : NetList) (c : Command) (number : ℕ) (addrs : List Addr) (r : Reply)
+    → length addrs < length (sets_of list)
     → script.at_lease list c number (drop (length addrs + 1) (sets_of list)) addrs r ≡ advance list c number (script.leasing list c (drop (length addrs) (sets_of list)) addrs) r
 unfolding advance
 steps_lease list c number addrs r h =
@@ -65,20 +70,23 @@ steps_lease list c number addrs r h =
     sym (ap (λ sets. advance list c number (script.leasing list c sets addrs) r) left.1.1)
 
 -- a state that is open has an item left of its list, where the list's end is over
-pub opens : {X : Type 0} (state : List X → State) (items : List X) (passed : ℕ) → (IsOpen (state []) → ⊥) → IsOpen (state (drop passed items)) → passed < length items
+pub opens : {X : Type 0} (state : List X → State) (items : List X) (passed : ℕ) → (IsOpen (state []) → ⊥)
+    → IsOpen (state (drop passed items)) → passed < length items
 opens state items passed over h =
     elim (cases_lt passed (length items)) [
       | inl lt ↦ lt
       | inr le ↦ absurd (over (subst (λ left. IsOpen (state left)) (drop_all passed items le) h))
     ]
 
-item_left : {X : Type 0} (state : List X → State) (items : List X) (passed : ℕ) → (IsOpen (state []) → ⊥) → IsOpen (state (drop passed items))
+item_left : {X : Type 0} (state : List X → State) (items : List X) (passed : ℕ) → (IsOpen (state []) → ⊥)
+    → IsOpen (state (drop passed items))
     → (item : X) × (drop passed items ≡ item ∷ drop (passed + 1) items)
 item_left state items passed over h =
     let left = left_of items passed (opens state items passed over h) in
     (left.0, left.1.1)
 
-pub steps_after : (list : NetList) (c : Command) (number passed : ℕ) (calls : List Call) (addrs : List Addr) (r : Reply) → IsOpen (script.after_leases (drop passed calls) addrs)
+pub steps_after : (list : NetList) (c : Command) (number passed : ℕ) (calls : List Call) (addrs : List Addr) (r : Reply)
+    → IsOpen (script.after_leases (drop passed calls) addrs)
     → script.at_call_after number (drop (passed + 1) calls) addrs r ≡ advance list c number (script.after_leases (drop passed calls) addrs) r
 unfolding advance
 steps_after list c number passed calls addrs r h =
@@ -97,24 +105,29 @@ steps_question : (list : NetList) (c : Command) (number passed : ℕ) (question 
 unfolding advance
 steps_question list c number passed question questions r here = sym (ap (λ left. advance list c number (script.asking left) r) here)
 
-steps_entry : (list : NetList) (c : Command) (number : ℕ) (r : Reply) → script.at_entry list c number r ≡ advance list c number script.FindingEntry r
+steps_entry : (list : NetList) (c : Command) (number : ℕ) (r : Reply)
+    → script.at_entry list c number r ≡ advance list c number script.FindingEntry r
 unfolding advance
 steps_entry list c number r = refl
 
-steps_changing : (list : NetList) (c : Command) (number : ℕ) (change : Call) (r : Reply) → script.Over (script.changed number r) [] ≡ advance list c number (script.Changing change) r
+steps_changing : (list : NetList) (c : Command) (number : ℕ) (change : Call) (r : Reply)
+    → script.Over (script.changed number r) [] ≡ advance list c number (script.Changing change) r
 unfolding advance
 steps_changing list c number change r = refl
 
-pub steps_begin : (list : NetList) (c : Command) (number : ℕ) (r : Reply) → script.at_begin list c number r ≡ advance list c number script.AtBegin r
+pub steps_begin : (list : NetList) (c : Command) (number : ℕ) (r : Reply)
+    → script.at_begin list c number r ≡ advance list c number script.AtBegin r
 unfolding advance
 steps_begin list c number r = refl
 
-pub steps_cache : (list : NetList) (c : Command) (number : ℕ) (ending : Ending) (r : Reply) → script.at_cache list number ending r ≡ advance list c number (script.ReadingCache ending) r
+pub steps_cache : (list : NetList) (c : Command) (number : ℕ) (ending : Ending) (r : Reply)
+    → script.at_cache list number ending r ≡ advance list c number (script.ReadingCache ending) r
 unfolding advance
 steps_cache list c number ending r = refl
 
 -- the same phase, for an equal state
-pub at_state : (list : NetList) (c : Command) (made : ℕ) (addrs : List Addr) (phase : Phase) {a b : State} → a ≡ b → IsPhaseOf list c made addrs phase a → IsPhaseOf list c made addrs phase b
+pub at_state : (list : NetList) (c : Command) (made : ℕ) (addrs : List Addr) (phase : Phase) {a b : State} → a ≡ b
+    → IsPhaseOf list c made addrs phase a → IsPhaseOf list c made addrs phase b
 at_state list c made addrs phase e h =
     let P : State → Type 0 = λ state. IsPhaseOf list c made addrs phase state in
     subst P e h
@@ -135,7 +148,8 @@ leased_goes list c number len old addrs addr r phase items len_is is h =
 abbrev pub Goes : NetList → Command → ℕ → List Addr → List Addr → Phase → Reply → Phase → Type 0
 Goes list c made old new phase r next = IsPhaseOf list c (made + 1) new next (advance list c (made + 1) (state_in list c old phase) r)
 
-pub goes_begin : (list : NetList) (c : Command) (sets made : ℕ) (addrs : List Addr) (phase : Phase) (r : Reply) (next : Phase) → phase ≡ phases.AtBegin
+pub goes_begin : (list : NetList) (c : Command) (sets made : ℕ) (addrs : List Addr) (phase : Phase) (r : Reply) (next : Phase)
+    → phase ≡ phases.AtBegin
     → Stands sets made addrs phase → IsPhaseOf list c (made + 1) [] next (script.at_begin list c (made + 1) r) → Goes list c made addrs addrs phase r next
 goes_begin list c sets made addrs phase r next is stands h =
     let S : Phase → Type 0 = λ p. Stands sets made addrs p in
@@ -154,7 +168,8 @@ goes_before list c sets made passed calls addrs phase r next is stands h =
     let F : Phase → Type 0 = λ p. Goes list c made addrs addrs p r next in
     subst F (sym is) (subst G (sym here.1) (at_state list c (made + 1) [] next (steps_before list c (made + 1) passed calls r here.0) h))
 
-pub goes_lease : (list : NetList) (c : Command) (sets made : ℕ) (old new : List Addr) (phase : Phase) (r : Reply) (next : Phase) → phase ≡ phases.Leasing
+pub goes_lease : (list : NetList) (c : Command) (sets made : ℕ) (old new : List Addr) (phase : Phase) (r : Reply) (next : Phase)
+    → phase ≡ phases.Leasing
     → Stands sets made old phase → length (sets_of list) ≡ sets
     → IsPhaseOf list c (made + 1) new next (script.at_lease list c (made + 1) (drop (length old + 1) (sets_of list)) old r) → Goes list c made old new phase r next
 goes_lease list c sets made old new phase r next is stands all h =
@@ -178,13 +193,15 @@ goes_after list c made passed calls cached addrs phase r next is opens h =
     let F : Phase → Type 0 = λ p. Goes list c made addrs addrs p r next in
     subst F (sym is) (at_state list c (made + 1) addrs next (steps_after list c (made + 1) passed calls addrs r (subst O is opens)) h)
 
-pub goes_cache : (list : NetList) (c : Command) (made : ℕ) (ending : Ending) (addrs : List Addr) (phase : Phase) (r : Reply) (next : Phase) → phase ≡ phases.ReadingCache ending
+pub goes_cache : (list : NetList) (c : Command) (made : ℕ) (ending : Ending) (addrs : List Addr) (phase : Phase) (r : Reply) (next : Phase)
+    → phase ≡ phases.ReadingCache ending
     → IsPhaseOf list c (made + 1) addrs next (script.at_cache list (made + 1) ending r) → Goes list c made addrs addrs phase r next
 goes_cache list c made ending addrs phase r next is h =
     let F : Phase → Type 0 = λ p. Goes list c made addrs addrs p r next in
     subst F (sym is) (at_state list c (made + 1) addrs next (steps_cache list c (made + 1) ending r) h)
 
-pub goes_deleting : (list : NetList) (c : Command) (made passed : ℕ) (ending : Ending) (addrs : List Addr) (phase : Phase) (r : Reply) (next : Phase) → phase ≡ phases.Deleting passed ending
+pub goes_deleting : (list : NetList) (c : Command) (made passed : ℕ) (ending : Ending) (addrs : List Addr) (phase : Phase) (r : Reply) (next : Phase)
+    → phase ≡ phases.Deleting passed ending
     → IsOpen (state_in list c addrs phase)
     → ((kind : Kind) → drop passed (kinds_of list) ≡ kind ∷ drop (passed + 1) (kinds_of list)
     → IsPhaseOf list c (made + 1) addrs next (script.at_deletion (made + 1) kind (drop (passed + 1) (kinds_of list)) ending r))
@@ -195,13 +212,15 @@ goes_deleting list c made passed ending addrs phase r next is opens h =
     let F : Phase → Type 0 = λ p. Goes list c made addrs addrs p r next in
     subst F (sym is) (at_state list c (made + 1) addrs next (steps_deletion list c (made + 1) passed left.0 ending r left.1) (h left.0 left.1))
 
-pub goes_entry : (list : NetList) (c : Command) (made : ℕ) (addrs : List Addr) (phase : Phase) (r : Reply) (next : Phase) → phase ≡ phases.FindingEntry
+pub goes_entry : (list : NetList) (c : Command) (made : ℕ) (addrs : List Addr) (phase : Phase) (r : Reply) (next : Phase)
+    → phase ≡ phases.FindingEntry
     → IsPhaseOf list c (made + 1) addrs next (script.at_entry list c (made + 1) r) → Goes list c made addrs addrs phase r next
 goes_entry list c made addrs phase r next is h =
     let F : Phase → Type 0 = λ p. Goes list c made addrs addrs p r next in
     subst F (sym is) (at_state list c (made + 1) addrs next (steps_entry list c (made + 1) r) h)
 
-pub goes_asking : (list : NetList) (c : Command) (made passed : ℕ) (questions : List Question) (addrs : List Addr) (phase : Phase) (r : Reply) (next : Phase) → phase ≡ phases.Asking questions passed
+pub goes_asking : (list : NetList) (c : Command) (made passed : ℕ) (questions : List Question) (addrs : List Addr) (phase : Phase) (r : Reply) (next : Phase)
+    → phase ≡ phases.Asking questions passed
     → IsOpen (state_in list c addrs phase)
     → ((question : Question) → slice_get questions passed ≡ Some question
     → IsPhaseOf list c (made + 1) addrs next (script.at_question (made + 1) question (drop (passed + 1) questions) r))
@@ -212,19 +231,22 @@ goes_asking list c made passed questions addrs phase r next is unended h =
     let F : Phase → Type 0 = λ p. Goes list c made addrs addrs p r next in
     subst F (sym is) (at_state list c (made + 1) addrs next (steps_question list c (made + 1) passed left.0 questions r left.1.1) (h left.0 left.1.0))
 
-pub goes_changing : (list : NetList) (c : Command) (made : ℕ) (change : Call) (addrs : List Addr) (phase : Phase) (r : Reply) (next : Phase) → phase ≡ phases.Changing change
+pub goes_changing : (list : NetList) (c : Command) (made : ℕ) (change : Call) (addrs : List Addr) (phase : Phase) (r : Reply) (next : Phase)
+    → phase ≡ phases.Changing change
     → IsPhaseOf list c (made + 1) addrs next (script.Over (script.changed (made + 1) r) []) → Goes list c made addrs addrs phase r next
 goes_changing list c made change addrs phase r next is h =
     let F : Phase → Type 0 = λ p. Goes list c made addrs addrs p r next in
     subst F (sym is) (at_state list c (made + 1) addrs next (steps_changing list c (made + 1) change r) h)
 
-pub over_goes : (list : NetList) (c : Command) (made : ℕ) (addrs : List Addr) (ending changed : Ending) → ending ≡ changed
+pub over_goes : (list : NetList) (c : Command) (made : ℕ) (addrs : List Addr) (ending changed : Ending)
+    → ending ≡ changed
     → IsPhaseOf list c made addrs (phases.Over ending) (script.Over changed [])
 over_goes list c made addrs ending changed same = record { is = ap (λ e. script.Over e []) same; stands = tt; keeps = tt }
 
 -- ---- which phases a reply may come to
 
-pub awaits : (list : NetList) (c : Command) (addrs : List Addr) (phase : Phase) → IsOpen (state_in list c addrs phase) → is_prepared phase ≡ true → Awaits phase
+pub awaits : (list : NetList) (c : Command) (addrs : List Addr) (phase : Phase) → IsOpen (state_in list c addrs phase)
+    → is_prepared phase ≡ true → Awaits phase
 awaits list c addrs phases.AtBegin h is = tt
 awaits list c addrs phases.Begun h is = cc
 awaits list c addrs (phases.BeforeLeases calls passed) h is = tt
@@ -240,6 +262,7 @@ awaits list c addrs (phases.Changing change) h is = tt
 awaits list c addrs (phases.Over ending) h is = h
 
 -- the question that was denied is the one at its place
-pub taken-at : (questions : List Question) (place : ℕ) (taken question : Question) → slice_get questions place ≡ Some taken → slice_get questions place ≡ Some question
+pub taken-at : (questions : List Question) (place : ℕ) (taken question : Question)
+    → slice_get questions place ≡ Some taken → slice_get questions place ≡ Some question
     → phases.Over (Refused taken.lack) ≡ phases.Over (Refused question.lack)
 taken-at questions place taken question here there = let same : taken ≡ question = cc in ap (λ (q : Question). phases.Over (Refused q.lack)) same

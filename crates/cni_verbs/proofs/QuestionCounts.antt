@@ -21,13 +21,15 @@ use Rattle.plugin_chain.proofs.PluginLaws.{chained_laws, first_laws}
 -- ---- links
 
 -- a chained plugin makes no link
-length-after : (c : Chained) (att : Att) (netns : List ℕ) (links : List Link) → length (links_after c att netns links) ≡ length links
+length-after : (c : Chained) (att : Att) (netns : List ℕ) (links : List Link)
+    → length (links_after c att netns links) ≡ length links
 length-after c att netns links =
     let s : Share = record no_objects { links = links } in
     let laws = chained_laws c in
     ap (λ (t : Share). length t.links) (sym (laws.adds att netns [] [] s)) ∙ later-as_many netns s (chained_calls c att netns [] []) (laws.calls att netns [] []).later
 
-length-links : (cs : List Chained) (att : Att) (netns : List ℕ) (links : List Link) → length (all_links_after cs att netns links) ≡ length links
+length-links : (cs : List Chained) (att : Att) (netns : List ℕ) (links : List Link)
+    → length (all_links_after cs att netns links) ≡ length links
 length-links [] att netns links = refl
 length-links (c ∷ cs) att netns links = length-links cs att netns (links_after c att netns links) ∙ length-after c att netns links
 
@@ -83,5 +85,6 @@ questions-left list c cached =
 
 -- ---- STATUS
 
-pub length-pools : (network : List ℕ) (number : ℕ) (sets : List RangeSet) → length (pool_questions network number sets) ≡ length sets
+pub length-pools : (network : List ℕ) (number : ℕ) (sets : List RangeSet)
+    → length (pool_questions network number sets) ≡ length sets
 length-pools network number sets = length-scan (λ (n : ℕ) (set : RangeSet). n + 1) (pool_question network) number sets

@@ -22,25 +22,30 @@ use Rattle.firewall_tuning.specs.Tuning.{tuning_kinds, tuning_plugin, tuning_set
 -- ---- the calls
 
 -- a test that passes each setting and the link's values passes all
-passes : (p : Call → Bool) (conf : TuningConf) (att : Att) (netns : List ℕ) → ((x : _) → p (SettingSet (setting_of att netns x)) ≡ true)
+passes : (p : Call → Bool) (conf : TuningConf) (att : Att) (netns : List ℕ)
+    → ((x : _) → p (SettingSet (setting_of att netns x)) ≡ true)
     → p (LinkSet att (inner_key att netns) conf.mac conf.mtu conf.tx_qlen conf.promisc conf.allmulti) ≡ true → list_all p (tuning_calls_of conf att netns) ≡ true
 passes p conf att netns settings link =
     list_all-append p (map SettingSet (tuning_settings conf att netns)) (link_set_calls conf att netns) (passes-once p SettingSet is_same_setting (setting_of att netns) settings conf.sysctl)
     (list_all-if p (sets_any conf) (LinkSet att (inner_key att netns) conf.mac conf.mtu conf.tx_qlen conf.promisc conf.allmulti ∷ []) (grind (arith, link)))
 
-one-step : (b : Bool) (calls : List Call) → b ≡ false → at_most_one changes_links calls ≡ true → (if b then not (list_any changes_links calls) else at_most_one changes_links calls) ≡ true
+one-step : (b : Bool) (calls : List Call) → b ≡ false → at_most_one changes_links calls ≡ true
+    → (if b then not (list_any changes_links calls) else at_most_one changes_links calls) ≡ true
 one-step b calls h g = rw h g
 
-one-after_none : (calls more : List Call) → list_any changes_links calls ≡ false → at_most_one changes_links more ≡ true → at_most_one changes_links (calls ++ more) ≡ true
+one-after_none : (calls more : List Call) → list_any changes_links calls ≡ false → at_most_one changes_links more ≡ true
+    → at_most_one changes_links (calls ++ more) ≡ true
 one-after_none [] more h g = g
 one-after_none (x ∷ xs) more h g = one-step (changes_links x) (xs ++ more) (grind (arith, h)) (one-after_none xs more (grind (arith, h)) g)
 
 -- the link's values are set once, or never
-once : (sets : Bool) (settings : List Call) (set : Call) → list_any changes_links settings ≡ false → changes_links set ≡ true → set_links_once sets (settings ++ (if sets then set ∷ [] else [])) ≡ true
+once : (sets : Bool) (settings : List Call) (set : Call) → list_any changes_links settings ≡ false
+    → changes_links set ≡ true → set_links_once sets (settings ++ (if sets then set ∷ [] else [])) ≡ true
 once true settings set none is = one-after_none settings (set ∷ []) none (rw is refl)
 once false settings set none is = ap (λ calls. not (list_any changes_links calls)) (append-nil settings) ∙ ap not none
 
-tuning-calls : (conf : TuningConf) (att : Att) (netns : List ℕ) (mappings : List PortMapping) (ips : List IpEntry) → AreChainedCalls (tuning_plugin conf) att netns mappings ips
+tuning-calls : (conf : TuningConf) (att : Att) (netns : List ℕ) (mappings : List PortMapping) (ips : List IpEntry)
+    → AreChainedCalls (tuning_plugin conf) att netns mappings ips
 tuning-calls conf att netns mappings ips = record {
   own = passes (is_plugin_call_of att) conf att netns (λ x. att_eq-refl att) (att_eq-refl att);
   later = passes (is_later_call netns) conf att netns (λ x. nat_list_eq_equiv.refl netns) refl;
@@ -53,12 +58,14 @@ tuning-calls conf att netns mappings ips = record {
 
 -- ---- what they make
 
-share-link_set : (b : Bool) (s : Share) (call : Call) (f : List Link → List Link) → share_after_call s call ≡ record s { links = f s.links }
+share-link_set : (b : Bool) (s : Share) (call : Call) (f : List Link → List Link)
+    → share_after_call s call ≡ record s { links = f s.links }
     → share_after_calls s (if b then call ∷ [] else []) ≡ record s { links = if b then f s.links else s.links }
 share-link_set true s call f h = h
 share-link_set false s call f h = refl
 
-tuning-adds : (conf : TuningConf) (att : Att) (netns : List ℕ) (mappings : List PortMapping) (ips : List IpEntry) (s : Share) → share_after_calls s (tuning_calls_of conf att netns) ≡ changed_by (tuning_plugin conf) att netns mappings ips s
+tuning-adds : (conf : TuningConf) (att : Att) (netns : List ℕ) (mappings : List PortMapping) (ips : List IpEntry) (s : Share)
+    → share_after_calls s (tuning_calls_of conf att netns) ≡ changed_by (tuning_plugin conf) att netns mappings ips s
 tuning-adds conf att netns mappings ips s =
     let settings = tuning_settings conf att netns in
     let with_settings : Share = record s { settings = s.settings ++ settings } in
@@ -70,7 +77,8 @@ tuning-adds conf att netns mappings ips s =
 
 -- ---- the result
 
-names-tuned : (conf : TuningConf) (version : Version) (interfaces : List Interface) → map (λ i. i.name) (map (tuned_interface conf version) interfaces) ≡ map (λ i. i.name) interfaces
+names-tuned : (conf : TuningConf) (version : Version) (interfaces : List Interface)
+    → map (λ i. i.name) (map (tuned_interface conf version) interfaces) ≡ map (λ i. i.name) interfaces
 names-tuned conf version [] = refl
 names-tuned conf version (i ∷ is) =
     let here : (tuned_interface conf version i).name ≡ i.name = by_test (λ (t : Interface). t.name ≡ i.name) (is_some i.sandbox) _ _ (λ _. refl) (λ _. refl) in
@@ -78,7 +86,8 @@ names-tuned conf version (i ∷ is) =
 
 -- ---- how many
 
-tuning-few : (conf : TuningConf) (att : Att) (netns : List ℕ) → length (tuning_calls_of conf att netns) ≤ length conf.sysctl + 1
+tuning-few : (conf : TuningConf) (att : Att) (netns : List ℕ)
+    → length (tuning_calls_of conf att netns) ≤ length conf.sysctl + 1
 tuning-few conf att netns =
     let a = length-map (tuning_settings conf att netns) SettingSet in
     let b = length-each_key_once is_same_setting (map (setting_of att netns) conf.sysctl) in

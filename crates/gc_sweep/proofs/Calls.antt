@@ -29,7 +29,8 @@ use Rattle.cni_addr.proofs.Lists.{list_all-none}
 
 -- ---- no more distinct owners than there are
 
-list_any-without_other : {X : Type 0} (p q : X → Bool) → ((y : X) → q y ≡ true → p y ≡ false) → (ys : List X) → list_any p ys ≡ true → list_any p (without_first q ys) ≡ true
+list_any-without_other : {X : Type 0} (p q : X → Bool) → ((y : X) → q y ≡ true → p y ≡ false) → (ys : List X)
+    → list_any p ys ≡ true → list_any p (without_first q ys) ≡ true
 list_any-without_other p q w [] h = h
 list_any-without_other p q w (y ∷ ys) h = grind (arith, h, w y, list_any-without_other p q w ys)
 
@@ -39,7 +40,8 @@ apart_same x a y differ xy =
     (λ ay. let e : a ≡ x = att_eq-same a y ay ∙ sym (att_eq-same x y xy) in let same : att_eq x a ≡ true = rw e (att_eq-refl x) in grind (arith, differ, same))
     (λ e. e)
 
-pigeon : (xs ys : List Att) → distinct att_eq xs ≡ true → list_all (λ a. list_any (att_eq a) ys) xs ≡ true → length xs ≤ length ys
+pigeon : (xs ys : List Att) → distinct att_eq xs ≡ true → list_all (λ a. list_any (att_eq a) ys) xs ≡ true
+    → length xs ≤ length ys
 pigeon [] ys d h = omega arith
 pigeon (x ∷ xs) ys d h =
     let here : list_any (att_eq x) ys ≡ true = grind (arith, h) in
@@ -54,18 +56,21 @@ pigeon (x ∷ xs) ys d h =
 abbrev is_in : List ℕ → List ValidAtt → List Att → Tag → Bool
 is_in network valid ys t = not (goes network valid t) || has_att ys t
 
-in_case : (b : Bool) (a : Att) (p : Tag → Bool) (xs : List Att) → p (Own a) ≡ true → list_all (λ x. p (Own x)) xs ≡ true → list_all (λ x. p (Own x)) (cons_option (cond b (Some a) None) xs) ≡ true
+in_case : (b : Bool) (a : Att) (p : Tag → Bool) (xs : List Att) → p (Own a) ≡ true → list_all (λ x. p (Own x)) xs ≡ true
+    → list_all (λ x. p (Own x)) (cons_option (cond b (Some a) None) xs) ≡ true
 in_case true a p xs e h = grind (arith, e, h)
 in_case false a p xs e h = h
 
-tags_owners : (network : List ℕ) (p : Tag → Bool) (ts : List Tag) → list_all p ts ≡ true → list_all (λ x. p (Own x)) (filter_map (owner_in network) ts) ≡ true
+tags_owners : (network : List ℕ) (p : Tag → Bool) (ts : List Tag) → list_all p ts ≡ true
+    → list_all (λ x. p (Own x)) (filter_map (owner_in network) ts) ≡ true
 tags_owners network p [] h = refl
 tags_owners network p (Outside ∷ ts) h = tags_owners network p ts (grind (arith, h))
 tags_owners network p (Base ∷ ts) h = tags_owners network p ts (grind (arith, h))
 tags_owners network p (Own a ∷ ts) h = in_case (bytes_eq a.network network) a p (filter_map (owner_in network) ts) (grind (arith, h)) (tags_owners network p ts (grind (arith, h)))
 
 -- where each tag that goes has its owner among those of the second list
-fewer_owners : (network : List ℕ) (valid : List ValidAtt) (few many : List Tag) → ((p : Tag → Bool) → list_all p many ≡ true → list_all p few ≡ true)
+fewer_owners : (network : List ℕ) (valid : List ValidAtt) (few many : List Tag)
+    → ((p : Tag → Bool) → list_all p many ≡ true → list_all p few ≡ true)
     → length (stale_owners network valid few) ≤ length (stale_owners network valid many)
 fewer_owners network valid few many sub =
     let ys = stale_owners network valid many in
@@ -75,14 +80,16 @@ fewer_owners network valid few many sub =
     pigeon (stale_owners network valid few) ys (distinct-filter att_eq (λ a. not (is_valid valid a)) _ (distinct-each_key_once att_eq att_eq-laws.symm (filter_map (owner_in network) few)))
     (list_all-both (is_stale network valid) (λ x. is_in network valid ys (Own x)) (λ a. list_any (att_eq a) ys) (λ a s i. grind (arith, s, i, goes_own network valid a)) (stale_owners network valid few) (owners_stale network valid few) kept)
 
-all_of_kind : (p : Tag → Bool) (h : Host) (kind : Kind) → list_all p (all_tags h) ≡ true → list_all p (tags_of h kind) ≡ true
+all_of_kind : (p : Tag → Bool) (h : Host) (kind : Kind) → list_all p (all_tags h) ≡ true
+    → list_all p (tags_of h kind) ≡ true
 all_of_kind p h Links a = grind (arith, a, list_all-append {X = Tag})
 all_of_kind p h Rules a = grind (arith, a, list_all-append {X = Tag})
 all_of_kind p h Settings a = grind (arith, a, list_all-append {X = Tag})
 all_of_kind p h Leases a = grind (arith, a, list_all-append {X = Tag})
 all_of_kind p h Cached a = grind (arith, a, list_all-append {X = Tag})
 
-pub owners_at_start : (gc : Gc) (h k : Host) (kind : Kind) → IsWithin k h → length (stale_owners gc.network gc.valid (tags_of k kind)) ≤ length (stale_owners gc.network gc.valid (all_tags h))
+pub owners_at_start : (gc : Gc) (h k : Host) (kind : Kind) → IsWithin k h
+    → length (stale_owners gc.network gc.valid (tags_of k kind)) ≤ length (stale_owners gc.network gc.valid (all_tags h))
 owners_at_start gc h k kind w =
     fewer_owners gc.network gc.valid (tags_of k kind) (all_tags h) (λ p a. list_all-drops p (λ t. true) (tags_of h kind) (tags_of k kind) (tags_within k h kind w) (all_of_kind p h kind a))
 
@@ -92,14 +99,16 @@ pub jobs_weight-map : (s : Sweep) (xs : List Att) → jobs_weight (map (job_of s
 jobs_weight-map s [] = omega arith
 jobs_weight-map s (x ∷ xs) = let rest = jobs_weight-map s xs in let one = suc-mul (length xs) (1 + length s.more) in omega arith
 
-pub jobs_weight-after : (att : Att) (more : List Step) (js : List Job) → jobs_weight (after_step att more js) ≡ length more + jobs_weight js
+pub jobs_weight-after : (att : Att) (more : List Step) (js : List Job)
+    → jobs_weight (after_step att more js) ≡ length more + jobs_weight js
 jobs_weight-after att [] js = omega arith
 jobs_weight-after att (s ∷ more) js = omega arith
 
 abbrev pub Falls : Gc → ℕ → (Tag → Bool) → List Job → List Sweep → Host → Call → Reply → Type 0
 Falls gc m p js ss k call r = weight m p (work_after gc js ss r).jobs (work_after gc js ss r).sweeps (host_after k call r) < weight m p js ss k
 
-ask_falls : (gc : Gc) (m : ℕ) (p : Tag → Bool) (s : Sweep) (ss : List Sweep) (k : Host) (faulty : Bool) → length (stale_owners gc.network gc.valid (tags_of k s.kind)) ≤ m
+ask_falls : (gc : Gc) (m : ℕ) (p : Tag → Bool) (s : Sweep) (ss : List Sweep) (k : Host) (faulty : Bool)
+    → length (stale_owners gc.network gc.valid (tags_of k s.kind)) ≤ m
     → Falls gc m p [] (s ∷ ss) k (OwnersOf gc.network s.kind) (reply_to k (OwnersOf gc.network s.kind) faulty)
 ask_falls gc m p s ss k true few = omega arith
 ask_falls gc m p s ss k false few =
@@ -108,7 +117,8 @@ ask_falls gc m p s ss k false few =
     let most : length owners * (1 + length s.more) ≤ m * (1 + length s.more) = mul-le-mul_right (1 + length s.more) few in
     omega arith
 
-drop_falls : (gc : Gc) (m : ℕ) (p : Tag → Bool) (att : Att) (d : Kind) (more : List Step) (js : List Job) (ss : List Sweep) (k : Host) → ((t : Tag) → is_own att t ≡ true → p t ≡ true) → IsSound k
+drop_falls : (gc : Gc) (m : ℕ) (p : Tag → Bool) (att : Att) (d : Kind) (more : List Step) (js : List Job) (ss : List Sweep) (k : Host)
+    → ((t : Tag) → is_own att t ≡ true → p t ≡ true) → IsSound k
     → (b : Bool) → list_any (is_own att) (tags_of k d) ≡ b → Falls gc m p (record { att = att; step = Delete d; more = more } ∷ js) ss k (deletion att d) (Gone b)
 drop_falls gc m p att d more js ss k w sound true is = let f = (deletes att d k sound).fewer p w is in omega arith
 drop_falls gc m p att d more js ss k w sound false is =
@@ -116,7 +126,8 @@ drop_falls gc m p att d more js ss k w sound false is =
     let P : Host → Type 0 = λ x. weight m p (after_step att more js) ss x < weight m p (record { att = att; step = Delete d; more = more } ∷ js) ss k in
     subst P (sym ((deletes att d k sound).none is)) (omega arith)
 
-step_falls : (gc : Gc) (m : ℕ) (p : Tag → Bool) (att : Att) (step : Step) (more : List Step) (js : List Job) (ss : List Sweep) (k : Host) (faulty : Bool) → ((t : Tag) → is_own att t ≡ true → p t ≡ true) → IsSound k
+step_falls : (gc : Gc) (m : ℕ) (p : Tag → Bool) (att : Att) (step : Step) (more : List Step) (js : List Job) (ss : List Sweep) (k : Host) (faulty : Bool)
+    → ((t : Tag) → is_own att t ≡ true → p t ≡ true) → IsSound k
     → Falls gc m p (record { att = att; step = step; more = more } ∷ js) ss k (step_call att step) (reply_to k (step_call att step) faulty)
 step_falls gc m p att step more js ss k true w sound = omega arith
 step_falls gc m p att AskCached more js ss k false w sound = let left = jobs_weight-after att more js in omega arith
@@ -129,7 +140,8 @@ abbrev pub AllPass : (Tag → Bool) → List Job → Type 0
 AllPass p [] = Unit {0}
 AllPass p (j ∷ js) = ((t : Tag) → is_own j.att t ≡ true → p t ≡ true) × AllPass p js
 
-pub work_falls : (gc : Gc) (m : ℕ) (p : Tag → Bool) (js : List Job) (ss : List Sweep) (k : Host) (call : Call) (faulty : Bool) → call_of_work gc.network js ss ≡ Some call → IsSound k → AllPass p js
+pub work_falls : (gc : Gc) (m : ℕ) (p : Tag → Bool) (js : List Job) (ss : List Sweep) (k : Host) (call : Call) (faulty : Bool)
+    → call_of_work gc.network js ss ≡ Some call → IsSound k → AllPass p js
     → ((kind : Kind) → length (stale_owners gc.network gc.valid (tags_of k kind)) ≤ m) → Falls gc m p js ss k call (reply_to k call faulty)
 work_falls gc m p [] [] k call faulty is sound w few = absurd (none-some call is)
 work_falls gc m p [] (s ∷ ss) k call faulty is sound w few =
@@ -137,12 +149,14 @@ work_falls gc m p [] (s ∷ ss) k call faulty is sound w few =
 work_falls gc m p (j ∷ js) ss k call faulty is sound w few =
     subst (λ c. Falls gc m p (j ∷ js) ss k c (reply_to k c faulty)) (same_Some (step_call j.att j.step) call is) (step_falls gc m p j.att j.step j.more js ss k faulty w.0 sound)
 
-pub stale_pass : (gc : Gc) (js : List Job) → list_all (λ (j : Job). is_stale gc.network gc.valid j.att) js ≡ true → AllPass (goes gc.network gc.valid) js
+pub stale_pass : (gc : Gc) (js : List Job) → list_all (λ (j : Job). is_stale gc.network gc.valid j.att) js ≡ true
+    → AllPass (goes gc.network gc.valid) js
 stale_pass gc [] h = tt
 stale_pass gc (j ∷ js) h = (own_goes gc.network gc.valid j.att (grind (arith, h)), stale_pass gc js (grind (arith, h)))
 
 -- the weight bounds the calls that are left
-pub run_bound : (gc : Gc) (h : Host) (es : List Made) (s : Point) (k : Host) (rest : List Made) → WorkKept gc h es s.work.jobs s.work.sweeps k → IsTrail gc s k rest
+pub run_bound : (gc : Gc) (h : Host) (es : List Made) (s : Point) (k : Host) (rest : List Made)
+    → WorkKept gc h es s.work.jobs s.work.sweeps k → IsTrail gc s k rest
     → length rest ≤ weight (length (stale_owners gc.network gc.valid (all_tags h))) (goes gc.network gc.valid) s.work.jobs s.work.sweeps k
 run_bound gc h es s k [] v run = omega arith
 run_bound gc h es s k (e ∷ rest) v run =
@@ -157,14 +171,17 @@ run_bound gc h es s k (e ∷ rest) v run =
 
 -- ---- all calls
 
-count_map : {X : Type 0} (test : Tag → Bool) (tag : X → Tag) (xs : List X) → length (filter test (map tag xs)) ≡ length (filter (λ x. test (tag x)) xs)
+count_map : {X : Type 0} (test : Tag → Bool) (tag : X → Tag) (xs : List X)
+    → length (filter test (map tag xs)) ≡ length (filter (λ x. test (tag x)) xs)
 count_map test tag [] = refl
 count_map test tag (x ∷ xs) = grind (arith, count_map test tag xs)
 
-count_more : (test : Tag → Bool) (n : ℕ) (xs ys : List Tag) → n ≤ length (filter test xs) → n + length (filter test ys) ≤ length (filter test (xs ++ ys))
+count_more : (test : Tag → Bool) (n : ℕ) (xs ys : List Tag) → n ≤ length (filter test xs)
+    → n + length (filter test ys) ≤ length (filter test (xs ++ ys))
 count_more test n xs ys le = let sum = count_append test xs ys in omega arith
 
-count_over : (test : Tag → Bool) (n : ℕ) (xs ys : List Tag) → n ≤ length (filter test xs) → n ≤ length (filter test (xs ++ ys))
+count_over : (test : Tag → Bool) (n : ℕ) (xs ys : List Tag) → n ≤ length (filter test xs)
+    → n ≤ length (filter test (xs ++ ys))
 count_over test n xs ys le = let sum = count_append test xs ys in omega arith
 
 some_of_all : (test : Tag → Bool) (a b c d e f g : List Tag)
@@ -172,7 +189,8 @@ some_of_all : (test : Tag → Bool) (a b c d e f g : List Tag)
 some_of_all test a b c d e f g =
     count_more test _ (a ++ b ++ c ++ d ++ e ++ f) g (count_more test _ (a ++ b ++ c ++ d ++ e) f (count_more test _ (a ++ b ++ c ++ d) e (count_more test _ (a ++ b ++ c) d (count_over test _ (a ++ b) c (count_over test _ a b (le_refl (length (filter test a))))))))
 
-same_sum : (a b c d e v w x y z n : ℕ) → v ≡ a → w ≡ b → x ≡ c → y ≡ d → z ≡ e → v + w + x + y + z ≤ n → a + b + c + d + e ≤ n
+same_sum : (a b c d e v w x y z n : ℕ) → v ≡ a → w ≡ b → x ≡ c → y ≡ d → z ≡ e → v + w + x + y + z ≤ n
+    → a + b + c + d + e ≤ n
 same_sum a b c d e v w x y z n h1 h2 h3 h4 h5 le = omega arith
 
 total_most : (test : Tag → Bool) (h : Host) → total test h ≤ objects_by test h

@@ -47,7 +47,8 @@ record Shrinks (host : Host) (step : Host × Reply) : Type 0 where
   reply : step.1 ≡ Gone gone
   fewer : objects_in step.0 + one_if gone ≤ objects_in host
 
-links-shrink : (att : Att) (host : Host) (o : Option Link) → find (λ l. is_own att l.tag) host.links ≡ o → Shrinks host (without_link host o)
+links-shrink : (att : Att) (host : Host) (o : Option Link) → find (λ l. is_own att l.tag) host.links ≡ o
+    → Shrinks host (without_link host o)
 links-shrink att host None is = record { gone = false; reply = refl; fewer = omega arith }
 links-shrink att host (Some l) is = record {
   gone = true;
@@ -77,7 +78,8 @@ fewer-sweeps few many (s ∷ ss) less =
 abbrev FallsBy : Gc → List Job → List Sweep → Host → Reply → Host → Type 0
 FallsBy gc js ss host r k = collection_left (work_after gc js ss r) k < collection_left (record { jobs = js; sweeps = ss }) host
 
-owners-fall : (gc : Gc) (s : Sweep) (ss : List Sweep) (host : Host) → FallsBy gc [] (s ∷ ss) host (apply host (OwnersOf gc.network s.kind)).1 (apply host (OwnersOf gc.network s.kind)).0
+owners-fall : (gc : Gc) (s : Sweep) (ss : List Sweep) (host : Host)
+    → FallsBy gc [] (s ∷ ss) host (apply host (OwnersOf gc.network s.kind)).1 (apply host (OwnersOf gc.network s.kind)).0
 owners-fall gc s ss host =
     let all = filter_map (owner_in gc.network) (tags_of host s.kind) in
     let owners = each_key_once att_eq all in
@@ -91,7 +93,8 @@ owners-fall gc s ss host =
     let most : length stale * (1 + length s.more) ≤ objects_in host * (1 + length s.more) = mul-le-mul_right (1 + length s.more) few in
     omega arith
 
-gone-falls : (gc : Gc) (att : Att) (kind : Kind) (more : List Step) (js : List Job) (ss : List Sweep) (host k : Host) (gone : Bool) → objects_in k + one_if gone ≤ objects_in host
+gone-falls : (gc : Gc) (att : Att) (kind : Kind) (more : List Step) (js : List Job) (ss : List Sweep) (host k : Host) (gone : Bool)
+    → objects_in k + one_if gone ≤ objects_in host
     → FallsBy gc (record { att = att; step = Delete kind; more = more } ∷ js) ss host (Gone gone) k
 gone-falls gc att kind more js ss host k true fewer = let rest = fewer-sweeps (objects_in k) (objects_in host) ss (omega arith) in omega arith
 gone-falls gc att kind more js ss host k false fewer =
@@ -111,14 +114,16 @@ abbrev CallFalls : Gc → List Job → List Sweep → Host → Call → Type 0
 CallFalls gc js ss host call = FallsBy gc js ss host (apply host call).1 (apply host call).0
 
 -- the kernel's reply lowers what is left to a GC
-pub work-falls : (gc : Gc) (js : List Job) (ss : List Sweep) (host : Host) (call : Call) → call_of_work gc.network js ss ≡ Some call
+pub work-falls : (gc : Gc) (js : List Job) (ss : List Sweep) (host : Host) (call : Call)
+    → call_of_work gc.network js ss ≡ Some call
     → collection_left (work_after gc js ss (apply host call).1) (apply host call).0 < collection_left (record { jobs = js; sweeps = ss }) host
 work-falls gc [] [] host call is = absurd (none-some call is)
 work-falls gc [] (s ∷ ss) host call is = subst (CallFalls gc [] (s ∷ ss) host) (same_Some (OwnersOf gc.network s.kind) call is) (owners-fall gc s ss host)
 work-falls gc (j ∷ js) ss host call is = subst (CallFalls gc (j ∷ js) ss host) (same_Some (step_call j.att j.step) call is) (step-falls gc j.att j.step j.more js ss host)
 
 -- and so does a fault
-pub fault-falls : (gc : Gc) (js : List Job) (ss : List Sweep) (host : Host) (call : Call) → call_of_work gc.network js ss ≡ Some call
+pub fault-falls : (gc : Gc) (js : List Job) (ss : List Sweep) (host : Host) (call : Call)
+    → call_of_work gc.network js ss ≡ Some call
     → collection_left (work_after gc js ss Fault) host < collection_left (record { jobs = js; sweeps = ss }) host
 fault-falls gc [] [] host call is = absurd (none-some call is)
 fault-falls gc [] (s ∷ ss) host call is = omega arith

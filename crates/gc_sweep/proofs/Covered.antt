@@ -46,7 +46,8 @@ are_well (s ∷ ss) = (asks s.kind ss || is_sole s.kind s.step s.more) && are_we
 
 -- ---- one more entry
 
-or_step : (x b b' c c' d : Bool) → b' ≡ (b || d) → (c ≡ true → (c' || d) ≡ true) → ((x || b) || c) ≡ true → ((x || b') || c') ≡ true
+or_step : (x b b' c c' d : Bool) → b' ≡ (b || d) → (c ≡ true → (c' || d) ≡ true) → ((x || b) || c) ≡ true
+    → ((x || b') || c') ≡ true
 or_step true b b' c c' d e w h = refl
 or_step false true b' c c' d e w h = rw e refl
 or_step false false b' c c' d e w h = let y = w h in rw e (grind (arith, y))
@@ -92,7 +93,8 @@ kind_same Cached Settings h = cc
 kind_same Cached Leases h = cc
 kind_same Cached Cached h = refl
 
-about_deletion : (kind : Kind) (t : Tag) (a : Att) (k : Kind) → is_about kind t (deletion a k) ≡ (kind_eq k kind && is_own a t)
+about_deletion : (kind : Kind) (t : Tag) (a : Att) (k : Kind)
+    → is_about kind t (deletion a k) ≡ (kind_eq k kind && is_own a t)
 about_deletion kind t a Links = refl
 about_deletion kind t a Rules = refl
 about_deletion kind t a Settings = refl
@@ -113,7 +115,8 @@ Next gc h es js ss k call r = WorkKept gc h (es ++ record { call = call; reply =
 
 -- ---- asking for owners
 
-ask_fault : (gc : Gc) (h : Host) (es : List Made) (s : Sweep) (ss : List Sweep) (k : Host) → WorkKept gc h es [] (s ∷ ss) k → Next gc h es [] (s ∷ ss) k (OwnersOf gc.network s.kind) Fault
+ask_fault : (gc : Gc) (h : Host) (es : List Made) (s : Sweep) (ss : List Sweep) (k : Host)
+    → WorkKept gc h es [] (s ∷ ss) k → Next gc h es [] (s ∷ ss) k (OwnersOf gc.network s.kind) Fault
 ask_fault gc h es s ss k v = record {
   stays = v.stays;
   covered = λ kind. carry_all gc es (record { call = OwnersOf gc.network s.kind; reply = Fault }) [] [] (s ∷ ss) ss kind (tags_of k kind) (λ t w. grind (arith, w)) (v.covered kind);
@@ -121,12 +124,14 @@ ask_fault gc h es s ss k v = record {
   well = let w = v.well in grind (arith, w);
 }
 
-sole_all : (kind : Kind) (t : Tag) (s : Sweep) (xs : List Att) → is_sole kind s.step s.more ≡ true → list_any (λ a. does kind t (job_of s a)) xs ≡ has_att xs t
+sole_all : (kind : Kind) (t : Tag) (s : Sweep) (xs : List Att) → is_sole kind s.step s.more ≡ true
+    → list_any (λ a. does kind t (job_of s a)) xs ≡ has_att xs t
 sole_all kind t s [] h = refl
 sole_all kind t s (x ∷ xs) h = grind (arith, h, sole_all kind t s xs h)
 
 -- the owners of a kind that is deleted alone
-cover_owners : (gc : Gc) (es : List Made) (e : Made) (s : Sweep) (ss : List Sweep) (k : Host) → is_sole s.kind s.step s.more ≡ true
+cover_owners : (gc : Gc) (es : List Made) (e : Made) (s : Sweep) (ss : List Sweep) (k : Host)
+    → is_sole s.kind s.step s.more ≡ true
     → list_all (is_covered gc (es ++ e ∷ []) (map (job_of s) (stale_owners gc.network gc.valid (tags_of k s.kind))) ss s.kind) (tags_of k s.kind) ≡ true
 cover_owners gc es e s ss k sole =
     let owners = stale_owners gc.network gc.valid (tags_of k s.kind) in
@@ -134,7 +139,8 @@ cover_owners gc es e s ss k sole =
     (λ t w. let j : has_job s.kind t (map (job_of s) owners) ≡ has_att owners t = list_any-map (does s.kind t) (job_of s) owners ∙ sole_all s.kind t s owners sole in grind (arith, w, j))
     (tags_of k s.kind) (owners_cover gc.network gc.valid (tags_of k s.kind))
 
-ask_covered : (gc : Gc) (h : Host) (es : List Made) (e : Made) (s : Sweep) (ss : List Sweep) (k : Host) → WorkKept gc h es [] (s ∷ ss) k → (kind : Kind)
+ask_covered : (gc : Gc) (h : Host) (es : List Made) (e : Made) (s : Sweep) (ss : List Sweep) (k : Host)
+    → WorkKept gc h es [] (s ∷ ss) k → (kind : Kind)
     → list_all (is_covered gc (es ++ e ∷ []) (map (job_of s) (stale_owners gc.network gc.valid (tags_of k s.kind))) ss kind) (tags_of k kind) ≡ true
 ask_covered gc h es e s ss k v kind =
     let js = map (job_of s) (stale_owners gc.network gc.valid (tags_of k s.kind)) in
@@ -146,7 +152,9 @@ ask_covered gc h es e s ss k v kind =
     (λ never. let w = v.well in cover_owners gc es e s ss k (grind (arith, w, never)))))
     (λ other. carry_all gc es e [] js (s ∷ ss) ss kind (tags_of k kind) (λ t w. grind (arith, w, other)) (v.covered kind))
 
-ask_owners : (gc : Gc) (h : Host) (es : List Made) (s : Sweep) (ss : List Sweep) (k : Host) → WorkKept gc h es [] (s ∷ ss) k → Next gc h es [] (s ∷ ss) k (OwnersOf gc.network s.kind) (apply k (OwnersOf gc.network s.kind)).1
+ask_owners : (gc : Gc) (h : Host) (es : List Made) (s : Sweep) (ss : List Sweep) (k : Host)
+    → WorkKept gc h es [] (s ∷ ss) k
+    → Next gc h es [] (s ∷ ss) k (OwnersOf gc.network s.kind) (apply k (OwnersOf gc.network s.kind)).1
 ask_owners gc h es s ss k v = record {
   stays = v.stays;
   covered = ask_covered gc h es (record { call = OwnersOf gc.network s.kind; reply = (apply k (OwnersOf gc.network s.kind)).1 }) s ss k v;
@@ -157,11 +165,13 @@ ask_owners gc h es s ss k v = record {
 -- ---- the steps of an owner
 
 -- what follows a step still does what was to be done beside it
-done_more : (kind : Kind) (t : Tag) (att : Att) (more : List Step) (js : List Job) → has_job kind t js ≡ true → has_job kind t (after_step att more js) ≡ true
+done_more : (kind : Kind) (t : Tag) (att : Att) (more : List Step) (js : List Job) → has_job kind t js ≡ true
+    → has_job kind t (after_step att more js) ≡ true
 done_more kind t att [] js h = h
 done_more kind t att (s ∷ more) js h = grind (arith, h)
 
-pub done_stale : (network : List ℕ) (valid : List ValidAtt) (att : Att) (more : List Step) (js : List Job) → is_stale network valid att ≡ true → list_all (λ (j : Job). is_stale network valid j.att) js ≡ true
+pub done_stale : (network : List ℕ) (valid : List ValidAtt) (att : Att) (more : List Step) (js : List Job)
+    → is_stale network valid att ≡ true → list_all (λ (j : Job). is_stale network valid j.att) js ≡ true
     → list_all (λ (j : Job). is_stale network valid j.att) (after_step att more js) ≡ true
 done_stale network valid att [] js h g = g
 done_stale network valid att (s ∷ more) js h g = grind (arith, h, g)
@@ -169,7 +179,9 @@ done_stale network valid att (s ∷ more) js h g = grind (arith, h, g)
 abbrev job : Att → Step → List Step → Job
 job att step more = record { att = att; step = step; more = more }
 
-look_fault : (gc : Gc) (h : Host) (es : List Made) (att : Att) (more : List Step) (js : List Job) (ss : List Sweep) (k : Host) → WorkKept gc h es (job att AskCached more ∷ js) ss k → Next gc h es (job att AskCached more ∷ js) ss k (CacheGet att) Fault
+look_fault : (gc : Gc) (h : Host) (es : List Made) (att : Att) (more : List Step) (js : List Job) (ss : List Sweep) (k : Host)
+    → WorkKept gc h es (job att AskCached more ∷ js) ss k
+    → Next gc h es (job att AskCached more ∷ js) ss k (CacheGet att) Fault
 look_fault gc h es att more js ss k v = record {
   stays = v.stays;
   covered = λ kind. carry_all gc es (record { call = CacheGet att; reply = Fault }) (job att AskCached more ∷ js) js ss ss kind (tags_of k kind) (λ t w. grind (arith, w)) (v.covered kind);
@@ -177,7 +189,9 @@ look_fault gc h es att more js ss k v = record {
   well = v.well;
 }
 
-look_entry : (gc : Gc) (h : Host) (es : List Made) (att : Att) (more : List Step) (js : List Job) (ss : List Sweep) (k : Host) → WorkKept gc h es (job att AskCached more ∷ js) ss k → Next gc h es (job att AskCached more ∷ js) ss k (CacheGet att) (apply k (CacheGet att)).1
+look_entry : (gc : Gc) (h : Host) (es : List Made) (att : Att) (more : List Step) (js : List Job) (ss : List Sweep) (k : Host)
+    → WorkKept gc h es (job att AskCached more ∷ js) ss k
+    → Next gc h es (job att AskCached more ∷ js) ss k (CacheGet att) (apply k (CacheGet att)).1
 look_entry gc h es att more js ss k v = record {
   stays = v.stays;
   covered = λ kind. carry_all gc es (record { call = CacheGet att; reply = (apply k (CacheGet att)).1 }) (job att AskCached more ∷ js) (after_step att more js) ss ss kind (tags_of k kind) (λ t w. grind (arith, w, done_more kind t att more js)) (v.covered kind);
@@ -189,7 +203,9 @@ sole_drop : (kind : Kind) (d : Kind) (more : List Step) → is_sole kind (Delete
 sole_drop kind d [] h = h
 sole_drop kind d (s ∷ more) h = cc
 
-drop_fault : (gc : Gc) (h : Host) (es : List Made) (att : Att) (d : Kind) (more : List Step) (js : List Job) (ss : List Sweep) (k : Host) → WorkKept gc h es (job att (Delete d) more ∷ js) ss k → Next gc h es (job att (Delete d) more ∷ js) ss k (deletion att d) Fault
+drop_fault : (gc : Gc) (h : Host) (es : List Made) (att : Att) (d : Kind) (more : List Step) (js : List Job) (ss : List Sweep) (k : Host)
+    → WorkKept gc h es (job att (Delete d) more ∷ js) ss k
+    → Next gc h es (job att (Delete d) more ∷ js) ss k (deletion att d) Fault
 drop_fault gc h es att d more js ss k v = record {
   stays = v.stays;
   covered = λ kind. carry_all gc es (record { call = deletion att d; reply = Fault }) (job att (Delete d) more ∷ js) js ss ss kind (tags_of k kind)
@@ -198,7 +214,8 @@ drop_fault gc h es att d more js ss k v = record {
   well = v.well;
 }
 
-drop_gone : (gc : Gc) (h : Host) (es : List Made) (att : Att) (d : Kind) (more : List Step) (js : List Job) (ss : List Sweep) (k : Host) → WorkKept gc h es (job att (Delete d) more ∷ js) ss k
+drop_gone : (gc : Gc) (h : Host) (es : List Made) (att : Att) (d : Kind) (more : List Step) (js : List Job) (ss : List Sweep) (k : Host)
+    → WorkKept gc h es (job att (Delete d) more ∷ js) ss k
     → Next gc h es (job att (Delete d) more ∷ js) ss k (deletion att d) (Gone true)
 drop_gone gc h es att d more js ss k v =
     let k' = (apply k (deletion att d)).0 in
@@ -223,7 +240,8 @@ empty_covered gc es e att d more js ss k none kind c =
     (tags_of k kind) (list_all-none (is_own att) (tags_of k kind) (subst (λ x. list_any (is_own att) (tags_of k x) ≡ false) is none)) c)
     (λ other. carry_all gc es e (job att (Delete d) more ∷ js) (after_step att more js) ss ss kind (tags_of k kind) (λ t w. grind (arith, w, other, sole_drop kind d more, done_more kind t att more js)) c)
 
-drop_empty : (gc : Gc) (h : Host) (es : List Made) (att : Att) (d : Kind) (more : List Step) (js : List Job) (ss : List Sweep) (k : Host) → WorkKept gc h es (job att (Delete d) more ∷ js) ss k
+drop_empty : (gc : Gc) (h : Host) (es : List Made) (att : Att) (d : Kind) (more : List Step) (js : List Job) (ss : List Sweep) (k : Host)
+    → WorkKept gc h es (job att (Delete d) more ∷ js) ss k
     → list_any (is_own att) (tags_of k d) ≡ false → Next gc h es (job att (Delete d) more ∷ js) ss k (deletion att d) (Gone false)
 drop_empty gc h es att d more js ss k v none =
     let w = v.stale in
@@ -237,12 +255,14 @@ drop_empty gc h es att d more js ss k v none =
       well = v.well;
     })
 
-drop_by : (gc : Gc) (h : Host) (es : List Made) (att : Att) (d : Kind) (more : List Step) (js : List Job) (ss : List Sweep) (k : Host) → WorkKept gc h es (job att (Delete d) more ∷ js) ss k
+drop_by : (gc : Gc) (h : Host) (es : List Made) (att : Att) (d : Kind) (more : List Step) (js : List Job) (ss : List Sweep) (k : Host)
+    → WorkKept gc h es (job att (Delete d) more ∷ js) ss k
     → (b : Bool) → list_any (is_own att) (tags_of k d) ≡ b → Next gc h es (job att (Delete d) more ∷ js) ss k (deletion att d) (Gone b)
 drop_by gc h es att d more js ss k v true is = drop_gone gc h es att d more js ss k v
 drop_by gc h es att d more js ss k v false is = drop_empty gc h es att d more js ss k v is
 
-step_by : (gc : Gc) (h : Host) (es : List Made) (att : Att) (step : Step) (more : List Step) (js : List Job) (ss : List Sweep) (k : Host) (faulty : Bool) → WorkKept gc h es (job att step more ∷ js) ss k
+step_by : (gc : Gc) (h : Host) (es : List Made) (att : Att) (step : Step) (more : List Step) (js : List Job) (ss : List Sweep) (k : Host) (faulty : Bool)
+    → WorkKept gc h es (job att step more ∷ js) ss k
     → Next gc h es (job att step more ∷ js) ss k (step_call att step) (reply_to k (step_call att step) faulty)
 step_by gc h es att AskCached more js ss k true v = look_fault gc h es att more js ss k v
 step_by gc h es att AskCached more js ss k false v = look_entry gc h es att more js ss k v
@@ -253,7 +273,9 @@ step_by gc h es att (Delete d) more js ss k false v =
 
 -- ---- any call
 
-pub work_step : (gc : Gc) (h : Host) (es : List Made) (js : List Job) (ss : List Sweep) (k : Host) (call : Call) (faulty : Bool) → call_of_work gc.network js ss ≡ Some call → WorkKept gc h es js ss k → Next gc h es js ss k call (reply_to k call faulty)
+pub work_step : (gc : Gc) (h : Host) (es : List Made) (js : List Job) (ss : List Sweep) (k : Host) (call : Call) (faulty : Bool)
+    → call_of_work gc.network js ss ≡ Some call → WorkKept gc h es js ss k
+    → Next gc h es js ss k call (reply_to k call faulty)
 work_step gc h es [] [] k call faulty is v = absurd (none-some call is)
 work_step gc h es [] (s ∷ ss) k call true is v =
     let P : Call → Type 0 = λ c. Next gc h es [] (s ∷ ss) k c Fault in
@@ -272,7 +294,8 @@ asked gc t Settings = grind arith
 asked gc t Leases = grind arith
 asked gc t Cached = grind arith
 
-covered_start : (gc : Gc) (h : Host) (kind : Kind) → list_all (is_covered gc [] [] (all_sweeps gc.kinds) kind) (tags_of h kind) ≡ true
+covered_start : (gc : Gc) (h : Host) (kind : Kind)
+    → list_all (is_covered gc [] [] (all_sweeps gc.kinds) kind) (tags_of h kind) ≡ true
 covered_start gc h kind = all_true (is_covered gc [] [] (all_sweeps gc.kinds) kind) (λ t. asked gc t kind) (tags_of h kind)
 
 pub work_start : (gc : Gc) (h : Host) → IsSound h → WorkKept gc h [] [] (all_sweeps gc.kinds) h

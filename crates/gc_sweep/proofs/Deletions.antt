@@ -47,7 +47,8 @@ deletes_first a kind h tag_of xs put left any is_left is_any tags same less soun
 
 -- ---- links go with their peers
 
-deletes_found : (a : Att) (h : Host) (o : Option Link) → find (λ l. is_own a l.tag) h.links ≡ o → IsSound (without_link h o).0 → RemovesOwn a h (without_link h o).0 → Deletes a Links h (without_link h o)
+deletes_found : (a : Att) (h : Host) (o : Option Link) → find (λ l. is_own a l.tag) h.links ≡ o
+    → IsSound (without_link h o).0 → RemovesOwn a h (without_link h o).0 → Deletes a Links h (without_link h o)
 deletes_found a h None is sound removes =
     let any = list_any-map (is_own a) (λ (x : Link). x.tag) h.links in
     let none = list_any-find_none (λ l. is_own a l.tag) h.links is in
@@ -85,12 +86,14 @@ deletes a Cached h sound =
 
 -- ---- an attachment that has nothing
 
-without-none : (att : Att) (k : Host) (o : Option Link) → find (λ l. is_own att l.tag) k.links ≡ o → list_any (λ l. is_own att l.tag) k.links ≡ false → (without_link k o).0 ≡ k
+without-none : (att : Att) (k : Host) (o : Option Link) → find (λ l. is_own att l.tag) k.links ≡ o
+    → list_any (λ l. is_own att l.tag) k.links ≡ false → (without_link k o).0 ≡ k
 without-none att k None found none = refl
 without-none att k (Some link) found none = absurd (let there = any-found (λ l. is_own att l.tag) (λ l. is_own att l.tag) k.links link found (passes-find (λ l. is_own att l.tag) k.links link found) in let e : true ≡ false = sym there ∙ none in cc)
 
 -- where nothing is the attachment's, a deletion leaves the host
-pub deletion-none : (att : Att) (k : Host) (kind : Kind) → share_of att k ≡ no_objects → (apply k (deletion att kind)).0 ≡ k
+pub deletion-none : (att : Att) (k : Host) (kind : Kind) → share_of att k ≡ no_objects
+    → (apply k (deletion att kind)).0 ≡ k
 deletion-none att k Links none = without-none att k (find (λ l. is_own att l.tag) k.links) refl (empty_none (λ l. is_own att l.tag) k.links (ap (λ (s : Share). s.links) none))
 deletion-none att k Rules none = ap (λ l. record k { rules = l }) (without_first-none (λ r. is_own att r.tag) k.rules (empty_none (λ r. is_own att r.tag) k.rules (ap (λ (s : Share). s.rules) none)))
 deletion-none att k Settings none = ap (λ l. record k { settings = l }) (without_first-none (λ r. is_own att r.tag) k.settings (empty_none (λ r. is_own att r.tag) k.settings (ap (λ (s : Share). s.settings) none)))

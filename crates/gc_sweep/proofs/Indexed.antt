@@ -19,7 +19,9 @@ named-ties att v =
 nothing : ValidAtt
 nothing = record { container = []; ifname = [] }
 
-pub found-valid : (att : Att) (index : List ValidAtt) (r : Result ℕ ℕ) → AreInOrder index → IsSearchInRange r (length index) → IsBinarySearchResult (λ v. names_cmp (names_of v) (att.container, att.ifname)) index r
+pub found-valid : (att : Att) (index : List ValidAtt) (r : Result ℕ ℕ) → AreInOrder index
+    → IsSearchInRange r (length index)
+    → IsBinarySearchResult (λ v. names_cmp (names_of v) (att.container, att.ifname)) index r
     → is_ok r ≡ is_valid index att
 found-valid att index (Ok i) order within found = sym (list_any_at (is_named att) index i nothing within (named-ties att _ ∙ ap is_eq (found nothing)))
 found-valid att index (Err i) order within found =

@@ -23,7 +23,8 @@ use Rattle.gc_sweep.proofs.Runs.{early_not_yes}
 
 -- ---- a whole run
 
-pub run_kept : (gc : Gc) (h : Host) (es : List Made) (s : Point) (k : Host) (rest : List Made) → WorkKept gc h es s.work.jobs s.work.sweeps k → IsTrail gc s k rest
+pub run_kept : (gc : Gc) (h : Host) (es : List Made) (s : Point) (k : Host) (rest : List Made)
+    → WorkKept gc h es s.work.jobs s.work.sweeps k → IsTrail gc s k rest
     → WorkKept gc h (es ++ rest) (point_from gc s rest).work.jobs (point_from gc s rest).work.sweeps (host_from k rest)
 run_kept gc h es s k [] v run = subst (λ l. WorkKept gc h l s.work.jobs s.work.sweeps k) (sym (append-nil es)) v
 run_kept gc h es s k (e ∷ rest) v run =
@@ -33,7 +34,8 @@ run_kept gc h es s k (e ∷ rest) v run =
     subst (λ l. WorkKept gc h l (point_from gc t rest).work.jobs (point_from gc t rest).work.sweeps (host_from (host_on k e) rest)) (append_assoc es (e ∷ []) rest)
     (run_kept gc h (es ++ e ∷ []) t (host_on k e) rest next run.2)
 
-pub run_from_start : (gc : Gc) (h : Host) (es : List Made) → IsSound h → IsTrail gc (start_point gc) h es → WorkKept gc h es (point_from gc (start_point gc) es).work.jobs (point_from gc (start_point gc) es).work.sweeps (host_from h es)
+pub run_from_start : (gc : Gc) (h : Host) (es : List Made) → IsSound h → IsTrail gc (start_point gc) h es
+    → WorkKept gc h es (point_from gc (start_point gc) es).work.jobs (point_from gc (start_point gc) es).work.sweeps (host_from h es)
 run_from_start gc h es sound run = run_kept gc h [] (start_point gc) h es (work_start gc h sound) run
 
 -- ---- faults
@@ -46,7 +48,8 @@ not_noted : (number : ℕ) (faults : List ℕ) (b : Bool) → faults_after numbe
 not_noted number faults true e = absurd (snoc_some faults number e)
 not_noted number faults false e = (e, refl)
 
-pub run_clean : (gc : Gc) (s : Point) (es : List Made) → (point_from gc s es).faults ≡ [] → (s.faults ≡ []) × (list_any (λ (e : Made). is_fault e.reply) es ≡ false)
+pub run_clean : (gc : Gc) (s : Point) (es : List Made) → (point_from gc s es).faults ≡ []
+    → (s.faults ≡ []) × (list_any (λ (e : Made). is_fault e.reply) es ≡ false)
 run_clean gc s [] h = (h, refl)
 run_clean gc s (e ∷ es) h =
     let later = run_clean gc (point_after gc s e.reply) es h in
@@ -55,7 +58,8 @@ run_clean gc s (e ∷ es) h =
     let b = later.1 in
     (here.0, grind (arith, a, b))
 
-clean_blames : (kind : Kind) (t : Tag) (es : List Made) → list_any (λ (e : Made). is_fault e.reply) es ≡ false → is_blamed es kind t ≡ false
+clean_blames : (kind : Kind) (t : Tag) (es : List Made) → list_any (λ (e : Made). is_fault e.reply) es ≡ false
+    → is_blamed es kind t ≡ false
 clean_blames kind t [] h = refl
 clean_blames kind t (e ∷ es) h = grind (arith, h, clean_blames kind t es)
 
@@ -65,30 +69,39 @@ yes_clean : (faults : List ℕ) → swept faults ≡ Yes → faults ≡ []
 yes_clean [] h = refl
 yes_clean (k ∷ ks) h = cc
 
-pub excused_kind : (gc : Gc) (h : Host) (es : List Made) (js : List Job) (ss : List Sweep) (k : Host) → WorkKept gc h es js ss k → js ≡ [] → ss ≡ [] → (kind : Kind) → list_all (is_excused gc.network gc.valid es kind) (tags_of k kind) ≡ true
+pub excused_kind : (gc : Gc) (h : Host) (es : List Made) (js : List Job) (ss : List Sweep) (k : Host)
+    → WorkKept gc h es js ss k → js ≡ [] → ss ≡ [] → (kind : Kind)
+    → list_all (is_excused gc.network gc.valid es kind) (tags_of k kind) ≡ true
 excused_kind gc h es js ss k v none last kind =
     let c : list_all (is_covered gc es [] [] kind) (tags_of k kind) ≡ true = rw (none, last) at (v.covered kind) in
     list_all-weaker (is_covered gc es [] [] kind) (is_excused gc.network gc.valid es kind) (λ t w. grind (arith, w)) (tags_of k kind) c
 
 -- what lies on a link is excused where the link is
-on_link : (gc : Gc) (es : List Made) (t u : Tag) → tag_eq u t ≡ true → is_excused gc.network gc.valid es Links u ≡ true → is_excused gc.network gc.valid es Links t ≡ true
+on_link : (gc : Gc) (es : List Made) (t u : Tag) → tag_eq u t ≡ true → is_excused gc.network gc.valid es Links u ≡ true
+    → is_excused gc.network gc.valid es Links t ≡ true
 on_link gc es Outside u h g = refl
 on_link gc es Base u h g = refl
 on_link gc es (Own a) u h g =
     let own : is_own a u ≡ true = is_own-tag_eq a u (Own a) h ∙ att_eq-refl a in
     subst (λ x. is_excused gc.network gc.valid es Links x ≡ true) (is_own-one a u own) g
 
-link_excused : (gc : Gc) (es : List Made) (links : List Link) (ns name : List ℕ) (t : Tag) → list_all (λ (l : Link). is_excused gc.network gc.valid es Links l.tag) links ≡ true → list_any (is_link_of ns name t) links ≡ true → is_excused gc.network gc.valid es Links t ≡ true
+link_excused : (gc : Gc) (es : List Made) (links : List Link) (ns name : List ℕ) (t : Tag)
+    → list_all (λ (l : Link). is_excused gc.network gc.valid es Links l.tag) links ≡ true
+    → list_any (is_link_of ns name t) links ≡ true → is_excused gc.network gc.valid es Links t ≡ true
 link_excused gc es links ns name t all h =
     from_one (is_link_of ns name t) (λ l. is_excused gc.network gc.valid es Links l.tag) (is_excused gc.network gc.valid es Links t)
     (λ l p q. on_link gc es t l.tag (and_parts (is_at ns name l) (tag_eq l.tag t) p).1 q) links h all
 
-address_excused : (gc : Gc) (es : List Made) (links : List Link) → list_all (λ (l : Link). is_excused gc.network gc.valid es Links l.tag) links ≡ true → (a : AddrObj) (t : Tag) → address_fits_tag links a t ≡ true → is_excused gc.network gc.valid es Links t ≡ true
+address_excused : (gc : Gc) (es : List Made) (links : List Link)
+    → list_all (λ (l : Link). is_excused gc.network gc.valid es Links l.tag) links ≡ true → (a : AddrObj) (t : Tag)
+    → address_fits_tag links a t ≡ true → is_excused gc.network gc.valid es Links t ≡ true
 address_excused gc es links all a Outside h = refl
 address_excused gc es links all a Base h = refl
 address_excused gc es links all a (Own b) h = link_excused gc es links a.ns a.link (Own b) all h
 
-pub excused_all : (gc : Gc) (es : List Made) (k : Host) → IsSound k → ((kind : Kind) → list_all (is_excused gc.network gc.valid es kind) (tags_of k kind) ≡ true) → AreExcused gc.network gc.valid es k
+pub excused_all : (gc : Gc) (es : List Made) (k : Host) → IsSound k
+    → ((kind : Kind) → list_all (is_excused gc.network gc.valid es kind) (tags_of k kind) ≡ true)
+    → AreExcused gc.network gc.valid es k
 excused_all gc es k sound all =
     let links : list_all (λ (l : Link). is_excused gc.network gc.valid es Links l.tag) k.links ≡ true = sym (list_all-map (is_excused gc.network gc.valid es Links) (λ (l : Link). l.tag) k.links) ∙ all Links in
     record {
@@ -112,7 +125,8 @@ outside_stays gc Outside h = refl
 outside_stays gc Base h = cc
 outside_stays gc (Own a) h = cc
 
-pub namespaces_stay : (gc : Gc) (k : Host) → IsSound k → filter (λ (n : NsObj). stays gc.network gc.valid n.tag) k.namespaces ≡ k.namespaces
+pub namespaces_stay : (gc : Gc) (k : Host) → IsSound k
+    → filter (λ (n : NsObj). stays gc.network gc.valid n.tag) k.namespaces ≡ k.namespaces
 namespaces_stay gc k sound =
     filter_all (λ (n : NsObj). stays gc.network gc.valid n.tag) k.namespaces
     (list_all-weaker (λ n. tag_eq n.tag Outside) (λ n. stays gc.network gc.valid n.tag) (λ n w. outside_stays gc n.tag w) k.namespaces sound.namespaces.tags)
@@ -132,10 +146,12 @@ keep_within gc k sound = record {
   lasts = refl;
 }
 
-bounded : (gc : Gc) (c : Command) (h k : Host) → gc.network ≡ c.network → gc.valid ≡ c.valid → Stays gc h k → Bounds c h k
+bounded : (gc : Gc) (c : Command) (h k : Host) → gc.network ≡ c.network → gc.valid ≡ c.valid → Stays gc h k
+    → Bounds c h k
 bounded gc c h k network valid s = record { lower = subst (λ x. IsWithin x k) (s.kept ∙ ap (λ n. keep n gc.valid h) network ∙ ap (λ v. keep c.network v h) valid) (keep_within gc k s.sound); upper = s.within }
 
-bounded_early : (list : NetList) (c : Command) (host : Host) (es : List Made) → IsSound host → es ≡ [] → Bounds c host (host_from host es)
+bounded_early : (list : NetList) (c : Command) (host : Host) (es : List Made) → IsSound host → es ≡ []
+    → Bounds c host (host_from host es)
 bounded_early list c host es sound none = subst (λ l. Bounds c host (host_from host l)) (sym none) (bounded (gc_of list c) c host host refl refl (stays_start (gc_of list c) host sound))
 
 pub always_bounded : AlwaysBounded
@@ -146,10 +162,12 @@ always_bounded list c host es gc sound run = elim (early_or list c gc) [
 
 -- ---- Yes
 
-excused_stays : (gc : Gc) (es : List Made) (kind : Kind) (t : Tag) → is_blamed es kind t ≡ false → is_excused gc.network gc.valid es kind t ≡ true → stays gc.network gc.valid t ≡ true
+excused_stays : (gc : Gc) (es : List Made) (kind : Kind) (t : Tag) → is_blamed es kind t ≡ false
+    → is_excused gc.network gc.valid es kind t ≡ true → stays gc.network gc.valid t ≡ true
 excused_stays gc es kind t b e = grind (arith, b, e)
 
-pub keep_all : (gc : Gc) (es : List Made) (k : Host) → IsSound k → list_any (λ (e : Made). is_fault e.reply) es ≡ false → AreExcused gc.network gc.valid es k → keep gc.network gc.valid k ≡ k
+pub keep_all : (gc : Gc) (es : List Made) (k : Host) → IsSound k → list_any (λ (e : Made). is_fault e.reply) es ≡ false
+    → AreExcused gc.network gc.valid es k → keep gc.network gc.valid k ≡ k
 keep_all gc es k sound clean x =
     let w = λ (kind : Kind) (t : Tag). excused_stays gc es kind t (clean_blames kind t es clean) in
     let by = λ (kind : Kind). list_all-weaker (is_excused gc.network gc.valid es kind) (stays gc.network gc.valid) (w kind) (tags_of k kind) (x.of_kind kind) in
@@ -164,7 +182,9 @@ keep_all gc es k sound clean x =
     (filter_all (λ l. stays gc.network gc.valid l.tag) k.cached (sym (list_all-map (stays gc.network gc.valid) (λ l. l.tag) k.cached) ∙ by Cached))
     refl
 
-yes_keeps_collected : (list : NetList) (c : Command) (host : Host) (es : List Made) → is_gc c.verb ≡ true → IsCollected list → IsSound host → IsRun list c host es → Ends list c es Yes → host_from host es ≡ keep c.network c.valid host
+yes_keeps_collected : (list : NetList) (c : Command) (host : Host) (es : List Made) → is_gc c.verb ≡ true
+    → IsCollected list → IsSound host → IsRun list c host es → Ends list c es Yes
+    → host_from host es ≡ keep c.network c.valid host
 yes_keeps_collected list c host es gc collected sound run ends =
     let g = gc_of list c in
     let p = point_from g (start_point g) es in
@@ -181,7 +201,8 @@ yes_keeps list c host es gc sound run ends = elim (early_or list c gc) [
 
 -- ---- the numbers of faulty calls
 
-noted_rest : (made : ℕ) (faults : List ℕ) (b : Bool) (rest : List ℕ) → faults_after (made + 1) faults b ++ rest ≡ faults ++ (if b then (made + 1) ∷ rest else rest)
+noted_rest : (made : ℕ) (faults : List ℕ) (b : Bool) (rest : List ℕ)
+    → faults_after (made + 1) faults b ++ rest ≡ faults ++ (if b then (made + 1) ∷ rest else rest)
 noted_rest made faults true rest = append_assoc faults ((made + 1) ∷ []) rest
 noted_rest made faults false rest = refl
 

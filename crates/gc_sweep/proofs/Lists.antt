@@ -25,7 +25,8 @@ drops-same old new e = subst (DropsOnly (λ x. true) old) (sym e) (DropsOnly-not
 pub drops-filter : {X : Type 0} (keep : X → Bool) (xs : List X) → DropsOnly (λ x. true) xs (filter keep xs)
 drops-filter keep xs = DropsOnly-filter (λ x. true) keep xs (all_true (λ x. keep x || true) (λ x. grind arith) xs)
 
-pub drops-trans : {X : Type 0} (gone : X → Bool) (xs ys zs : List X) → DropsOnly gone xs ys → DropsOnly gone ys zs → DropsOnly gone xs zs
+pub drops-trans : {X : Type 0} (gone : X → Bool) (xs ys zs : List X) → DropsOnly gone xs ys → DropsOnly gone ys zs
+    → DropsOnly gone xs zs
 drops-trans gone [] ys zs p q = subst (λ l. DropsOnly gone l zs) p q
 drops-trans gone (x ∷ xs) [] [] p q = p
 drops-trans gone (x ∷ xs) [] (z ∷ zs) p q = cc
@@ -43,12 +44,14 @@ drops-trans gone (x ∷ xs) (y ∷ ys) (z ∷ zs) p q =
       | inr drop ↦ inr (drop.0, drops-trans gone xs (y ∷ ys) (z ∷ zs) drop.1 q)
     ]
 
-pub drops-map : {X Y : Type 0} (f : X → Y) (xs ys : List X) → DropsOnly (λ x. true) xs ys → DropsOnly (λ y. true) (map f xs) (map f ys)
+pub drops-map : {X Y : Type 0} (f : X → Y) (xs ys : List X) → DropsOnly (λ x. true) xs ys
+    → DropsOnly (λ y. true) (map f xs) (map f ys)
 drops-map f [] ys d = ap (map f) d
 drops-map f (x ∷ xs) [] d = (refl, drops-map f xs [] d.1)
 drops-map f (x ∷ xs) (y ∷ ys) d = elim d [ inl same ↦ inl (ap f same.0, drops-map f xs ys same.1) | inr drop ↦ inr (refl, drops-map f xs (y ∷ ys) drop.1) ]
 
-pub list_all-drops : {X : Type 0} (p gone : X → Bool) (xs ys : List X) → DropsOnly gone xs ys → list_all p xs ≡ true → list_all p ys ≡ true
+pub list_all-drops : {X : Type 0} (p gone : X → Bool) (xs ys : List X) → DropsOnly gone xs ys → list_all p xs ≡ true
+    → list_all p ys ≡ true
 list_all-drops p gone [] ys d h = ap (list_all p) d
 list_all-drops p gone (x ∷ xs) [] d h = refl
 list_all-drops p gone (x ∷ xs) (y ∷ ys) d h =
@@ -61,7 +64,8 @@ count_step : {X : Type 0} (b : Bool) (x : X) (ys : List X) → length ys ≤ len
 count_step true x ys = omega arith
 count_step false x ys = omega arith
 
-pub count_drops : {X : Type 0} (p gone : X → Bool) (xs ys : List X) → DropsOnly gone xs ys → length (filter p ys) ≤ length (filter p xs)
+pub count_drops : {X : Type 0} (p gone : X → Bool) (xs ys : List X) → DropsOnly gone xs ys
+    → length (filter p ys) ≤ length (filter p xs)
 count_drops p gone [] ys d = rw d (omega arith)
 count_drops p gone (x ∷ xs) [] d = omega arith
 count_drops p gone (x ∷ xs) (y ∷ ys) d =
@@ -79,7 +83,8 @@ filter_all p (x ∷ xs) h = grind (arith, h, filter_all p xs)
 pub filter_every : {X : Type 0} (xs : List X) → filter (λ x. true) xs ≡ xs
 filter_every xs = filter_all (λ x. true) xs (all_true (λ x. true) (λ x. refl) xs)
 
-pub count_append : {X : Type 0} (p : X → Bool) (xs ys : List X) → length (filter p (xs ++ ys)) ≡ length (filter p xs) + length (filter p ys)
+pub count_append : {X : Type 0} (p : X → Bool) (xs ys : List X)
+    → length (filter p (xs ++ ys)) ≡ length (filter p xs) + length (filter p ys)
 count_append p xs ys = ap length (filter-append p xs ys) ∙ length-append (filter p xs) (filter p ys)
 
 pub fewer_filter : {X : Type 0} (p : X → Bool) (xs : List X) → length (filter p xs) ≤ length xs
@@ -87,29 +92,35 @@ fewer_filter p xs = rw (length-filter p xs) (count_by-le-length p xs)
 
 -- ---- fewer, where one goes
 
-pub count_without_first : {X : Type 0} (own counts : X → Bool) → ((x : X) → own x ≡ true → counts x ≡ true) → (xs : List X)
+pub count_without_first : {X : Type 0} (own counts : X → Bool) → ((x : X) → own x ≡ true → counts x ≡ true)
+    → (xs : List X)
     → length (filter counts (without_first own xs)) + one_if (list_any own xs) ≤ length (filter counts xs)
 count_without_first own counts w [] = omega arith
 count_without_first own counts w (x ∷ xs) = grind (arith, w x, count_without_first own counts w xs)
 
-pub length-without_first : {X : Type 0} (own : X → Bool) (xs : List X) → length (without_first own xs) + one_if (list_any own xs) ≤ length xs
+pub length-without_first : {X : Type 0} (own : X → Bool) (xs : List X)
+    → length (without_first own xs) + one_if (list_any own xs) ≤ length xs
 length-without_first own xs = rw (filter_every (without_first own xs), filter_every xs) at (count_without_first own (λ x. true) (λ x h. refl) xs)
 
 -- the element that was found counts and goes, so fewer count
-pub count_found : {X : Type 0} (own gone counts : X → Bool) (xs : List X) (y : X) → find own xs ≡ Some y → gone y ≡ true → counts y ≡ true
+pub count_found : {X : Type 0} (own gone counts : X → Bool) (xs : List X) (y : X) → find own xs ≡ Some y → gone y ≡ true
+    → counts y ≡ true
     → length (filter counts (filter (λ x. not (gone x)) xs)) + 1 ≤ length (filter counts xs)
 count_found own gone counts [] y f g w = cc
 count_found own gone counts (x ∷ xs) y f g w =
     let rest = count_drops counts (λ z. true) xs (filter (λ z. not (gone z)) xs) (drops-filter (λ z. not (gone z)) xs) in grind (arith, f, g, w, rest, count_found own gone counts xs y)
 
-pub length-found : {X : Type 0} (own gone : X → Bool) (xs : List X) (y : X) → find own xs ≡ Some y → gone y ≡ true → length (filter (λ x. not (gone x)) xs) + 1 ≤ length xs
+pub length-found : {X : Type 0} (own gone : X → Bool) (xs : List X) (y : X) → find own xs ≡ Some y → gone y ≡ true
+    → length (filter (λ x. not (gone x)) xs) + 1 ≤ length xs
 length-found own gone xs y f g = rw (filter_every (filter (λ x. not (gone x)) xs), filter_every xs) at (count_found own gone (λ x. true) xs y f g refl)
 
 -- ---- some
 
-pub list_any-snoc : {X : Type 0} (p : X → Bool) (xs : List X) (y : X) → list_any p (xs ++ y ∷ []) ≡ (list_any p xs || p y)
+pub list_any-snoc : {X : Type 0} (p : X → Bool) (xs : List X) (y : X)
+    → list_any p (xs ++ y ∷ []) ≡ (list_any p xs || p y)
 list_any-snoc p xs y = let e = list_any-append p xs (y ∷ []) in grind (arith, e)
 
-pub any-found : {X : Type 0} (p q : X → Bool) (xs : List X) (y : X) → find p xs ≡ Some y → q y ≡ true → list_any q xs ≡ true
+pub any-found : {X : Type 0} (p q : X → Bool) (xs : List X) (y : X) → find p xs ≡ Some y → q y ≡ true
+    → list_any q xs ≡ true
 any-found p q [] y is h = cc
 any-found p q (x ∷ xs) y is h = grind (arith, is, h, any-found p q xs y)

@@ -27,7 +27,8 @@ pub HasKindsAlone-nothing : (ks : List Kind) → HasKindsAlone ks no_objects
 HasKindsAlone-nothing ks = record { links = λ _. refl; rules = λ _. refl; settings = λ _. refl; leases = λ _. refl; cached = λ _. refl }
 
 -- a call of these kinds keeps it so
-pub HasKindsAlone-call : (ks : List Kind) (s : Share) (call : Call) → is_of_kinds ks call ≡ true → HasKindsAlone ks s → HasKindsAlone ks (share_after_call s call)
+pub HasKindsAlone-call : (ks : List Kind) (s : Share) (call : Call) → is_of_kinds ks call ≡ true → HasKindsAlone ks s
+    → HasKindsAlone ks (share_after_call s call)
 HasKindsAlone-call ks s (VethAdd h i) fits w = record { links = λ g. absurd (both_ways (has_kind kinds.Links ks) g fits); rules = w.rules; settings = w.settings; leases = w.leases; cached = w.cached }
 HasKindsAlone-call ks s (MacvlanAdd l) fits w = record { links = λ g. absurd (both_ways (has_kind kinds.Links ks) g fits); rules = w.rules; settings = w.settings; leases = w.leases; cached = w.cached }
 HasKindsAlone-call ks s (LinkSet a b d e f g i) fits w = record { links = λ h. ap (map _) (w.links h); rules = w.rules; settings = w.settings; leases = w.leases; cached = w.cached }
@@ -40,11 +41,13 @@ HasKindsAlone-call ks s _ fits w = w
 
 -- ---- what removes only keeps a share within its kinds
 
-pub still_none : {X : Type 0} (p gone : X → Bool) (old new : List X) → DropsOnly gone old new → filter p old ≡ [] → filter p new ≡ []
+pub still_none : {X : Type 0} (p gone : X → Bool) (old new : List X) → DropsOnly gone old new → filter p old ≡ []
+    → filter p new ≡ []
 still_none p gone old new d h =
     filter_never p (λ x. not (p x)) (λ x fails. not-true (p x) fails) new (list_all-drops (λ x. not (p x)) gone old new d (list_all-none p old (empty_none p old h)))
 
-pub HasKindsAlone-removes : (att : Att) (ks : List Kind) (old new : Host) → OnlyRemoves old new → HasKindsAlone ks (share_of att old) → HasKindsAlone ks (share_of att new)
+pub HasKindsAlone-removes : (att : Att) (ks : List Kind) (old new : Host) → OnlyRemoves old new
+    → HasKindsAlone ks (share_of att old) → HasKindsAlone ks (share_of att new)
 HasKindsAlone-removes att ks old new d w = record {
   links = λ h. still_none (λ l. is_own att l.tag) (λ l. true) old.links new.links d.links (w.links h);
   rules = λ h. still_none (λ r. is_own att r.tag) (λ r. true) old.rules new.rules d.rules (w.rules h);
@@ -54,7 +57,8 @@ HasKindsAlone-removes att ks old new d w = record {
 }
 
 -- what had nothing has nothing
-pub share-removes_none : (att : Att) (old new : Host) → OnlyRemoves old new → share_of att old ≡ no_objects → share_of att new ≡ no_objects
+pub share-removes_none : (att : Att) (old new : Host) → OnlyRemoves old new → share_of att old ≡ no_objects
+    → share_of att new ≡ no_objects
 share-removes_none att old new d none =
     let links = still_none (λ l. is_own att l.tag) (λ l. true) old.links new.links d.links (ap (λ (s : Share). s.links) none) in
     let addresses = still_none (λ l. is_own att l.tag) (λ l. true) old.addresses new.addresses d.addresses (ap (λ (s : Share). s.addresses) none) in

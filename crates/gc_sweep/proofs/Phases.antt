@@ -22,7 +22,8 @@ use Rattle.gc_sweep.specs.{View.{jobs_left, sweeps_after}, declared.place.SweepP
 
 -- ---- the start
 
-starts_by : (list : NetList) (c : Command) (v : Verb) → is_gc v ≡ true → collecting list.version list.disable_gc (start_work (gc_of list c)) [] ≡ start_of list v c
+starts_by : (list : NetList) (c : Command) (v : Verb) → is_gc v ≡ true
+    → collecting list.version list.disable_gc (start_work (gc_of list c)) [] ≡ start_of list v c
 starts_by list c verbs.Add h = cc
 starts_by list c verbs.Check h = cc
 starts_by list c verbs.Del h = cc
@@ -34,7 +35,8 @@ starts_by list c verbs.NsDel h = cc
 starts_by list c verbs.Drop h = cc
 starts_by list c verbs.Flush h = cc
 
-pub starts : (list : NetList) (c : Command) → is_gc c.verb ≡ true → collecting list.version list.disable_gc (start_work (gc_of list c)) [] ≡ start_state list c
+pub starts : (list : NetList) (c : Command) → is_gc c.verb ≡ true
+    → collecting list.version list.disable_gc (start_work (gc_of list c)) [] ≡ start_state list c
 starts list c h = starts_by list c c.verb h
 
 -- ---- the next call
@@ -43,22 +45,27 @@ not_ended : (early : Option Ending) (s : State) → is_some early ≡ false → 
 not_ended None s h = refl
 not_ended (Some ending) s h = cc
 
-pub late : (version : Version) (disabled : Bool) (w : Work) (faults : List ℕ) → is_early version disabled ≡ false → collecting version disabled w faults ≡ Collecting w faults
+pub late : (version : Version) (disabled : Bool) (w : Work) (faults : List ℕ) → is_early version disabled ≡ false
+    → collecting version disabled w faults ≡ Collecting w faults
 late version disabled w faults h = not_ended (early_ending version disabled) (Collecting w faults) h
 
-next_early_by : (early : Option Ending) (s : State) (c : Command) → is_some early ≡ true → next_call c (unless_ended early s) ≡ None
+next_early_by : (early : Option Ending) (s : State) (c : Command) → is_some early ≡ true
+    → next_call c (unless_ended early s) ≡ None
 unfolding next_call
 next_early_by None s c h = cc
 next_early_by (Some ending) s c h = refl
 
-pub next_early : (version : Version) (disabled : Bool) (w : Work) (faults : List ℕ) (c : Command) → is_early version disabled ≡ true → None ≡ next_call c (collecting version disabled w faults)
+pub next_early : (version : Version) (disabled : Bool) (w : Work) (faults : List ℕ) (c : Command)
+    → is_early version disabled ≡ true → None ≡ next_call c (collecting version disabled w faults)
 next_early version disabled w faults c h = sym (next_early_by (early_ending version disabled) (Collecting w faults) c h)
 
-next_working : (c : Command) (w : Work) (faults : List ℕ) → next_call c (Collecting w faults) ≡ call_of_work c.network w.jobs w.sweeps
+next_working : (c : Command) (w : Work) (faults : List ℕ)
+    → next_call c (Collecting w faults) ≡ call_of_work c.network w.jobs w.sweeps
 unfolding next_call
 next_working c w faults = refl
 
-pub next_late : (list : NetList) (c : Command) (p : SweepPlace) (faults : List ℕ) (ks : List Kind) → ks ≡ kinds_of list → is_early list.version list.disable_gc ≡ false
+pub next_late : (list : NetList) (c : Command) (p : SweepPlace) (faults : List ℕ) (ks : List Kind) → ks ≡ kinds_of list
+    → is_early list.version list.disable_gc ≡ false
     → call_of_work c.network (jobs_left ks p) (sweeps_after ks p.stage) ≡ next_call c (collecting list.version list.disable_gc (work_of (kinds_of list) p) faults)
 next_late list c p faults ks same h =
     let w = work_of (kinds_of list) p in
@@ -71,10 +78,12 @@ open_not_ended : (early : Option Ending) (s : State) → IsOpen (unless_ended ea
 open_not_ended None s h = refl
 open_not_ended (Some ending) s h = absurd h
 
-pub open_late : (version : Version) (disabled : Bool) (w : Work) (faults : List ℕ) → IsOpen (collecting version disabled w faults) → is_early version disabled ≡ false
+pub open_late : (version : Version) (disabled : Bool) (w : Work) (faults : List ℕ)
+    → IsOpen (collecting version disabled w faults) → is_early version disabled ≡ false
 open_late version disabled w faults h = open_not_ended (early_ending version disabled) (Collecting w faults) h
 
-advance_working : (list : NetList) (c : Command) (number : ℕ) (w : Work) (faults : List ℕ) (r : Reply) → advance list c number (Collecting w faults) r ≡ Collecting (work_after (gc_of list c) w.jobs w.sweeps r) (faults_after number faults (is_fault r))
+advance_working : (list : NetList) (c : Command) (number : ℕ) (w : Work) (faults : List ℕ) (r : Reply)
+    → advance list c number (Collecting w faults) r ≡ Collecting (work_after (gc_of list c) w.jobs w.sweeps r) (faults_after number faults (is_fault r))
 unfolding advance
 advance_working list c number w faults r = refl
 
@@ -82,7 +91,9 @@ advance_working list c number w faults r = refl
 abbrev pub progress_with : NetList → Command → ℕ → Work → List ℕ → Progress
 progress_with list c made w faults = record { list = Some list; command = c; made = made; state = collecting list.version list.disable_gc w faults }
 
-pub advances : (list : NetList) (c : Command) (made : ℕ) (w v : Work) (faults more : List ℕ) (r : Reply) → IsOpen (collecting list.version list.disable_gc w faults) → v ≡ work_after (gc_of list c) w.jobs w.sweeps r → more ≡ faults_after (made + 1) faults (is_fault r)
+pub advances : (list : NetList) (c : Command) (made : ℕ) (w v : Work) (faults more : List ℕ) (r : Reply)
+    → IsOpen (collecting list.version list.disable_gc w faults) → v ≡ work_after (gc_of list c) w.jobs w.sweeps r
+    → more ≡ faults_after (made + 1) faults (is_fault r)
     → progress_with list c (made + 1) v more ≡ advanced (progress_with list c made w faults) r
 advances list c made w v faults more r opened work note =
     let later = open_late list.version list.disable_gc w faults opened in
@@ -105,19 +116,23 @@ taken list c made ks ls p q faults more r opened ks_is ls_is work note =
 
 -- ---- the answer
 
-pub finish_working : (w : Work) (faults : List ℕ) → finish_of (Collecting w faults) ≡ finish_of_work w.jobs w.sweeps faults
+pub finish_working : (w : Work) (faults : List ℕ)
+    → finish_of (Collecting w faults) ≡ finish_of_work w.jobs w.sweeps faults
 unfolding finish_of
 finish_working w faults = refl
 
-ends_so : (early : Option Ending) (s : State) (ending : Ending) → early ≡ Some ending → Some ending ≡ ending_in (unless_ended early s)
+ends_so : (early : Option Ending) (s : State) (ending : Ending) → early ≡ Some ending
+    → Some ending ≡ ending_in (unless_ended early s)
 unfolding finish_of
 ends_so None s ending is = absurd (none-some ending is)
 ends_so (Some told) s ending is = sym is
 
-pub ends_early : (version : Version) (disabled : Bool) (w : Work) (faults : List ℕ) (ending : Ending) → early_ending version disabled ≡ Some ending → Some ending ≡ ending_in (collecting version disabled w faults)
+pub ends_early : (version : Version) (disabled : Bool) (w : Work) (faults : List ℕ) (ending : Ending)
+    → early_ending version disabled ≡ Some ending → Some ending ≡ ending_in (collecting version disabled w faults)
 ends_early version disabled w faults ending is = ends_so (early_ending version disabled) (Collecting w faults) ending is
 
-ends_working : (jobs : List Job) (sweeps : List Sweep) (faults : List ℕ) (b : Bool) → has_no_work jobs sweeps ≡ b → then_some b (swept faults) ≡ ending_in (Collecting (record { jobs = jobs; sweeps = sweeps }) faults)
+ends_working : (jobs : List Job) (sweeps : List Sweep) (faults : List ℕ) (b : Bool) → has_no_work jobs sweeps ≡ b
+    → then_some b (swept faults) ≡ ending_in (Collecting (record { jobs = jobs; sweeps = sweeps }) faults)
 unfolding finish_of
 ends_working [] [] faults true h = refl
 ends_working [] [] faults false h = cc
@@ -127,7 +142,8 @@ ends_working (j ∷ jobs) sweeps faults true h = cc
 ends_working (j ∷ jobs) sweeps faults false h = refl
 
 -- it is over where no work is left
-pub ends_late : (list : NetList) (p : SweepPlace) (faults : List ℕ) (ks : List Kind) (b : Bool) → IsInRange list ks p → ((kinds : List Kind) → IsPlace kinds p → b ≡ has_no_work (jobs_left kinds p) (sweeps_after kinds p.stage))
+pub ends_late : (list : NetList) (p : SweepPlace) (faults : List ℕ) (ks : List Kind) (b : Bool) → IsInRange list ks p
+    → ((kinds : List Kind) → IsPlace kinds p → b ≡ has_no_work (jobs_left kinds p) (sweeps_after kinds p.stage))
     → is_early list.version list.disable_gc ≡ false → then_some b (swept faults) ≡ ending_in (collecting list.version list.disable_gc (work_of (kinds_of list) p) faults)
 ends_late list p faults ks b range done h =
     let here : IsPlace (kinds_of list) p = subst (λ k. IsPlace k p) range.0 range.1 in
@@ -141,7 +157,8 @@ pub swept_clean : (faults : List ℕ) → (length faults == 0) ≡ true → endi
 swept_clean [] clean = refl
 swept_clean (k ∷ faults) clean = absurd (no_length k faults clean)
 
-pub swept_faulty : (faults : List ℕ) → (length faults == 0) ≡ false → endings.Refused (causes.Faults faults) ≡ swept faults
+pub swept_faulty : (faults : List ℕ) → (length faults == 0) ≡ false
+    → endings.Refused (causes.Faults faults) ≡ swept faults
 swept_faulty [] some = cc
 swept_faulty (k ∷ faults) some = refl
 
@@ -149,7 +166,8 @@ swept_faulty (k ∷ faults) some = refl
 abbrev AnswersSo : NetList → Command → State → Type 0
 AnswersSo list c s = option_map (plain_answer list.version c) (ending_in s) ≡ answer_in (Some list) c s
 
-answers_working : (list : NetList) (c : Command) (jobs : List Job) (sweeps : List Sweep) (faults : List ℕ) → AnswersSo list c (Collecting (record { jobs = jobs; sweeps = sweeps }) faults)
+answers_working : (list : NetList) (c : Command) (jobs : List Job) (sweeps : List Sweep) (faults : List ℕ)
+    → AnswersSo list c (Collecting (record { jobs = jobs; sweeps = sweeps }) faults)
 unfolding finish_of answer_of
 answers_working list c [] [] [] = refl
 answers_working list c [] [] (k ∷ faults) = refl
@@ -164,7 +182,8 @@ answers_skipped : (list : NetList) (c : Command) (skip : Skip) → AnswersSo lis
 unfolding finish_of answer_of
 answers_skipped list c skip = refl
 
-answers_by : (list : NetList) (c : Command) (w : Work) (faults : List ℕ) → AnswersSo list c (collecting list.version list.disable_gc w faults)
+answers_by : (list : NetList) (c : Command) (w : Work) (faults : List ℕ)
+    → AnswersSo list c (collecting list.version list.disable_gc w faults)
 answers_by list c w faults =
     early_ending-cases list.version list.disable_gc (λ early. AnswersSo list c (unless_ended early (Collecting w faults)))
     (λ old. answers_refused list c (causes.TooOld list.version))
@@ -172,5 +191,6 @@ answers_by list c w faults =
     (λ new enabled. answers_working list c w.jobs w.sweeps faults)
 
 -- no ending of a GC has a result of its own
-pub answers : (list : NetList) (c : Command) (w : Work) (faults : List ℕ) (ending : Option Ending) → (let s : State = collecting list.version list.disable_gc w faults in ending ≡ ending_in s → option_map (plain_answer list.version c) ending ≡ answer_in (Some list) c s)
+pub answers : (list : NetList) (c : Command) (w : Work) (faults : List ℕ) (ending : Option Ending)
+    → (let s : State = collecting list.version list.disable_gc w faults in ending ≡ ending_in s → option_map (plain_answer list.version c) ending ≡ answer_in (Some list) c s)
 answers list c w faults ending is = ap (option_map (plain_answer list.version c)) is ∙ answers_by list c w faults

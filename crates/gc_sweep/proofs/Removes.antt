@@ -77,10 +77,12 @@ deletes-deletion att kinds.Settings = refl
 deletes-deletion att kinds.Leases = refl
 deletes-deletion att kinds.Cached = refl
 
-pub removes-deletion : (att : Att) (host : Host) (kind : Kind) → IsSound host → OnlyRemoves host (apply host (deletion att kind)).0
+pub removes-deletion : (att : Att) (host : Host) (kind : Kind) → IsSound host
+    → OnlyRemoves host (apply host (deletion att kind)).0
 removes-deletion att host kind sound = removes-own att host (apply host (deletion att kind)).0 (RemovesOwn-apply host (deletion att kind) att sound (deletes-deletion att kind))
 
-pub removes-outside : (host : Host) (call : Call) → IsSound host → IsAllowed host call → is_from_outside call ≡ true → OnlyRemoves host (apply host call).0
+pub removes-outside : (host : Host) (call : Call) → IsSound host → IsAllowed host call → is_from_outside call ≡ true
+    → OnlyRemoves host (apply host call).0
 removes-outside host (NsChange name true) sound allowed is = removes-namespace host (apply host (NsChange name true)).0 (Touches-apply host (NsChange name true) sound allowed)
 removes-outside host (NsChange name false) sound allowed is = removes-unshared host (apply host (NsChange name false)).0 (Touches-apply host (NsChange name false) sound allowed)
 removes-outside host (Outside change) sound allowed is = removes-unshared host (apply host (Outside change)).0 (Touches-apply host (Outside change) sound allowed)

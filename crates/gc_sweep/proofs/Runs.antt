@@ -16,30 +16,38 @@ use Rattle.gc_sweep.proofs.Phases.{late, starts}
 
 -- ---- the work of a run
 
-trail_of : (list : NetList) (c : Command) (p : Point) (host : Host) (es : List Made) → IsRunFrom list c p.made (Collecting p.work p.faults) host es → IsTrail (gc_of list c) p host es
+trail_of : (list : NetList) (c : Command) (p : Point) (host : Host) (es : List Made)
+    → IsRunFrom list c p.made (Collecting p.work p.faults) host es → IsTrail (gc_of list c) p host es
 unfolding next_call advance
 trail_of list c p host [] run = tt
 trail_of list c p host (e ∷ es) run = (run.0, run.1, trail_of list c (point_after (gc_of list c) p e.reply) (host_on host e) es run.2)
 
-state_is : (list : NetList) (c : Command) (p : Point) (es : List Made) → state_from list c p.made (Collecting p.work p.faults) (replies es) ≡ Collecting (point_from (gc_of list c) p es).work (point_from (gc_of list c) p es).faults
+state_is : (list : NetList) (c : Command) (p : Point) (es : List Made)
+    → state_from list c p.made (Collecting p.work p.faults) (replies es) ≡ Collecting (point_from (gc_of list c) p es).work (point_from (gc_of list c) p es).faults
 unfolding advance
 state_is list c p [] = refl
 state_is list c p (e ∷ es) = state_is list c (point_after (gc_of list c) p e.reply) es
 
 -- ---- the start
 
-pub begins : (list : NetList) (c : Command) → is_gc c.verb ≡ true → IsCollected list → start_state list c ≡ Collecting (start_work (gc_of list c)) []
+pub begins : (list : NetList) (c : Command) → is_gc c.verb ≡ true → IsCollected list
+    → start_state list c ≡ Collecting (start_work (gc_of list c)) []
 begins list c gc collected = sym (starts list c gc) ∙ late list.version list.disable_gc (start_work (gc_of list c)) [] collected
 
-pub trail : (list : NetList) (c : Command) (host : Host) (es : List Made) → is_gc c.verb ≡ true → IsCollected list → IsRun list c host es → IsTrail (gc_of list c) (start_point (gc_of list c)) host es
+pub trail : (list : NetList) (c : Command) (host : Host) (es : List Made) → is_gc c.verb ≡ true → IsCollected list
+    → IsRun list c host es → IsTrail (gc_of list c) (start_point (gc_of list c)) host es
 trail list c host es gc collected run =
     let P : State → Type 0 = λ s. IsRunFrom list c 0 s host es in
     trail_of list c (start_point (gc_of list c)) host es (subst P (begins list c gc collected) run)
 
-finish_is : (ending : Ending) (faults : List ℕ) → ◌≡◌ {A = Option Finish} (Some (record { ending = swept faults; given = [] })) (Some (record { ending = ending; given = [] })) → swept faults ≡ ending
+finish_is : (ending : Ending) (faults : List ℕ)
+    → ◌≡◌ {A = Option Finish} (Some (record { ending = swept faults; given = [] })) (Some (record { ending = ending; given = [] }))
+    → swept faults ≡ ending
 finish_is ending faults e = ap (λ (f : Finish). f.ending) (same_Some (record { ending = swept faults; given = [] }) (record { ending = ending; given = [] }) e)
 
-over_work : (jobs : List Job) (sweeps : List Sweep) (faults : List ℕ) (ending : Ending) → finish_of_work jobs sweeps faults ≡ Some (record { ending = ending; given = [] }) → (jobs ≡ []) × (sweeps ≡ []) × (swept faults ≡ ending)
+over_work : (jobs : List Job) (sweeps : List Sweep) (faults : List ℕ) (ending : Ending)
+    → finish_of_work jobs sweeps faults ≡ Some (record { ending = ending; given = [] })
+    → (jobs ≡ []) × (sweeps ≡ []) × (swept faults ≡ ending)
 over_work [] [] faults ending h = (refl, refl, finish_is ending faults h)
 over_work [] (s ∷ sweeps) faults ending h = absurd (none-some (record { ending = ending; given = [] }) h)
 over_work (j ∷ jobs) sweeps faults ending h = absurd (none-some (record { ending = ending; given = [] }) h)
@@ -50,7 +58,8 @@ pub record IsDone (gc : Gc) (es : List Made) (ending : Ending) : Type 0 where
   pub sweeps : (point_from gc (start_point gc) es).work.sweeps ≡ []
   pub tells : swept (point_from gc (start_point gc) es).faults ≡ ending
 
-pub done : (list : NetList) (c : Command) (es : List Made) (ending : Ending) → is_gc c.verb ≡ true → IsCollected list → Ends list c es ending → IsDone (gc_of list c) es ending
+pub done : (list : NetList) (c : Command) (es : List Made) (ending : Ending) → is_gc c.verb ≡ true → IsCollected list
+    → Ends list c es ending → IsDone (gc_of list c) es ending
 done list c es ending gc collected ends =
     let p = point_from (gc_of list c) (start_point (gc_of list c)) es in
     let state : state_from list c 0 (start_state list c) (replies es) ≡ Collecting p.work p.faults =
@@ -74,18 +83,21 @@ early_or list c gc =
     (λ new enabled state early. inl early)
     (sym (starts list c gc)) refl
 
-over_makes_none : (list : NetList) (c : Command) (ending : Ending) (host : Host) (es : List Made) → IsRunFrom list c 0 (Over ending []) host es → es ≡ []
+over_makes_none : (list : NetList) (c : Command) (ending : Ending) (host : Host) (es : List Made)
+    → IsRunFrom list c 0 (Over ending []) host es → es ≡ []
 unfolding next_call
 over_makes_none list c ending host [] run = refl
 over_makes_none list c ending host (e ∷ es) run = absurd (none-some e.call run.0)
 
 -- an early answer comes before any call
-pub early_makes_none : (list : NetList) (c : Command) (host : Host) (es : List Made) → IsEarly list c → IsRun list c host es → es ≡ []
+pub early_makes_none : (list : NetList) (c : Command) (host : Host) (es : List Made) → IsEarly list c
+    → IsRun list c host es → es ≡ []
 early_makes_none list c host es early run =
     let P : State → Type 0 = λ s. IsRunFrom list c 0 s host es in
     over_makes_none list c early.ending host es (subst P early.state run)
 
-over_stays : (list : NetList) (c : Command) (made : ℕ) (ending : Ending) (es : List Made) → state_from list c made (Over ending []) (replies es) ≡ Over ending []
+over_stays : (list : NetList) (c : Command) (made : ℕ) (ending : Ending) (es : List Made)
+    → state_from list c made (Over ending []) (replies es) ≡ Over ending []
 unfolding advance
 over_stays list c made ending [] = refl
 over_stays list c made ending (e ∷ es) = over_stays list c (made + 1) ending es

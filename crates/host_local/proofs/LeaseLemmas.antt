@@ -7,14 +7,16 @@ use Rattle.ip_pool.specs.NextAddress.{is_between, is_in, is_candidate}
 use Rattle.kernel_types.specs.declared.{call.Call.{Call, TheVariants.LeaseNext}, object.Att.Att}
 use Rattle.host_local.specs.{Laws.CandidatesAreGiven, Leases.{given_by, given_by_set, given_of, lease_calls_from}}
 
-found-step : {X : Type 0} (b : Bool) (x : X) (o : Option X) → (b ≡ false → (y : X) × (o ≡ Some y)) → (y : X) × (cond b (Some x) o ≡ Some y)
+found-step : {X : Type 0} (b : Bool) (x : X) (o : Option X) → (b ≡ false → (y : X) × (o ≡ Some y))
+    → (y : X) × (cond b (Some x) o ≡ Some y)
 found-step true x o h = (x, refl)
 found-step false x o h = h refl
 
 is_in-is_between : (a : Addr) (r : Range) → is_in a r ≡ true → is_between a r ≡ true
 is_in-is_between a r h = grind (arith, h)
 
-range-found : (a : Addr) (rs : List Range) → list_any (is_in a) rs ≡ true → (r : Range) × (find (is_between a) rs ≡ Some r)
+range-found : (a : Addr) (rs : List Range) → list_any (is_in a) rs ≡ true
+    → (r : Range) × (find (is_between a) rs ≡ Some r)
 range-found a [] h = absurd (grind (arith, h))
 range-found a (r ∷ rs) h =
     found-step (is_between a r) r (find (is_between a) rs)

@@ -5,7 +5,9 @@ use Rattle.kernel_types.specs.{Terms.link_at, declared.{call.Reply.TheVariants.G
 use Rattle.kernel_types.specs.declared.object.LinkKey.{LinkKey}
 use Rattle.kernel_types.proofs.ListLemmas.{passes-find}
 
-pub drop_link-found : (host : Host) (key : LinkKey) (link : Link) → has_named_ns host key.ns ≡ true → link_at host key.ns key.name ≡ Some link → (without_links (goes_with key.ns key.name) host, Gone true) ≡ drop_link_of host key
+pub drop_link-found : (host : Host) (key : LinkKey) (link : Link) → has_named_ns host key.ns ≡ true
+    → link_at host key.ns key.name ≡ Some link
+    → (without_links (goes_with key.ns key.name) host, Gone true) ≡ drop_link_of host key
 drop_link-found host key link named found =
     let here = passes-find (is_at key.ns key.name) host.links link found in
     let ns : link.ns ≡ key.ns = (bytes_eq-Decides link.ns key.ns).0 (grind (arith, here)) in

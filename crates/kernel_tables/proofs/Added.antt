@@ -29,13 +29,15 @@ some-inj : {K : Type 0} (a b : K) → Some a ≡ Some b → a ≡ b
 some-inj a b h = cc
 
 -- a key that is not found is free
-pub free-key : {K T : Type 0} (eq : K → K → Bool) (key_of : T → Option K) (rows : List T) (sought own : K) → list_any (has_key eq key_of sought) rows ≡ false → own ≡ sought
+pub free-key : {K T : Type 0} (eq : K → K → Bool) (key_of : T → Option K) (rows : List T) (sought own : K)
+    → list_any (has_key eq key_of sought) rows ≡ false → own ≡ sought
     → (key : K) → Some own ≡ Some key → list_any (has_key eq key_of key) rows ≡ false
 free-key eq key_of rows sought own none same key is =
     ap (λ k. list_any (has_key eq key_of k) rows) (sym (some-inj own key is) ∙ same) ∙ none
 
 -- where no row has an object's key, none is the same object
-pub free-alias : {K T : Type 0} (eq : K → K → Bool) (same : T → T → Bool) (key_of : T → K) → ((a b : T) → same a b ≡ true → eq (key_of a) (key_of b) ≡ true)
+pub free-alias : {K T : Type 0} (eq : K → K → Bool) (same : T → T → Bool) (key_of : T → K)
+    → ((a b : T) → same a b ≡ true → eq (key_of a) (key_of b) ≡ true)
     → (rows : List T) (sought : K) (own : T) → list_any (has_key eq (λ x. Some (key_of x)) sought) rows ≡ false → key_of own ≡ sought
     → (alias : T) → Some own ≡ Some alias → list_any (has_key same (λ x. Some x) alias) rows ≡ false
 free-alias eq same key_of keyed rows sought own none at alias is =
@@ -49,10 +51,12 @@ addr-at a b = grind arith
 route-at : (a b : RouteObj) → route_key-value.it (route_key a) (route_key b) ≡ is_same_route b a
 route-at a b = grind arith
 
-pub find-same_addr : (obj : AddrObj) (xs : List AddrObj) → find (is_same_addr obj) xs ≡ find (has_key addr_key-value.it (λ a. Some (addr_key a)) (addr_key obj)) xs
+pub find-same_addr : (obj : AddrObj) (xs : List AddrObj)
+    → find (is_same_addr obj) xs ≡ find (has_key addr_key-value.it (λ a. Some (addr_key a)) (addr_key obj)) xs
 find-same_addr obj xs = sym (λ i. find (λ a. addr-at a obj i) xs)
 
-pub find-same_route : (obj : RouteObj) (xs : List RouteObj) → find (is_same_route obj) xs ≡ find (has_key route_key-value.it (λ r. Some (route_key r)) (route_key obj)) xs
+pub find-same_route : (obj : RouteObj) (xs : List RouteObj)
+    → find (is_same_route obj) xs ≡ find (has_key route_key-value.it (λ r. Some (route_key r)) (route_key obj)) xs
 find-same_route obj xs = sym (λ i. find (λ r. route-at r obj i) xs)
 
 -- equal objects have equal keys
@@ -62,7 +66,8 @@ addr-keyed a b h = grind (arith, h)
 pub route-keyed : (a b : RouteObj) → route-value.it a b ≡ true → route_key-value.it (route_key a) (route_key b) ≡ true
 route-keyed a b h = grind (arith, h)
 
-pub setting-keyed : (a b : Setting) → setting-value.it a b ≡ true → setting_key-value.it (setting_key a) (setting_key b) ≡ true
+pub setting-keyed : (a b : Setting) → setting-value.it a b ≡ true
+    → setting_key-value.it (setting_key a) (setting_key b) ≡ true
 setting-keyed a b h = grind (arith, h)
 
 -- ---- what `==` computes
@@ -84,14 +89,16 @@ rule-same a b = grind (arith, tag-same a.tag b.tag)
 -- ---- the link at a place, where no two links have one
 
 -- no other link of the place follows
-later-none : (ns name : List ℕ) (tag : Tag) (x : Link) (xs : List Link) → is_at ns name x ≡ true → list_any (λ b. is_same_link b x) xs ≡ false → list_any (is_link_of ns name tag) xs ≡ false
+later-none : (ns name : List ℕ) (tag : Tag) (x : Link) (xs : List Link) → is_at ns name x ≡ true
+    → list_any (λ b. is_same_link b x) xs ≡ false → list_any (is_link_of ns name tag) xs ≡ false
 later-none ns name tag x xs at none =
     list_any-none (is_link_of ns name tag) (λ b. is_same_link b x)
     (λ b h. let there : bytes_eq b.ns ns && bytes_eq b.name name ≡ true = grind (arith, h) in
     same_place b.ns b.name ns name (λ p q. is_at p q x) there ∙ at)
     xs none
 
-link-found-step : (ns name : List ℕ) (tag : Tag) (x : Link) (xs : List Link) (l : Link) (b : Bool) → is_at ns name x ≡ b → distinct (λ a b. is_same_link b a) (x ∷ xs) ≡ true
+link-found-step : (ns name : List ℕ) (tag : Tag) (x : Link) (xs : List Link) (l : Link) (b : Bool) → is_at ns name x ≡ b
+    → distinct (λ a b. is_same_link b a) (x ∷ xs) ≡ true
     → Some l ≡ find (is_at ns name) (x ∷ xs) → (Some l ≡ find (is_at ns name) xs → tag_eq l.tag tag ≡ has_link_in xs ns name tag) → tag_eq l.tag tag ≡ has_link_in (x ∷ xs) ns name tag
 link-found-step ns name tag x xs l true at keys is later =
     let same : l ≡ x = grind (arith, is, at) in
@@ -99,15 +106,19 @@ link-found-step ns name tag x xs l true at keys is later =
     ap (λ v. tag_eq v.tag tag) same ∙ grind (arith, at, none)
 link-found-step ns name tag x xs l false at keys is later = later (grind (arith, is, at)) ∙ grind (arith, at)
 
-pub link-found : (ns name : List ℕ) (tag : Tag) (links : List Link) (l : Link) → distinct (λ a b. is_same_link b a) links ≡ true → Some l ≡ find (is_at ns name) links → tag_eq l.tag tag ≡ has_link_in links ns name tag
+pub link-found : (ns name : List ℕ) (tag : Tag) (links : List Link) (l : Link)
+    → distinct (λ a b. is_same_link b a) links ≡ true → Some l ≡ find (is_at ns name) links
+    → tag_eq l.tag tag ≡ has_link_in links ns name tag
 link-found ns name tag [] l keys is = grind (arith, is)
 link-found ns name tag (x ∷ xs) l keys is = link-found-step ns name tag x xs l (is_at ns name x) refl keys is (link-found ns name tag xs l (grind (arith, keys)))
 
-pub link-missed : (ns name : List ℕ) (tag : Tag) (links : List Link) → find (is_at ns name) links ≡ None → false ≡ has_link_in links ns name tag
+pub link-missed : (ns name : List ℕ) (tag : Tag) (links : List Link) → find (is_at ns name) links ≡ None
+    → false ≡ has_link_in links ns name tag
 link-missed ns name tag links none =
     sym (list_any-none (is_link_of ns name tag) (is_at ns name) (λ b h. grind (arith, h)) links (list_any-find_none (is_at ns name) links none))
 
 -- ---- a rule is its own key
 
-pub any-same_rule : (rule : Rule) (rules : List Rule) → list_any (has_key rule-value.it (λ r. Some r) rule) rules ≡ list_any (is_same_rule rule) rules
+pub any-same_rule : (rule : Rule) (rules : List Rule)
+    → list_any (has_key rule-value.it (λ r. Some r) rule) rules ≡ list_any (is_same_rule rule) rules
 any-same_rule rule rules = λ i. list_any (λ r. rule-same r rule i) rules

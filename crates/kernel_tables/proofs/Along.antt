@@ -15,7 +15,8 @@ emptied-fails t (Some x) = by (t x) refl
     by false e = e
 
 -- a place takes what doesn't pass
-places_from-set : {T : Type 0} (t : T → Bool) (n i : ℕ) (o : Option T) → passes t o ≡ false → (xs : List (Option T)) → places_from t n (set xs i o) ≡ filter (λ q. not (q == n + i)) (places_from t n xs)
+places_from-set : {T : Type 0} (t : T → Bool) (n i : ℕ) (o : Option T) → passes t o ≡ false → (xs : List (Option T))
+    → places_from t n (set xs i o) ≡ filter (λ q. not (q == n + i)) (places_from t n xs)
 places_from-set t n i o fails [] = refl
 places_from-set t n zero o fails (x ∷ xs) =
     let z : n + 0 ≡ n = omega arith in
@@ -27,7 +28,8 @@ places_from-set t n (suc i) o fails (x ∷ xs) =
     let other : (n == n + 1 + i) ≡ false = grind (arith, nat_tests) in
     rw e (grind (arith, places_from-set t (n + 1) i o fails xs, other))
 
-row_at-set : {T : Type 0} (t : T → Bool) (o : Option T) → passes t o ≡ false → (xs : List (Option T)) (i q : ℕ) → passes t (row_at (set xs i o) q) ≡ (passes t (row_at xs q) && not (q == i))
+row_at-set : {T : Type 0} (t : T → Bool) (o : Option T) → passes t o ≡ false → (xs : List (Option T)) (i q : ℕ)
+    → passes t (row_at (set xs i o) q) ≡ (passes t (row_at xs q) && not (q == i))
 row_at-set t o fails [] i q = refl
 row_at-set t o fails (x ∷ xs) zero zero = grind (arith, fails)
 row_at-set t o fails (x ∷ xs) zero (suc q) = grind (arith, nat_tests)
@@ -36,16 +38,19 @@ row_at-set t o fails (x ∷ xs) (suc i) (suc q) =
     let e : (suc q == suc i) ≡ (q == i) = grind (arith, nat_tests) in
     grind (arith, row_at-set t o fails xs i q, e)
 
-passing-set : {T : Type 0} (t : T → Bool) (xs : List (Option T)) (i : ℕ) (o : Option T) → passes t o ≡ false → (cs : List ℕ) → passing t (set xs i o) cs ≡ filter (λ q. not (q == i)) (passing t xs cs)
+passing-set : {T : Type 0} (t : T → Bool) (xs : List (Option T)) (i : ℕ) (o : Option T) → passes t o ≡ false
+    → (cs : List ℕ) → passing t (set xs i o) cs ≡ filter (λ q. not (q == i)) (passing t xs cs)
 passing-set t xs i o fails [] = refl
 passing-set t xs i o fails (c ∷ cs) = grind (arith, passing-set t xs i o fails cs, row_at-set t o fails xs i c)
 
-filter-gone : (c : ℕ) (b : Bool) (ps : List ℕ) → filter (λ q. not (q == c)) (if b then c ∷ ps else ps) ≡ filter (λ q. not (q == c)) ps
+filter-gone : (c : ℕ) (b : Bool) (ps : List ℕ)
+    → filter (λ q. not (q == c)) (if b then c ∷ ps else ps) ≡ filter (λ q. not (q == c)) ps
 filter-gone c true ps = let e : (c == c) ≡ true = grind (arith, nat_tests) in grind (arith, e)
 filter-gone c false ps = refl
 
 -- at the end none passes
-none-along : {T : Type 0} (t : T → Bool) (cs : List ℕ) (xs : List (Option T)) → passing t xs cs ≡ places_where t xs → places_where t (emptied_at t xs cs) ≡ []
+none-along : {T : Type 0} (t : T → Bool) (cs : List ℕ) (xs : List (Option T)) → passing t xs cs ≡ places_where t xs
+    → places_where t (emptied_at t xs cs) ≡ []
 none-along t [] xs h = sym h
 none-along t (c ∷ cs) xs h =
     let o = emptied t (row_at xs c) in
@@ -63,26 +68,31 @@ emptied-twice t (Some x) = by (t x) refl
     by true e = refl
     by false e = ap (λ b. if b then None else Some x) e
 
-map-set : {T : Type 0} (t : T → Bool) (xs : List (Option T)) (i : ℕ) → map (emptied t) (set xs i (emptied t (row_at xs i))) ≡ map (emptied t) xs
+map-set : {T : Type 0} (t : T → Bool) (xs : List (Option T)) (i : ℕ)
+    → map (emptied t) (set xs i (emptied t (row_at xs i))) ≡ map (emptied t) xs
 map-set t [] i = refl
 map-set t (x ∷ xs) zero = ap (λ o. o ∷ map (emptied t) xs) (emptied-twice t x)
 map-set t (x ∷ xs) (suc i) = ap (λ l. emptied t x ∷ l) (map-set t xs i)
 
-map-along : {T : Type 0} (t : T → Bool) (cs : List ℕ) (xs : List (Option T)) → map (emptied t) (emptied_at t xs cs) ≡ map (emptied t) xs
+map-along : {T : Type 0} (t : T → Bool) (cs : List ℕ) (xs : List (Option T))
+    → map (emptied t) (emptied_at t xs cs) ≡ map (emptied t) xs
 map-along t [] xs = refl
 map-along t (c ∷ cs) xs = map-along t cs (set xs c (emptied t (row_at xs c))) ∙ map-set t xs c
 
-emptied-none-step : {T : Type 0} (t : T → Bool) (n : ℕ) (x : T) (xs : List (Option T)) (b : Bool) → t x ≡ b → (if b then n ∷ places_from t (n + 1) xs else places_from t (n + 1) xs) ≡ []
+emptied-none-step : {T : Type 0} (t : T → Bool) (n : ℕ) (x : T) (xs : List (Option T)) (b : Bool) → t x ≡ b
+    → (if b then n ∷ places_from t (n + 1) xs else places_from t (n + 1) xs) ≡ []
     → (places_from t (n + 1) xs ≡ [] → map (emptied t) xs ≡ xs) → map (emptied t) (Some x ∷ xs) ≡ Some x ∷ xs
 emptied-none-step t n x xs true e h rest = grind (arith, h)
 emptied-none-step t n x xs false e h rest = ap (λ b. (if b then None else Some x) ∷ map (emptied t) xs) e ∙ ap (λ l. Some x ∷ l) (rest h)
 
-map-emptied-none : {T : Type 0} (t : T → Bool) (n : ℕ) (xs : List (Option T)) → places_from t n xs ≡ [] → map (emptied t) xs ≡ xs
+map-emptied-none : {T : Type 0} (t : T → Bool) (n : ℕ) (xs : List (Option T)) → places_from t n xs ≡ []
+    → map (emptied t) xs ≡ xs
 map-emptied-none t n [] h = refl
 map-emptied-none t n (None ∷ xs) h = ap (λ l. None ∷ l) (map-emptied-none t (n + 1) xs h)
 map-emptied-none t n (Some x ∷ xs) h = emptied-none-step t n x xs (t x) refl h (λ h. map-emptied-none t (n + 1) xs h)
 
-pub emptied-along : {T : Type 0} (t : T → Bool) (cs : List ℕ) (xs : List (Option T)) → passing t xs cs ≡ places_where t xs → emptied_at t xs cs ≡ map (emptied t) xs
+pub emptied-along : {T : Type 0} (t : T → Bool) (cs : List ℕ) (xs : List (Option T))
+    → passing t xs cs ≡ places_where t xs → emptied_at t xs cs ≡ map (emptied t) xs
 emptied-along t cs xs h = sym (map-emptied-none t 0 (emptied_at t xs cs) (none-along t cs xs h)) ∙ map-along t cs xs
 
 -- ---- a test beside another
@@ -91,11 +101,13 @@ passes-both : {T : Type 0} (t u : T → Bool) (o : Option T) → passes (λ x. t
 passes-both t u None = refl
 passes-both t u (Some x) = refl
 
-passing-both : {T : Type 0} (t u : T → Bool) (xs : List (Option T)) (cs : List ℕ) → passing (λ x. t x && u x) xs cs ≡ filter (λ p. passes u (row_at xs p)) (passing t xs cs)
+passing-both : {T : Type 0} (t u : T → Bool) (xs : List (Option T)) (cs : List ℕ)
+    → passing (λ x. t x && u x) xs cs ≡ filter (λ p. passes u (row_at xs p)) (passing t xs cs)
 passing-both t u xs [] = refl
 passing-both t u xs (c ∷ cs) = grind (arith, passing-both t u xs cs, passes-both t u (row_at xs c))
 
-both-step : {T : Type 0} (t u : T → Bool) (x : Option T) (n : ℕ) (g : ℕ → Bool) (new old : List ℕ) → g n ≡ passes u x → new ≡ filter g old
+both-step : {T : Type 0} (t u : T → Bool) (x : Option T) (n : ℕ) (g : ℕ → Bool) (new old : List ℕ) → g n ≡ passes u x
+    → new ≡ filter g old
     → (if passes (λ x. t x && u x) x then n ∷ new else new) ≡ filter g (if passes t x then n ∷ old else old)
 both-step t u x n g new old here rest = grind (arith, rest, passes-both t u x, here)
 
@@ -107,14 +119,18 @@ places_from-both t u before (x ∷ xs) n count =
     (places_from-both t u (before ++ x ∷ []) xs (n + 1) (length-append before (x ∷ []) ∙ ap (λ m. m + 1) count)
     ∙ ap (λ l. filter (λ p. passes u (row_at l p)) (places_from t (n + 1) xs)) (append_assoc before (x ∷ []) xs))
 
-pub both-along : {T : Type 0} (t u : T → Bool) (xs : List (Option T)) (cs : List ℕ) → passing t xs cs ≡ places_where t xs → passing (λ x. t x && u x) xs cs ≡ places_where (λ x. t x && u x) xs
+pub both-along : {T : Type 0} (t u : T → Bool) (xs : List (Option T)) (cs : List ℕ)
+    → passing t xs cs ≡ places_where t xs → passing (λ x. t x && u x) xs cs ≡ places_where (λ x. t x && u x) xs
 both-along t u xs cs h = passing-both t u xs cs ∙ ap (filter (λ p. passes u (row_at xs p))) h ∙ sym (places_from-both t u [] xs 0 refl)
 
-pub emptied_at-more : {T : Type 0} (t : T → Bool) (cs : List ℕ) (c : ℕ) (xs : List (Option T)) → emptied_at t xs (cs ++ c ∷ []) ≡ set (emptied_at t xs cs) c (emptied t (row_at (emptied_at t xs cs) c))
+pub emptied_at-more : {T : Type 0} (t : T → Bool) (cs : List ℕ) (c : ℕ) (xs : List (Option T))
+    → emptied_at t xs (cs ++ c ∷ []) ≡ set (emptied_at t xs cs) c (emptied t (row_at (emptied_at t xs cs) c))
 emptied_at-more t [] c xs = refl
 emptied_at-more t (d ∷ cs) c xs = emptied_at-more t cs c (set xs d (emptied t (row_at xs d)))
 
-pub emptied_at-step : {T : Type 0} (t : T → Bool) (cs : List ℕ) (i c : ℕ) (init old new : List (Option T)) → i < length cs → c ≡ get_or cs i c → old ≡ emptied_at t init (take i cs) → new ≡ set old c (emptied t (row_at old c)) → new ≡ emptied_at t init (take (i + 1) cs)
+pub emptied_at-step : {T : Type 0} (t : T → Bool) (cs : List ℕ) (i c : ℕ) (init old new : List (Option T))
+    → i < length cs → c ≡ get_or cs i c → old ≡ emptied_at t init (take i cs)
+    → new ≡ set old c (emptied t (row_at old c)) → new ≡ emptied_at t init (take (i + 1) cs)
 emptied_at-step t cs i c init old new below at was is =
     is ∙ ap (λ l. set l c (emptied t (row_at l c))) was ∙ sym (emptied_at-more t (take i cs) c init)
     ∙ ap (λ d. emptied_at t init (take i cs ++ d ∷ [])) at ∙ ap (emptied_at t init) (sym (take_more cs i c below))

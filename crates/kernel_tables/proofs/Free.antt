@@ -40,7 +40,8 @@ module _ {X : Type 0} (same : X → X → Bool) (p q : X → Bool) (alike : (x y
       by true e more = let no = none xs (alone x xs e d) in rw e (ap (λ b. q x || b) no ∙ or-false (q x))
       by false e more = rw e more
 
-unchanged : {X : Type 0} (p : X → Bool) (f : X → X) (xs : List X) → list_any p xs ≡ false → map (λ x. if p x then f x else x) xs ≡ xs
+unchanged : {X : Type 0} (p : X → Bool) (f : X → X) (xs : List X) → list_any p xs ≡ false
+    → map (λ x. if p x then f x else x) xs ≡ xs
 unchanged p f [] h = refl
 unchanged p f (x ∷ xs) h =
     let no : p x ≡ false = grind (arith, h) in
@@ -60,7 +61,8 @@ module _ {X : Type 0} (same : X → X → Bool) (p q : X → Bool) (alike : (x y
       by false e more = let rest = more e in rw e (ap (λ l. x ∷ l) rest)
 
 -- a row that was put at the end is taken out again
-pub taken-back : {X : Type 0} (p : X → Bool) (xs : List X) (y : X) → list_any p xs ≡ false → p y ≡ true → filter (λ x. not (p x)) (xs ++ y ∷ []) ≡ xs
+pub taken-back : {X : Type 0} (p : X → Bool) (xs : List X) (y : X) → list_any p xs ≡ false → p y ≡ true
+    → filter (λ x. not (p x)) (xs ++ y ∷ []) ≡ xs
 taken-back p [] y h e = rw e refl
 taken-back p (x ∷ xs) y h e =
     let no : p x ≡ false = grind (arith, h) in
@@ -68,7 +70,8 @@ taken-back p (x ∷ xs) y h e =
 
 -- ---- links
 
-key-at : (key : LinkKey) (l : Link) → link_key_eq-value.it (record { ns = l.ns; name = l.name }) key ≡ is_at key.ns key.name l
+key-at : (key : LinkKey) (l : Link)
+    → link_key_eq-value.it (record { ns = l.ns; name = l.name }) key ≡ is_at key.ns key.name l
 key-at key l = grind arith
 
 module _ (key : LinkKey) (links : List Link) where
@@ -98,14 +101,16 @@ module _ (name : List ℕ) (links : List Link) where
   pub any-host : list_any (is_host_link name) links ≡ list_any (is_at [] name) links
   any-host = λ i. list_any (λ l. host-at name l i) links
 
-pub host-alike : (name : List ℕ) (x y : Link) → is_host_link name x ≡ true → is_host_link name y ≡ true → is_same_link y x ≡ true
+pub host-alike : (name : List ℕ) (x y : Link) → is_host_link name x ≡ true → is_host_link name y ≡ true
+    → is_same_link y x ≡ true
 host-alike name x y h g =
     let outer : is_host_ns y.ns ≡ true = grind (arith, g) in
     let named : bytes_eq y.name name ≡ true = grind (arith, g) in
     ap (λ n. is_at n y.name x) ((bytes_eq-Decides y.ns []).0 (sym (host_ns-eq y.ns) ∙ outer))
     ∙ ap (λ m. is_at [] m x) ((bytes_eq-Decides y.name name).0 named) ∙ sym (host-at name x) ∙ h
 
-pub place-alike : (ns name : List ℕ) (x y : Link) → is_at ns name x ≡ true → is_at ns name y ≡ true → is_same_link y x ≡ true
+pub place-alike : (ns name : List ℕ) (x y : Link) → is_at ns name x ≡ true → is_at ns name y ≡ true
+    → is_same_link y x ≡ true
 place-alike ns name x y h g =
     let at : bytes_eq y.ns ns ≡ true = grind (arith, g) in
     let named : bytes_eq y.name name ≡ true = grind (arith, g) in
@@ -117,7 +122,8 @@ at-own l =
     let b : bytes_eq l.name l.name ≡ true = (bytes_eq-Decides l.name l.name).1 refl in
     grind (arith, a, b)
 
-named-free : (links : List Link) (b : Bool) (ns name alias : List ℕ) → is_host_ns ns ≡ b → (if b then Some name else None) ≡ Some alias
+named-free : (links : List Link) (b : Bool) (ns name alias : List ℕ) → is_host_ns ns ≡ b
+    → (if b then Some name else None) ≡ Some alias
     → list_any (is_at ns name) links ≡ false → list_any (has_key bytes_eq host_name alias) links ≡ false
 named-free links true ns name alias e h free =
     let is : name ≡ alias = cc in
@@ -150,13 +156,15 @@ module _ (host : Host) (key : LinkKey) (link : Link) (tag : Option Tag) (key_is 
       ap (λ (r : Link). list_any (is_at r.ns r.name) links) row_is ∙ ap (λ ls. list_any (is_at link.ns link.name) ls) links_is
       ∙ list_any-find_none (is_at link.ns link.name) host.links nothing-at
 
-pub second-free : (links new : List Link) (first second : Link) → new ≡ links ++ first ∷ [] → is_host_ns first.ns ≡ true → is_host_ns second.ns ≡ false
+pub second-free : (links new : List Link) (first second : Link) → new ≡ links ++ first ∷ [] → is_host_ns first.ns ≡ true
+    → is_host_ns second.ns ≡ false
     → list_any (is_at second.ns second.name) links ≡ false → list_any (is_at second.ns second.name) new ≡ false
 second-free links new first second is outer inner free =
     let other = other_host first.ns second.ns outer inner in
     ap (λ ls. list_any (is_at second.ns second.name) ls) is ∙ list_any-append_none (is_at second.ns second.name) links (first ∷ []) free (grind (arith, other))
 
-pub first-back : (key : LinkKey) (links pushed later rest : List Link) (row link : Link) → pushed ≡ links ++ row ∷ [] → later ≡ pushed
+pub first-back : (key : LinkKey) (links pushed later rest : List Link) (row link : Link) → pushed ≡ links ++ row ∷ []
+    → later ≡ pushed
     → rest ≡ filter (λ l. not (has_key link_key_eq-value.it (λ (l : Link). Some (record { ns = l.ns; name = l.name })) key l)) later
     → key ≡ record { ns = link.ns; name = link.name } → row ≡ link → list_any (is_at row.ns row.name) links ≡ false → rest ≡ links
 first-back key links pushed later rest row link pushed_is later_is rest_is key_is row_is free =
@@ -168,7 +176,8 @@ first-back key links pushed later rest row link pushed_is later_is rest_is key_i
 
 -- ---- the host after a call
 
-pub veth-added : (old host : Host) (links pushed : List Link) (a b first second : Link) → old ≡ host → pushed ≡ old.links ++ a ∷ [] → links ≡ pushed ++ b ∷ [] → a ≡ first → b ≡ second
+pub veth-added : (old host : Host) (links pushed : List Link) (a b first second : Link) → old ≡ host
+    → pushed ≡ old.links ++ a ∷ [] → links ≡ pushed ++ b ∷ [] → a ≡ first → b ≡ second
     → has_named_ns host second.ns ≡ true → master_is_bridge_or_none host first.master ≡ true → link_at host second.ns second.name ≡ None → link_at host first.ns first.name ≡ None
     → ◌≡◌ {A = Host × Reply} (record old { links = links }, Done) (veth_add_of host first second)
 veth-added old host links pushed a b first second old_is pushed_is links_is a_is b_is named over inner outer =
@@ -177,7 +186,8 @@ veth-added old host links pushed a b first second old_is pushed_is links_is a_is
     ∙ ap (λ l. host.links ++ l ∷ b ∷ []) a_is ∙ ap (λ l. host.links ++ first ∷ l ∷ []) b_is in
     rw (both, old_is, named, over, inner, outer) refl
 
-pub values-set : (att : Att) (key : LinkKey) (mac : Option Mac) (mtu tx_qlen : Option ℕ) (promisc allmulti : Bool) (old host : Host) (links : List Link) → old ≡ host
+pub values-set : (att : Att) (key : LinkKey) (mac : Option Mac) (mtu tx_qlen : Option ℕ) (promisc allmulti : Bool) (old host : Host) (links : List Link)
+    → old ≡ host
     → distinct (λ a b. is_same_link b a) host.links ≡ true → list_any (is_own_at att key) host.links ≡ true
     → links ≡ map (λ (l : Link). if has_key link_key_eq-value.it (λ (l : Link). Some (record { ns = l.ns; name = l.name })) key l then with_values mac mtu tx_qlen promisc allmulti l else l) old.links
     → ◌≡◌ {A = Host × Reply} (record old { links = links }, Done) (link_set_of host att key mac mtu tx_qlen promisc allmulti)
@@ -190,34 +200,40 @@ values-set att key mac mtu tx_qlen promisc allmulti old host links old_is keys o
 
 -- ---- addresses and settings
 
-addr-at : (key : AddrKey) (a : AddrObj) → addr_key_eq-value.it (record { ns = a.ns; link = a.link; addr = a.cidr.addr }) key
+addr-at : (key : AddrKey) (a : AddrObj)
+    → addr_key_eq-value.it (record { ns = a.ns; link = a.link; addr = a.cidr.addr }) key
     ≡ (bytes_eq a.ns key.ns && bytes_eq a.link key.link && addr_eq a.cidr.addr key.addr)
 addr-at key a = grind arith
 
-pub any-addr : (key : AddrKey) (addresses : List AddrObj) → list_any (has_key addr_key_eq-value.it (λ (a : AddrObj). Some (record { ns = a.ns; link = a.link; addr = a.cidr.addr })) key) addresses
+pub any-addr : (key : AddrKey) (addresses : List AddrObj)
+    → list_any (has_key addr_key_eq-value.it (λ (a : AddrObj). Some (record { ns = a.ns; link = a.link; addr = a.cidr.addr })) key) addresses
     ≡ list_any (λ a. bytes_eq a.ns key.ns && bytes_eq a.link key.link && addr_eq a.cidr.addr key.addr) addresses
 any-addr key addresses = λ i. list_any (λ a. addr-at key a i) addresses
 
 addr-whole : (new a : AddrObj) → addr_obj_eq-value.it a new ≡ true → is_same_addr new a ≡ true
 addr-whole new a h = grind (arith, h)
 
-pub addr-alias_free : (addresses : List AddrObj) (row alias : AddrObj) → list_any (is_same_addr row) addresses ≡ false → ◌≡◌ {A = Option AddrObj} (Some row) (Some alias)
+pub addr-alias_free : (addresses : List AddrObj) (row alias : AddrObj) → list_any (is_same_addr row) addresses ≡ false
+    → ◌≡◌ {A = Option AddrObj} (Some row) (Some alias)
     → list_any (has_key addr_obj_eq-value.it (λ (a : AddrObj). Some a) alias) addresses ≡ false
 addr-alias_free addresses row alias free h =
     let is : row ≡ alias = cc in
     ap (λ r. list_any (λ a. addr_obj_eq-value.it a r) addresses) (sym is) ∙ list_any-none (λ a. addr_obj_eq-value.it a row) (is_same_addr row) (λ a g. addr-whole row a g) addresses free
 
-setting-at : (key : SettingKey) (s : Setting) → setting_key_eq-value.it (record { ns = s.ns; key = s.key }) key ≡ (bytes_eq s.ns key.ns && bytes_eq s.key key.key)
+setting-at : (key : SettingKey) (s : Setting)
+    → setting_key_eq-value.it (record { ns = s.ns; key = s.key }) key ≡ (bytes_eq s.ns key.ns && bytes_eq s.key key.key)
 setting-at key s = grind arith
 
-pub any-setting : (key : SettingKey) (settings : List Setting) → list_any (has_key setting_key_eq-value.it (λ (s : Setting). Some (record { ns = s.ns; key = s.key })) key) settings
+pub any-setting : (key : SettingKey) (settings : List Setting)
+    → list_any (has_key setting_key_eq-value.it (λ (s : Setting). Some (record { ns = s.ns; key = s.key })) key) settings
     ≡ list_any (λ s. bytes_eq s.ns key.ns && bytes_eq s.key key.key) settings
 any-setting key settings = λ i. list_any (λ s. setting-at key s i) settings
 
 setting-whole : (new s : Setting) → setting_eq-value.it s new ≡ true → is_same_setting new s ≡ true
 setting-whole new s h = grind (arith, h)
 
-pub setting-alias_free : (settings : List Setting) (row alias : Setting) → list_any (is_same_setting row) settings ≡ false → ◌≡◌ {A = Option Setting} (Some row) (Some alias)
+pub setting-alias_free : (settings : List Setting) (row alias : Setting)
+    → list_any (is_same_setting row) settings ≡ false → ◌≡◌ {A = Option Setting} (Some row) (Some alias)
     → list_any (has_key setting_eq-value.it (λ (s : Setting). Some s) alias) settings ≡ false
 setting-alias_free settings row alias free h =
     let is : row ≡ alias = cc in

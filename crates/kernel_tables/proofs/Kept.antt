@@ -13,17 +13,20 @@ use Rattle.kernel_types.proofs.ListLemmas.{list_any-map_filter, list_any-none}
 use Rattle.kernel_tables.specs.Leased.{kept_for, AreLeased}
 
 -- the set that is kept, or the empty one
-pub kept-chosen : (o : Option (Bor AddrSet)) (none : Bor AddrSet) → none.now.addresses ≡ [] → (unwrap_or o none).now.addresses ≡ option_map_or (λ set. set.addresses) (option_copied o) []
+pub kept-chosen : (o : Option (Bor AddrSet)) (none : Bor AddrSet) → none.now.addresses ≡ []
+    → (unwrap_or o none).now.addresses ≡ option_map_or (λ set. set.addresses) (option_copied o) []
 kept-chosen None none h = h
 kept-chosen (Some set) none h = refl
 
 -- ---- one goes
 
-found-step : {X : Type 0} (own t : X → Bool) (x l : X) (xs : List X) → (find own xs ≡ Some l → list_any t xs ≡ true) → t l ≡ true → (b : Bool) → own x ≡ b → cond b (Some x) (find own xs) ≡ Some l → list_any t (x ∷ xs) ≡ true
+found-step : {X : Type 0} (own t : X → Bool) (x l : X) (xs : List X) → (find own xs ≡ Some l → list_any t xs ≡ true)
+    → t l ≡ true → (b : Bool) → own x ≡ b → cond b (Some x) (find own xs) ≡ Some l → list_any t (x ∷ xs) ≡ true
 found-step own t x l xs later h true e f = let is : x ≡ l = cc in grind (arith, ap t is ∙ h)
 found-step own t x l xs later h false e f = grind (arith, later f)
 
-found-any : {X : Type 0} (own t : X → Bool) (xs : List X) (l : X) → find own xs ≡ Some l → t l ≡ true → list_any t xs ≡ true
+found-any : {X : Type 0} (own t : X → Bool) (xs : List X) (l : X) → find own xs ≡ Some l → t l ≡ true
+    → list_any t xs ≡ true
 found-any own t [] l f h = cc
 found-any own t (x ∷ xs) l f h = found-step own t x l xs (λ g. found-any own t xs l g h) h (own x) refl f
 
@@ -52,7 +55,8 @@ module _ {X : Type 0} (same : X → X → Bool) (own p : X → Bool) (key : (x y
   any-left [] l d f = cc
   any-left (x ∷ xs) l d f = left-step x l xs d (any-left xs l (grind (arith, d))) (own x) refl f
 
-same_lease : (network : List ℕ) (addr : Addr) (x y : Lease) → is_lease_at network addr x ≡ true → is_lease_at network addr y ≡ true → is_same_lease y x ≡ true
+same_lease : (network : List ℕ) (addr : Addr) (x y : Lease) → is_lease_at network addr x ≡ true
+    → is_lease_at network addr y ≡ true → is_same_lease y x ≡ true
 same_lease network addr x y hx hy =
     let xn : x.network ≡ network = (bytes_eq-Decides x.network network).0 (grind (arith, hx)) in
     let yn : y.network ≡ network = (bytes_eq-Decides y.network network).0 (grind (arith, hy)) in
@@ -62,7 +66,8 @@ same_lease network addr x y hx hy =
     ∙ grind (arith, nat_list_eq_equiv.refl y.network, addr_eq-itself y.addr)
 
 -- an address is taken where some lease of the network has it
-pub taken-leased : (leases : List Lease) (network : List ℕ) (addr : Addr) → is_taken (addresses_in leases network) addr ≡ list_any (is_lease_at network addr) leases
+pub taken-leased : (leases : List Lease) (network : List ℕ) (addr : Addr)
+    → is_taken (addresses_in leases network) addr ≡ list_any (is_lease_at network addr) leases
 taken-leased leases network addr = list_any-map_filter (λ a. addr_eq a addr) (λ l. l.addr) (λ l. bytes_eq l.network network) leases
 
 module _ (own : Lease → Bool) (leases : List Lease) (l : Lease) (keys : HasDistinctKeys is_same_lease leases) (found : find own leases ≡ Some l) where

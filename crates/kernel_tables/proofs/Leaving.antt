@@ -20,13 +20,15 @@ use Rattle.kernel_tables.proofs.Owned.{att-same, own-is}
 
 -- ---- lists
 
-pub filter-where : {X : Type 0} (k p q : X → Bool) → ((x : X) → k x ≡ true → p x ≡ q x) → (xs : List X) → list_all k xs ≡ true → filter p xs ≡ filter q xs
+pub filter-where : {X : Type 0} (k p q : X → Bool) → ((x : X) → k x ≡ true → p x ≡ q x) → (xs : List X)
+    → list_all k xs ≡ true → filter p xs ≡ filter q xs
 filter-where k p q same [] h = refl
 filter-where k p q same (x ∷ xs) h =
     let parts = and_parts (k x) (list_all k xs) h in
     rw (same x parts.0, filter-where k p q same xs parts.1) refl
 
-filter-among : {X : Type 0} (p q : X → Bool) (xs : List X) → ((x : X) → IsAmong x xs → p x ≡ q x) → filter p xs ≡ filter q xs
+filter-among : {X : Type 0} (p q : X → Bool) (xs : List X) → ((x : X) → IsAmong x xs → p x ≡ q x)
+    → filter p xs ≡ filter q xs
 filter-among p q [] same = refl
 filter-among p q (x ∷ xs) same = rw (same x (inl refl), filter-among p q xs (λ y at. same y (inr at))) refl
 
@@ -37,7 +39,8 @@ among-contains : {X : Type 0} (x : X) (xs : List X) → IsAmong x xs → Contain
 among-contains x [] at = absurd at
 among-contains x (y ∷ ys) at = elim at [ inl e ↦ (let below : zero < suc (length ys) = omega arith in (zero, below, sym e)) | inr later ↦ contains-more x y ys (among-contains x ys later) ]
 
-found-step : {X : Type 0} (x y : X) (xs : List X) (b : Bool) (o : Option X) → (if b then Some x else o) ≡ Some y → (o ≡ Some y → IsAmong y xs) → IsAmong y (x ∷ xs)
+found-step : {X : Type 0} (x y : X) (xs : List X) (b : Bool) (o : Option X) → (if b then Some x else o) ≡ Some y
+    → (o ≡ Some y → IsAmong y xs) → IsAmong y (x ∷ xs)
 found-step x y xs true o h later = inl (grind (arith, h))
 found-step x y xs false o h later = inr (later h)
 
@@ -54,14 +57,16 @@ all-among p x [] at h = absurd at
 all-among p x (y ∷ ys) at h =
     elim at [ inl e ↦ ap p e ∙ grind (arith, h) | inr later ↦ all-among p x ys later (grind (arith, h)) ]
 
-from-among : {X : Type 0} (p : X → Bool) (c : Bool) (xs : List X) → ((x : X) → IsAmong x xs → p x ≡ true → c ≡ true) → list_any p xs ≡ true → c ≡ true
+from-among : {X : Type 0} (p : X → Bool) (c : Bool) (xs : List X) → ((x : X) → IsAmong x xs → p x ≡ true → c ≡ true)
+    → list_any p xs ≡ true → c ≡ true
 from-among p c [] w h = cc
 from-among p c (x ∷ xs) w h =
     let here : p x ≡ true → c ≡ true = w x (inl refl) in
     let later : list_any p xs ≡ true → c ≡ true = from-among p c xs (λ y at. w y (inr at)) in
     grind (arith, h, here, later)
 
-filter-twice : {X : Type 0} (p q : X → Bool) (xs : List X) → filter (λ x. not (q x)) (filter (λ x. not (p x)) xs) ≡ filter (λ x. not (p x || q x)) xs
+filter-twice : {X : Type 0} (p q : X → Bool) (xs : List X)
+    → filter (λ x. not (q x)) (filter (λ x. not (p x)) xs) ≡ filter (λ x. not (p x || q x)) xs
 filter-twice p q [] = refl
 filter-twice p q (x ∷ xs) = grind (arith, filter-twice p q xs)
 
@@ -74,11 +79,13 @@ none-filtered p [] h = refl
 none-filtered p (x ∷ xs) h = grind (arith, none-filtered p xs)
 
 -- where keys are distinct, the first that passes is the one of its key
-none-of : {X : Type 0} (same : X → X → Bool) (x : X) (xs : List X) → ((y : X) → same x y ≡ same y x) → list_any (same x) xs ≡ false → filter (λ y. not (same y x)) xs ≡ xs
+none-of : {X : Type 0} (same : X → X → Bool) (x : X) (xs : List X) → ((y : X) → same x y ≡ same y x)
+    → list_any (same x) xs ≡ false → filter (λ y. not (same y x)) xs ≡ xs
 none-of same x [] s h = refl
 none-of same x (y ∷ ys) s h = grind (arith, s y, none-of same x ys s)
 
-without_first-step : {X : Type 0} (p : X → Bool) (same : X → X → Bool) → ((x : X) → same x x ≡ true) → ((x y : X) → same x y ≡ same y x) → (x : X) (xs : List X) (link : X) (b : Bool) → distinct same (x ∷ xs) ≡ true
+without_first-step : {X : Type 0} (p : X → Bool) (same : X → X → Bool) → ((x : X) → same x x ≡ true)
+    → ((x y : X) → same x y ≡ same y x) → (x : X) (xs : List X) (link : X) (b : Bool) → distinct same (x ∷ xs) ≡ true
     → (if b then Some x else find p xs) ≡ Some link → (find p xs ≡ Some link → IsAmong link xs)
     → (find p xs ≡ Some link → without_first p xs ≡ filter (λ y. not (same y link)) xs)
     → (if b then xs else x ∷ without_first p xs) ≡ filter (λ y. not (same y link)) (x ∷ xs)
@@ -92,7 +99,8 @@ without_first-step p same self s x xs link false d h among rest =
     let other : same x link ≡ false = grind (arith, parts.0, any-among (same x) link xs (among h)) in
     grind (arith, other, rest h)
 
-without_first-one : {X : Type 0} (p : X → Bool) (same : X → X → Bool) → ((x : X) → same x x ≡ true) → ((x y : X) → same x y ≡ same y x) → (xs : List X) (link : X) → distinct same xs ≡ true → find p xs ≡ Some link
+without_first-one : {X : Type 0} (p : X → Bool) (same : X → X → Bool) → ((x : X) → same x x ≡ true)
+    → ((x y : X) → same x y ≡ same y x) → (xs : List X) (link : X) → distinct same xs ≡ true → find p xs ≡ Some link
     → without_first p xs ≡ filter (λ y. not (same y link)) xs
 without_first-one p same self s [] link d h = refl
 without_first-one p same self s (x ∷ xs) link d h =
@@ -183,14 +191,16 @@ module _ (host : Host) (sound : IsSound host) (att : Att) (link : Link) (found :
   ) ≡ link_del_of host att
   own-leaves = (λ i. (record host { links = own-links i; addresses = own-addresses i; routes = own-routes i }, Gone true)) ∙ link_del-found host att link found
 
-pub none-leaves : (host : Host) (att : Att) → find (λ l. is_own att l.tag) host.links ≡ None → (record host { links = without_first (λ l. is_own att l.tag) host.links }, Gone false) ≡ link_del_of host att
+pub none-leaves : (host : Host) (att : Att) → find (λ l. is_own att l.tag) host.links ≡ None
+    → (record host { links = without_first (λ l. is_own att l.tag) host.links }, Gone false) ≡ link_del_of host att
 none-leaves host att none =
     ap (λ ls. (record host { links = ls }, Gone false)) (without_first-none (λ l. is_own att l.tag) host.links (list_any-find_none (λ l. is_own att l.tag) host.links none))
     ∙ ap (without_link host) (sym none)
 
 -- ---- what is dropped
 
-pub gone-own : {T : Type 0} (tag_of : T → Tag) (att : Att) (gone : T → Bool) (xs : List T) → filter (λ x. not (is_key att_eq-value.it (owner_named (tag_of x)) att && gone x)) xs ≡ filter (λ x. not (is_own att (tag_of x) && gone x)) xs
+pub gone-own : {T : Type 0} (tag_of : T → Tag) (att : Att) (gone : T → Bool) (xs : List T)
+    → filter (λ x. not (is_key att_eq-value.it (owner_named (tag_of x)) att && gone x)) xs ≡ filter (λ x. not (is_own att (tag_of x) && gone x)) xs
 gone-own tag_of att gone xs = (λ i. filter (λ x. not (own-is att_eq-value.it att-same att (tag_of x) i && gone x)) xs)
 
 pub no-peer : (o : Option LinkKey) (links : List Link) → o ≡ None → links ≡ filter (λ l. not (is_peer o l)) links
@@ -202,7 +212,8 @@ pub passes-found : {X : Type 0} (p : X → Bool) (xs : List X) (y : X) → find 
 passes-found p [] y h = absurd (cc h)
 passes-found p (x ∷ xs) y h = grind (arith, h, passes-found p xs y)
 
-at-key : (ns name : List ℕ) (link : Link) (links : List Link) → is_at ns name link ≡ true → filter (λ l. not (is_at ns name l)) links ≡ filter (λ l. not (is_at link.ns link.name l)) links
+at-key : (ns name : List ℕ) (link : Link) (links : List Link) → is_at ns name link ≡ true
+    → filter (λ l. not (is_at ns name l)) links ≡ filter (λ l. not (is_at link.ns link.name l)) links
 at-key ns name link links h =
     let parts = and_parts (bytes_eq link.ns ns) (bytes_eq link.name name) h in
     let one : link.ns ≡ ns = (bytes_eq-Decides link.ns ns).0 parts.0 in
@@ -295,10 +306,12 @@ module _ (host : Host) (sound : IsSound host) (ns name : List ℕ) (link : Link)
         Gone true,
       )) ∙ link-leaves host sound ns name link found
 
-pub drop_link-there : (host : Host) (key : LinkKey) → has_ns_in host.namespaces key.ns ≡ true → without_link host (find (is_at key.ns key.name) host.links) ≡ drop_link_of host key
+pub drop_link-there : (host : Host) (key : LinkKey) → has_ns_in host.namespaces key.ns ≡ true
+    → without_link host (find (is_at key.ns key.name) host.links) ≡ drop_link_of host key
 drop_link-there host key there = ap (λ b. if b then without_link host (find (is_at key.ns key.name) host.links) else (host, NoNs)) (sym there)
 
-pub no-link-leaves : (host : Host) (ns name : List ℕ) → find (is_at ns name) host.links ≡ None → (record host { links = filter (λ l. not (is_at ns name l)) host.links }, Gone false) ≡ without_link host (find (is_at ns name) host.links)
+pub no-link-leaves : (host : Host) (ns name : List ℕ) → find (is_at ns name) host.links ≡ None
+    → (record host { links = filter (λ l. not (is_at ns name l)) host.links }, Gone false) ≡ without_link host (find (is_at ns name) host.links)
 no-link-leaves host ns name none =
     ap (λ ls. (record host { links = ls }, Gone false)) (none-filtered (is_at ns name) host.links (list_any-find_none (is_at ns name) host.links none))
     ∙ ap (without_link host) (sym none)

@@ -17,7 +17,8 @@ use Rattle.kernel_tables.proofs.Leaving.{passes-found}
 
 -- ---- the link at a place of the host
 
-host-find : (ns place : List ℕ) → is_host_ns ns ≡ true → (links : List Link) → find (is_at ns place) links ≡ find (is_host_link place) links
+host-find : (ns place : List ℕ) → is_host_ns ns ≡ true → (links : List Link)
+    → find (is_at ns place) links ≡ find (is_host_link place) links
 host-find ns place host links =
     let empty : ns ≡ [] = (bytes_eq-Decides ns []).0 (sym (host_ns-eq ns) ∙ host) in
     ap (λ n. find (is_at n place) links) empty ∙ (λ i. find (λ l. sym (host_ns-eq l.ns) i && bytes_eq l.name place) links)

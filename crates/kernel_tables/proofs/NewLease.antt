@@ -14,7 +14,8 @@ use Rattle.kernel_tables.specs.{Leased.{kept_for, AreLeased}, Table.has_key}
 use Rattle.kernel_tables.proofs.Kept.{taken-leased}
 
 -- a lease whose address none has is not there
-pub absent-lease : (lease : Lease) (leases : List Lease) → list_any (is_lease_at lease.network lease.addr) leases ≡ false
+pub absent-lease : (lease : Lease) (leases : List Lease)
+    → list_any (is_lease_at lease.network lease.addr) leases ≡ false
     → (key : Lease) → Some lease ≡ Some key → list_any (has_key lease_eq-value.it (λ l. Some l) key) leases ≡ false
 absent-lease lease leases none key e =
     let is : lease ≡ key = cc in
@@ -22,10 +23,12 @@ absent-lease lease leases none key e =
     (list_any-none (λ row. lease_eq-value.it row lease) (is_lease_at lease.network lease.addr) (λ row h. grind (arith, h)) leases none)
 
 -- what `==` computes of a pool
-pub same-pool : (pool : PoolKey) (last : Last) → pool_eq-value.it (record { network = last.network; set = last.set }) pool ≡ is_of_pool pool.network pool.set last
+pub same-pool : (pool : PoolKey) (last : Last)
+    → pool_eq-value.it (record { network = last.network; set = last.set }) pool ≡ is_of_pool pool.network pool.set last
 same-pool pool last = grind arith
 
-pub any-pool : (pool : PoolKey) (lasts : List Last) → list_any (λ l. pool_eq-value.it (record { network = l.network; set = l.set }) pool) lasts ≡ list_any (is_of_pool pool.network pool.set) lasts
+pub any-pool : (pool : PoolKey) (lasts : List Last)
+    → list_any (λ l. pool_eq-value.it (record { network = l.network; set = l.set }) pool) lasts ≡ list_any (is_of_pool pool.network pool.set) lasts
 any-pool pool lasts = λ i. list_any (λ l. same-pool pool l i) lasts
 
 filter-none : {X : Type 0} (t : X → Bool) (xs : List X) → list_any t xs ≡ false → filter (λ x. not (t x)) xs ≡ xs
@@ -33,7 +36,8 @@ filter-none t [] h = refl
 filter-none t (x ∷ xs) h = grind (arith, h, filter-none t xs)
 
 -- the one that came goes again
-pub pushed-out : {X : Type 0} (t : X → Bool) (xs : List X) (x : X) → list_any t xs ≡ false → t x ≡ true → filter (λ y. not (t y)) (xs ++ x ∷ []) ≡ xs
+pub pushed-out : {X : Type 0} (t : X → Bool) (xs : List X) (x : X) → list_any t xs ≡ false → t x ≡ true
+    → filter (λ y. not (t y)) (xs ++ x ∷ []) ≡ xs
 pushed-out t xs x none own = filter-push_dropped (λ y. not (t y)) xs x (ap not own) ∙ filter-none t xs none
 
 pub on_err-with : {T E : Type 0} (A B : Type 0) (r : Result T E) → OnErr r A → B → OnErr r (A × B)

@@ -12,20 +12,24 @@ any-same : {X : Type 0} (p q : X → Bool) → ((x : X) → p x ≡ q x) → (xs
 any-same p q h [] = refl
 any-same p q h (x ∷ xs) = grind (arith, h x, any-same p q h xs)
 
-is_key-same : {K : Type 0} (eq : K → K → Bool) → IsEquivalence eq → (own q : K) → eq own q ≡ true → (key : Option K) → is_key eq key q ≡ is_key eq key own
+is_key-same : {K : Type 0} (eq : K → K → Bool) → IsEquivalence eq → (own q : K) → eq own q ≡ true → (key : Option K)
+    → is_key eq key q ≡ is_key eq key own
 is_key-same eq laws own q is None = refl
 is_key-same eq laws own q is (Some m) = laws.symm m q ∙ sym (laws.congr own q m is) ∙ laws.symm own m
 
-absent-keys : {K T : Type 0} (eq : K → K → Bool) → IsEquivalence eq → (key_of : T → Option K) (rows : List T) (key : Option K)
+absent-keys : {K T : Type 0} (eq : K → K → Bool) → IsEquivalence eq
+    → (key_of : T → Option K) (rows : List T) (key : Option K)
     → ((own : K) → key ≡ Some own → list_any (has_key eq key_of own) rows ≡ false) → (q : K) → is_key eq key q ≡ true → list_any (has_key eq key_of q) rows ≡ false
 absent-keys eq laws key_of rows None absent q is = absurd (true≢false (sym is))
 absent-keys eq laws key_of rows (Some own) absent q is =
     any-same (has_key eq key_of q) (has_key eq key_of own) (λ row. is_key-same eq laws own q is (key_of row)) rows ∙ absent own refl
 
-pub no_row : {K T : Type 0} (eq : K → K → Bool) (key_of : T → Option K) (row : T) (q : K) → passes (has_key eq key_of q) None ≡ true → is_key eq (key_of row) q ≡ true
+pub no_row : {K T : Type 0} (eq : K → K → Bool) (key_of : T → Option K) (row : T) (q : K)
+    → passes (has_key eq key_of q) None ≡ true → is_key eq (key_of row) q ≡ true
 no_row eq key_of row q h = absurd (true≢false (sym h))
 
-pub index-noted : {K T S : Type 0} (eq : K → K → Bool) → IsEquivalence eq → (key_of : T → Option K) (places : List (Option T)) (index new : IndexMap K ℕ S) (row : T) (key : Option K) (n : ℕ) (o : Option T)
+pub index-noted : {K T S : Type 0} (eq : K → K → Bool) → IsEquivalence eq
+    → (key_of : T → Option K) (places : List (Option T)) (index new : IndexMap K ℕ S) (row : T) (key : Option K) (n : ℕ) (o : Option T)
     → IsIndex eq key_of places index → key ≡ key_of row → n ≡ length places
     → ((q : K) → place_of eq new q ≡ (if is_key eq key q then n ∷ [] else place_of eq index q))
     → ((own : K) → key_of row ≡ Some own → list_any (has_key eq key_of own) (rows_of places) ≡ false)
@@ -48,7 +52,8 @@ lookup-same : {K X : Type 0} (p q : K → Bool) → ((k : K) → p k ≡ q k) �
 lookup-same p q same [] = refl
 lookup-same p q same (e ∷ es) = grind (arith, same e.0, lookup-same p q same es)
 
-passing-same : {T : Type 0} (t u : T → Bool) → ((x : T) → t x ≡ u x) → (places : List (Option T)) (cs : List ℕ) → passing t places cs ≡ passing u places cs
+passing-same : {T : Type 0} (t u : T → Bool) → ((x : T) → t x ≡ u x) → (places : List (Option T)) (cs : List ℕ)
+    → passing t places cs ≡ passing u places cs
 passing-same t u same places cs = filter_agree _ _ (λ p. by (row_at places p)) cs
   where
     by : (o : Option _) → passes t o ≡ passes u o

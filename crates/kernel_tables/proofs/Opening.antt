@@ -34,12 +34,14 @@ use Rattle.kernel_tables.proofs.{Added.setting-keyed, Free.{host-alike, host-nam
 use Rattle.kernel_tables.proofs.{NewLease.{AreLeased-new, same-pool}, Owned.att-same}
 
 -- no earlier element is the same
-none-earlier : {X : Type 0} (same : X → X → Bool) (earlier : List X) (x : X) (later : List X) → distinct same (earlier ++ x ∷ later) ≡ true → list_any (λ y. same y x) earlier ≡ false
+none-earlier : {X : Type 0} (same : X → X → Bool) (earlier : List X) (x : X) (later : List X)
+    → distinct same (earlier ++ x ∷ later) ≡ true → list_any (λ y. same y x) earlier ≡ false
 none-earlier same [] x later d = refl
 none-earlier same (y ∷ ys) x later d = grind (arith, d, list_any-append (same y) ys (x ∷ later), none-earlier same ys x later)
 
 -- no earlier row has the row's key
-pub key-free : {K T : Type 0} (eq : K → K → Bool) (key_of : T → Option K) (rows earlier : List T) (row : T) (later : List T) → earlier ++ row ∷ later ≡ rows → HasEachKeyOnce eq key_of rows
+pub key-free : {K T : Type 0} (eq : K → K → Bool) (key_of : T → Option K) (rows earlier : List T) (row : T) (later : List T)
+    → earlier ++ row ∷ later ≡ rows → HasEachKeyOnce eq key_of rows
     → (key : K) → key_of row ≡ Some key → list_any (has_key eq key_of key) earlier ≡ false
 key-free eq key_of rows earlier row later is once key own =
     ap (λ o. list_any (λ y. option_map_or (λ k. has_key eq key_of k y) o false) earlier) (sym own)
@@ -62,7 +64,8 @@ module _ (leases : List Lease) (i : ℕ) (lease : Lease) (below : i < length lea
 
 -- ---- the lists of a sound host
 
-distinct-finer : {X : Type 0} (same finer : X → X → Bool) → ((x y : X) → finer x y ≡ true → same x y ≡ true) → (xs : List X) → distinct same xs ≡ true → distinct finer xs ≡ true
+distinct-finer : {X : Type 0} (same finer : X → X → Bool) → ((x y : X) → finer x y ≡ true → same x y ≡ true)
+    → (xs : List X) → distinct same xs ≡ true → distinct finer xs ≡ true
 distinct-finer same finer h [] d = refl
 distinct-finer same finer h (x ∷ xs) d =
     let none : list_any (finer x) xs ≡ false = list_any-none (finer x) (same x) (h x) xs (grind (arith, d)) in
@@ -76,7 +79,8 @@ abbrev pool_key : Last → PoolKey
 pool_key l = record { network = l.network; set = l.set }
 
 -- where rows of one key are the same
-once-if : {K T : Type 0} (eq : K → K → Bool) (key_of : T → Option K) (is_same : T → T → Bool) → ((new row : T) → has_same_key eq key_of new row ≡ true → is_same new row ≡ true)
+once-if : {K T : Type 0} (eq : K → K → Bool) (key_of : T → Option K) (is_same : T → T → Bool)
+    → ((new row : T) → has_same_key eq key_of new row ≡ true → is_same new row ≡ true)
     → (rows : List T) → HasDistinctKeys is_same rows → HasEachKeyOnce eq key_of rows
 once-if eq key_of is_same h rows once = distinct-finer (λ a b. is_same b a) (λ a b. has_same_key eq key_of b a) (λ x y. h y x) rows once
 
@@ -98,7 +102,9 @@ module _ (namespaces : List NsObj) (once : HasDistinctKeys is_same_namespace nam
 link-same : (new row : Link) → has_same_key link_key-value.it link_key new row ≡ true → is_same_link new row ≡ true
 link-same new row h = grind (arith, h)
 
-named-same : (b : Bool) (new row : Link) → is_host_ns new.ns ≡ b → option_map_or (λ name. is_key bytes_eq (host_name row) name) (if b then Some new.name else None) false ≡ true → is_same_link new row ≡ true
+named-same : (b : Bool) (new row : Link) → is_host_ns new.ns ≡ b
+    → option_map_or (λ name. is_key bytes_eq (host_name row) name) (if b then Some new.name else None) false ≡ true
+    → is_same_link new row ≡ true
 named-same true new row e h = host-alike new.name row new (sym (host-named new.name row) ∙ h) (grind (arith, e, nat_list_eq_equiv.refl new.name))
 named-same false new row e h = absurd (true≢false (sym h))
 
@@ -119,7 +125,8 @@ module _ (addresses : List AddrObj) (once : HasDistinctKeys is_same_addr address
   pub addr-aliases : HasEachKeyOnce addr_obj-value.it (λ a. Some a) addresses
   addr-aliases = once-if addr_obj-value.it (λ a. Some a) is_same_addr (λ new row h. addr-same new row (addr-keyed row new h)) addresses once
 
-route-same : (new row : RouteObj) → route_key-value.it (route_key row) (route_key new) ≡ true → is_same_route new row ≡ true
+route-same : (new row : RouteObj) → route_key-value.it (route_key row) (route_key new) ≡ true
+    → is_same_route new row ≡ true
 route-same new row h = grind (arith, h)
 
 module _ (routes : List RouteObj) (once : HasDistinctKeys is_same_route routes) where
@@ -129,10 +136,12 @@ module _ (routes : List RouteObj) (once : HasDistinctKeys is_same_route routes) 
   pub route-aliases : HasEachKeyOnce route-value.it (λ r. Some r) routes
   route-aliases = once-if route-value.it (λ r. Some r) is_same_route (λ new row h. route-same new row (route-keyed row new h)) routes once
 
-pub rule-keys : (rules : List Rule) → HasDistinctKeys is_same_rule rules → HasEachKeyOnce rule-value.it (λ r. Some r) rules
+pub rule-keys : (rules : List Rule) → HasDistinctKeys is_same_rule rules
+    → HasEachKeyOnce rule-value.it (λ r. Some r) rules
 rule-keys rules once = once-if rule-value.it (λ r. Some r) is_same_rule (λ new row h. sym (rule-same row new) ∙ h) rules once
 
-setting-same : (new row : Setting) → setting_key-value.it (setting_key row) (setting_key new) ≡ true → is_same_setting new row ≡ true
+setting-same : (new row : Setting) → setting_key-value.it (setting_key row) (setting_key new) ≡ true
+    → is_same_setting new row ≡ true
 setting-same new row h = grind (arith, h)
 
 module _ (settings : List Setting) (once : HasDistinctKeys is_same_setting settings) where
@@ -145,18 +154,23 @@ module _ (settings : List Setting) (once : HasDistinctKeys is_same_setting setti
 lease-same : (new row : Lease) → lease-value.it row new ≡ true → is_same_lease new row ≡ true
 lease-same new row h = grind (arith, h)
 
-pub lease-keys : (leases : List Lease) → HasDistinctKeys is_same_lease leases → HasEachKeyOnce lease-value.it (λ l. Some l) leases
+pub lease-keys : (leases : List Lease) → HasDistinctKeys is_same_lease leases
+    → HasEachKeyOnce lease-value.it (λ l. Some l) leases
 lease-keys leases once = once-if lease-value.it (λ l. Some l) is_same_lease lease-same leases once
 
-owner-same : (new row : Tag) → option_map_or (λ att. is_key att-value.it (owner_named row) att) (owner_named new) false ≡ true → tag_eq row new ≡ true
+owner-same : (new row : Tag)
+    → option_map_or (λ att. is_key att-value.it (owner_named row) att) (owner_named new) false ≡ true
+    → tag_eq row new ≡ true
 owner-same Outside row h = absurd (true≢false (sym h))
 owner-same Base row h = absurd (true≢false (sym h))
 owner-same (Own att) Outside h = absurd (true≢false (sym h))
 owner-same (Own att) Base h = absurd (true≢false (sym h))
 owner-same (Own att) (Own own) h = sym (att-same own att) ∙ h
 
-pub cached-keys : (cached : List CachedObj) → HasDistinctKeys is_same_cached cached → HasEachKeyOnce att-value.it (λ (c : CachedObj). owner_named c.tag) cached
+pub cached-keys : (cached : List CachedObj) → HasDistinctKeys is_same_cached cached
+    → HasEachKeyOnce att-value.it (λ (c : CachedObj). owner_named c.tag) cached
 cached-keys cached once = once-if att-value.it (λ (c : CachedObj). owner_named c.tag) is_same_cached (λ new row h. owner-same new.tag row.tag h) cached once
 
-pub last-keys : (lasts : List Last) → HasDistinctKeys is_same_last lasts → HasEachKeyOnce pool-value.it (λ l. Some (pool_key l)) lasts
+pub last-keys : (lasts : List Last) → HasDistinctKeys is_same_last lasts
+    → HasEachKeyOnce pool-value.it (λ l. Some (pool_key l)) lasts
 last-keys lasts once = once-if pool-value.it (λ l. Some (pool_key l)) is_same_last (λ new row h. sym (same-pool (pool_key new) row) ∙ h) lasts once

@@ -12,7 +12,8 @@ pub att-same : (a b : Att) → att_eq-value.it a b ≡ att_eq a b
 att-same a b = grind arith
 
 -- a tag that names the attachment is its own
-pub own-is : (eq : Att → Att → Bool) → ((a b : Att) → eq a b ≡ att_eq a b) → (att : Att) (tag : Tag) → is_key eq (owner_named tag) att ≡ is_own att tag
+pub own-is : (eq : Att → Att → Bool) → ((a b : Att) → eq a b ≡ att_eq a b) → (att : Att) (tag : Tag)
+    → is_key eq (owner_named tag) att ≡ is_own att tag
 own-is eq same att Outside = refl
 own-is eq same att Base = refl
 own-is eq same att (Own own) = same own att

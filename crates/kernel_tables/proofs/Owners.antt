@@ -6,7 +6,8 @@ use Rattle.cni_addr.specs.Lists.{each_key_once, push_unless_there}
 use Rattle.kernel_tables.specs.Places.{rows_of}
 use Rattle.kernel_tables.proofs.Places.{rows_of-more}
 
-pub owners-more : {O T : Type 0} (eq : O → O → Bool) (owner_of : T → Option O) (which : O → Bool) (places : List (Option T)) (i : ℕ) (o : Option T) (old new : List O) → i < length places → o ≡ get_or places i o
+pub owners-more : {O T : Type 0} (eq : O → O → Bool) (owner_of : T → Option O) (which : O → Bool) (places : List (Option T)) (i : ℕ) (o : Option T) (old new : List O)
+    → i < length places → o ≡ get_or places i o
     → old ≡ each_key_once eq (filter which (filter_map owner_of (rows_of (take i places))))
     → new ≡ fold (push_unless_there eq) old (filter which (filter_map owner_of (option_to_list o)))
     → new ≡ each_key_once eq (filter which (filter_map owner_of (rows_of (take (i + 1) places))))

@@ -27,12 +27,14 @@ use Rattle.kernel_tables.proofs.{Owned.{att-same, own-is}, Places.any-first}
 
 -- ---- rows that pass, along all places and along a trail
 
-pub any-places : {T : Type 0} (t : T → Bool) (places : List (Option T)) → list_any (passes t) places ≡ list_any t (rows_of places)
+pub any-places : {T : Type 0} (t : T → Bool) (places : List (Option T))
+    → list_any (passes t) places ≡ list_any t (rows_of places)
 any-places t [] = refl
 any-places t (None ∷ places) = any-places t places
 any-places t (Some x ∷ places) = grind (arith, any-places t places)
 
-some-step : (g : ℕ → Bool) (c : ℕ) (cs : List ℕ) (b : Bool) → g c ≡ b → list_any g cs ≡ is_some (first_of (filter g cs)) → list_any g (c ∷ cs) ≡ is_some (first_of (filter g (c ∷ cs)))
+some-step : (g : ℕ → Bool) (c : ℕ) (cs : List ℕ) (b : Bool) → g c ≡ b → list_any g cs ≡ is_some (first_of (filter g cs))
+    → list_any g (c ∷ cs) ≡ is_some (first_of (filter g (c ∷ cs)))
 some-step g c cs true e rest = rw e refl
 some-step g c cs false e rest = rw e rest
 
@@ -40,20 +42,24 @@ some-first : (g : ℕ → Bool) (cs : List ℕ) → list_any g cs ≡ is_some (f
 some-first g [] = refl
 some-first g (c ∷ cs) = some-step g c cs (g c) refl (some-first g cs)
 
-pub any-along : {T : Type 0} (t : T → Bool) (places : List (Option T)) (trail : List ℕ) → passing t places trail ≡ places_where t places → list_any (λ p. passes t (row_at places p)) trail ≡ list_any t (rows_of places)
+pub any-along : {T : Type 0} (t : T → Bool) (places : List (Option T)) (trail : List ℕ)
+    → passing t places trail ≡ places_where t places
+    → list_any (λ p. passes t (row_at places p)) trail ≡ list_any t (rows_of places)
 any-along t places trail h =
     some-first (λ p. passes t (row_at places p)) trail ∙ any-first t places (passing t places trail) (sym h)
 
 -- ---- the owners of a network
 
-filter_map-cons : {A B : Type 0} (f : A → Option B) (x : A) (xs : List A) → filter_map f (x ∷ xs) ≡ option_to_list (f x) ++ filter_map f xs
+filter_map-cons : {A B : Type 0} (f : A → Option B) (x : A) (xs : List A)
+    → filter_map f (x ∷ xs) ≡ option_to_list (f x) ++ filter_map f xs
 filter_map-cons f x xs = by (f x) refl
   where
     by : (o : Option _) → f x ≡ o → filter_map f (x ∷ xs) ≡ option_to_list o ++ filter_map f xs
     by None e = rw e refl
     by (Some y) e = rw e refl
 
-owners-step : (network : List ℕ) (t : Tag) (named : List Att) (rest : List Att) → filter (λ att. bytes_eq att.network network) named ≡ rest
+owners-step : (network : List ℕ) (t : Tag) (named : List Att) (rest : List Att)
+    → filter (λ att. bytes_eq att.network network) named ≡ rest
     → filter (λ att. bytes_eq att.network network) (option_to_list (owner_named t) ++ named) ≡ option_to_list (owner_in network t) ++ rest
 owners-step network Outside named rest h = h
 owners-step network Base named rest h = h
@@ -87,12 +93,14 @@ named-is name l = by (is_host_ns l.ns)
 host_link-at : (name : List ℕ) (l : Link) → is_host_link name l ≡ true → is_at [] name l ≡ true
 host_link-at name l h = grind (arith, host_ns-eq l.ns, h)
 
-one-named-step : {X : Type 0} (p t u : X → Bool) (x : X) (xs : List X) (b : Bool) → p x ≡ b → t x ≡ (p x && u x) → (p x ≡ true → list_any t xs ≡ false) → list_any t xs ≡ option_map_or u (find p xs) false
+one-named-step : {X : Type 0} (p t u : X → Bool) (x : X) (xs : List X) (b : Bool) → p x ≡ b → t x ≡ (p x && u x)
+    → (p x ≡ true → list_any t xs ≡ false) → list_any t xs ≡ option_map_or u (find p xs) false
     → list_any t (x ∷ xs) ≡ option_map_or u (find p (x ∷ xs)) false
 one-named-step p t u x xs true e is none rest = rw (is, e, none e) (grind arith)
 one-named-step p t u x xs false e is none rest = rw (is, e) rest
 
-one-found : {X : Type 0} (p t u : X → Bool) (same : X → X → Bool) → ((x : X) → t x ≡ (p x && u x)) → ((x y : X) → p x ≡ true → p y ≡ true → same x y ≡ true) → (xs : List X) → distinct same xs ≡ true
+one-found : {X : Type 0} (p t u : X → Bool) (same : X → X → Bool) → ((x : X) → t x ≡ (p x && u x))
+    → ((x y : X) → p x ≡ true → p y ≡ true → same x y ≡ true) → (xs : List X) → distinct same xs ≡ true
     → list_any t xs ≡ option_map_or u (find p xs) false
 one-found p t u same is one [] d = refl
 one-found p t u same is one (x ∷ xs) d =
@@ -102,7 +110,8 @@ one-found p t u same is one (x ∷ xs) d =
     (one-found p t u same is one xs parts.1)
 
 -- in a sound host one link of the host has the name: what is asked of all is asked of it
-pub one-named : (name : List ℕ) (t u : Link → Bool) → ((l : Link) → t l ≡ (is_host_link name l && u l)) → (links : List Link) → HasDistinctKeys is_same_link links
+pub one-named : (name : List ℕ) (t u : Link → Bool) → ((l : Link) → t l ≡ (is_host_link name l && u l))
+    → (links : List Link) → HasDistinctKeys is_same_link links
     → list_any t links ≡ option_map_or u (find (λ l. is_key bytes_eq (host_name l) name) links) false
 one-named name t u is links d =
     one-found (is_host_link name) t u (λ a b. is_same_link b a) is (λ x y h g. one_place [] name x y (host_link-at name x h) (host_link-at name y g)) links d
@@ -117,14 +126,16 @@ equal-place : (l link : Link) → link_eq l link ≡ true → is_at link.ns link
 equal-place l link h = grind (arith, h)
 
 -- a link that is equal to one of the host is one of its name
-pub equal-named : (link : Link) → is_host_ns link.ns ≡ true → (l : Link) → link_eq l link ≡ (is_host_link link.name l && link_eq l link)
+pub equal-named : (link : Link) → is_host_ns link.ns ≡ true → (l : Link)
+    → link_eq l link ≡ (is_host_link link.name l && link_eq l link)
 equal-named link host l =
     absorbs (is_host_link link.name l) (link_eq l link)
     (λ h. let at = and_parts (bytes_eq l.ns link.ns) (bytes_eq l.name link.name) (equal-place l link h) in
     let ns : is_host_ns l.ns ≡ true = ap is_host_ns ((bytes_eq-Decides l.ns link.ns).0 at.0) ∙ host in
     grind (arith, ns, at.1))
 
-last_test : (a b c d e f g h i j k l : Bool) → (a && (b && (c && (d && (e && (f && (g && (h && (i && (j && (k && l))))))))))) ≡ true → l ≡ true
+last_test : (a b c d e f g h i j k l : Bool)
+    → (a && (b && (c && (d && (e && (f && (g && (h && (i && (j && (k && l))))))))))) ≡ true → l ≡ true
 last_test a b c d e f g h i j k l all = grind (arith, all)
 
 equal-tag : (l link : Link) → link_eq l link ≡ true → tag_eq l.tag link.tag ≡ true
@@ -133,12 +144,14 @@ equal-tag l link h =
     (l.mtu == link.mtu) (beq l.hairpin link.hairpin) (beq l.promisc link.promisc) (beq l.allmulti link.allmulti) (l.tx_qlen == link.tx_qlen) (tag_eq l.tag link.tag) h
 
 -- a link that is equal to the attachment's is its own too
-pub equal-owned : (att : Att) (link : Link) → link.tag ≡ Own att → (l : Link) → link_eq l link ≡ (is_key att_eq-value.it (owner_named l.tag) att && link_eq l link)
+pub equal-owned : (att : Att) (link : Link) → link.tag ≡ Own att → (l : Link)
+    → link_eq l link ≡ (is_key att_eq-value.it (owner_named l.tag) att && link_eq l link)
 equal-owned att link tag l =
     absorbs (is_key att_eq-value.it (owner_named l.tag) att) (link_eq l link)
     (λ h. own-is att_eq-value.it att-same att l.tag ∙ sym (tag_eq-own att l.tag) ∙ ap (tag_eq l.tag) (sym tag) ∙ equal-tag l link h)
 
-pub bridge-named : (name : List ℕ) (mac : Mac) (l : Link) → is_bridge_with name mac l ≡ (is_host_link name l && (is_bridge l.kind && mac_eq l.mac mac))
+pub bridge-named : (name : List ℕ) (mac : Mac) (l : Link)
+    → is_bridge_with name mac l ≡ (is_host_link name l && (is_bridge l.kind && mac_eq l.mac mac))
 bridge-named name mac l = grind arith
 
 -- ---- what `==` computes of whole objects

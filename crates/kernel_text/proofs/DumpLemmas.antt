@@ -17,15 +17,18 @@ link_key_is_whole : (key : LinkKey) → has_float (link_key_data key) ≡ false
 unfolding link_key_data
 link_key_is_whole key = refl
 
-identity_is_whole : (link : Link) (ms : Members) → members_have_float ms ≡ false → members_have_float (put_identity link ms) ≡ false
+identity_is_whole : (link : Link) (ms : Members) → members_have_float ms ≡ false
+    → members_have_float (put_identity link ms) ≡ false
 unfolding put_identity
 identity_is_whole link ms rest = search puts_are_whole depth 10
 
-attributes_are_whole : (link : Link) (ms : Members) → members_have_float ms ≡ false → members_have_float (put_attributes link ms) ≡ false
+attributes_are_whole : (link : Link) (ms : Members) → members_have_float ms ≡ false
+    → members_have_float (put_attributes link ms) ≡ false
 unfolding put_attributes
 attributes_are_whole link ms rest = search puts_are_whole depth 10
 
-relations_are_whole : (link : Link) (ms : Members) → members_have_float ms ≡ false → members_have_float (put_relations link ms) ≡ false
+relations_are_whole : (link : Link) (ms : Members) → members_have_float ms ≡ false
+    → members_have_float (put_relations link ms) ≡ false
 unfolding put_relations
 relations_are_whole link ms rest = search (puts_are_whole, link_key_is_whole) depth 10
 
@@ -41,11 +44,13 @@ pub route_is_whole : (route : RouteObj) → has_float (route_data route) ≡ fal
 unfolding route_data
 route_is_whole route = search puts_are_whole depth 10
 
-match_is_whole : (rule : Rule) (ms : Members) → members_have_float ms ≡ false → members_have_float (put_match rule ms) ≡ false
+match_is_whole : (rule : Rule) (ms : Members) → members_have_float ms ≡ false
+    → members_have_float (put_match rule ms) ≡ false
 unfolding put_match
 match_is_whole rule ms rest = search puts_are_whole depth 10
 
-chain_is_whole : (rule : Rule) (ms : Members) → members_have_float ms ≡ false → members_have_float (put_chain rule ms) ≡ false
+chain_is_whole : (rule : Rule) (ms : Members) → members_have_float ms ≡ false
+    → members_have_float (put_chain rule ms) ≡ false
 unfolding put_chain
 chain_is_whole rule ms rest = search puts_are_whole depth 10
 
@@ -75,10 +80,12 @@ pub ruleset objects_are_whole = (namespace_is_whole, link_is_whole, address_is_w
 -- ---- the lists one after another
 
 -- the first list is appended
-pub first_list : {A : Type 0} (data_of : A → Data) (old new : List ℕ) (xs ys : List A) → new ≡ old ++ lines_of data_of xs → xs ≡ ys → new ≡ old ++ lines_of data_of ys
+pub first_list : {A : Type 0} (data_of : A → Data) (old new : List ℕ) (xs ys : List A)
+    → new ≡ old ++ lines_of data_of xs → xs ≡ ys → new ≡ old ++ lines_of data_of ys
 first_list data_of old new xs ys is same = is ∙ ap (λ l. old ++ lines_of data_of l) same
 
 -- one more list is appended
-pub next_list : {A : Type 0} (data_of : A → Data) (old text mid new : List ℕ) (xs ys : List A) → mid ≡ old ++ text → new ≡ mid ++ lines_of data_of xs → xs ≡ ys → new ≡ old ++ (text ++ lines_of data_of ys)
+pub next_list : {A : Type 0} (data_of : A → Data) (old text mid new : List ℕ) (xs ys : List A) → mid ≡ old ++ text
+    → new ≡ mid ++ lines_of data_of xs → xs ≡ ys → new ≡ old ++ (text ++ lines_of data_of ys)
 next_list data_of old text mid new xs ys before is same =
     is ∙ ap (λ l. mid ++ lines_of data_of l) same ∙ ap (λ l. l ++ lines_of data_of ys) before ∙ append_assoc old text (lines_of data_of ys)

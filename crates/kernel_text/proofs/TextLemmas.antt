@@ -13,5 +13,6 @@ pub prefix_of_append : (a b more : List ℕ) → b ≡ a ++ more → take (lengt
 prefix_of_append a b more is = rw is (take-append_seam a more)
 
 -- a text that was put together of three texts with slashes between them
-pub with_slashes : (text bytes a b c x y z : List ℕ) → text ≡ bytes → bytes ≡ a ++ 47 ∷ (b ++ 47 ∷ c) → a ≡ x → b ≡ y → c ≡ z → text ≡ x ++ codes "/" ++ y ++ codes "/" ++ z
+pub with_slashes : (text bytes a b c x y z : List ℕ) → text ≡ bytes → bytes ≡ a ++ 47 ∷ (b ++ 47 ∷ c) → a ≡ x → b ≡ y
+    → c ≡ z → text ≡ x ++ codes "/" ++ y ++ codes "/" ++ z
 with_slashes text bytes a b c x y z is made first second third = rw (is, made, first, second, third) (simp append_assoc)

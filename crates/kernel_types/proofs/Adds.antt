@@ -32,7 +32,8 @@ TouchesTag-nothing (Own att) host = TouchesOwnAlone-nothing att host
 
 -- ---- cached results
 
-pub IsSound-cache_put : (host : Host) (att : Att) (cached : Cached) → IsSound host → IsSound (cache_put_of host att cached).0
+pub IsSound-cache_put : (host : Host) (att : Att) (cached : Cached) → IsSound host
+    → IsSound (cache_put_of host att cached).0
 IsSound-cache_put host att cached sound =
     by_absence IsSound (list_any (λ c. is_own att c.tag) host.cached) _ host _ sound
     (λ none. IsSound-with_cached host _ sound (record {
@@ -41,19 +42,22 @@ IsSound-cache_put host att cached sound =
       tags = list_all-push (λ c. is_owned c.tag) host.cached (record { cached = cached; tag = Own att }) sound.cached.tags refl;
     }))
 
-pub TouchesOwnAlone-cache_put : (host : Host) (att : Att) (cached : Cached) → TouchesOwnAlone att host (cache_put_of host att cached).0
+pub TouchesOwnAlone-cache_put : (host : Host) (att : Att) (cached : Cached)
+    → TouchesOwnAlone att host (cache_put_of host att cached).0
 TouchesOwnAlone-cache_put host att cached =
     by_absence (TouchesOwnAlone att host) (list_any (λ c. is_own att c.tag) host.cached) _ host _ (TouchesOwnAlone-nothing att host)
     (λ none. TouchesOwnAlone-with_cached att host _ (ChangesOnly-append (λ c. is_own att c.tag) host.cached (record { cached = cached; tag = Own att } ∷ []) (one_own att (Own att) refl)))
 
 -- ---- addresses
 
-address_fits_tag-owned : (links : List Link) (a : AddrObj) (t : Tag) → is_owned t ≡ true → list_any (is_link_of a.ns a.link t) links ≡ true → address_fits_tag links a t ≡ true
+address_fits_tag-owned : (links : List Link) (a : AddrObj) (t : Tag) → is_owned t ≡ true
+    → list_any (is_link_of a.ns a.link t) links ≡ true → address_fits_tag links a t ≡ true
 address_fits_tag-owned links a Outside h g = cc
 address_fits_tag-owned links a Base h g = cc
 address_fits_tag-owned links a (Own att) h g = g
 
-pub IsSound-addr_add : (host : Host) (obj : AddrObj) → is_owned obj.tag ≡ true → IsSound host → IsSound (addr_add_of host obj).0
+pub IsSound-addr_add : (host : Host) (obj : AddrObj) → is_owned obj.tag ≡ true → IsSound host
+    → IsSound (addr_add_of host obj).0
 IsSound-addr_add host obj owned sound =
     by_addition IsSound (has_link_of host obj.ns obj.link obj.tag) (option_map (λ a. a.tag) (find (is_same_addr obj) host.addresses)) host _ _ sound
     (λ there free. IsSound-with_addresses host _ sound (record {
@@ -62,7 +66,8 @@ IsSound-addr_add host obj owned sound =
       on_links = list_all-push (λ a. address_fits_tag host.links a a.tag) host.addresses obj sound.addresses.on_links (address_fits_tag-owned host.links obj obj.tag owned there);
     }))
 
-pub TouchesTag-addr_add : (host : Host) (obj : AddrObj) → is_owned obj.tag ≡ true → TouchesTag obj.tag host (addr_add_of host obj).0
+pub TouchesTag-addr_add : (host : Host) (obj : AddrObj) → is_owned obj.tag ≡ true
+    → TouchesTag obj.tag host (addr_add_of host obj).0
 TouchesTag-addr_add host obj owned =
     by_addition (TouchesTag obj.tag host) (has_link_of host obj.ns obj.link obj.tag) (option_map (λ a. a.tag) (find (is_same_addr obj) host.addresses)) host _ _ (TouchesTag-nothing obj.tag host)
     (λ _ _. TouchesTag-owned obj.tag host _ owned (λ att own. TouchesOwnAlone-with_addresses att host _ (ChangesOnly-append (λ a. is_own att a.tag) host.addresses (obj ∷ []) (one_own att obj.tag own))))
@@ -78,14 +83,16 @@ IsSound-route_add host obj sound =
       on_links = list_all-push (λ r. list_any (is_link_of r.ns r.link r.tag) host.links) host.routes obj sound.routes.on_links there;
     }))
 
-pub TouchesTag-route_add : (host : Host) (obj : RouteObj) → is_owned obj.tag ≡ true → TouchesTag obj.tag host (route_add_of host obj).0
+pub TouchesTag-route_add : (host : Host) (obj : RouteObj) → is_owned obj.tag ≡ true
+    → TouchesTag obj.tag host (route_add_of host obj).0
 TouchesTag-route_add host obj owned =
     by_addition (TouchesTag obj.tag host) (has_link_of host obj.ns obj.link obj.tag) (option_map (λ r. r.tag) (find (is_same_route obj) host.routes)) host _ _ (TouchesTag-nothing obj.tag host)
     (λ _ _. TouchesTag-owned obj.tag host _ owned (λ att own. TouchesOwnAlone-with_routes att host _ (ChangesOnly-append (λ r. is_own att r.tag) host.routes (obj ∷ []) (one_own att obj.tag own))))
 
 -- ---- rules
 
-pub IsSound-rule_append : (host : Host) (rule : Rule) → is_owned rule.tag ≡ true → IsSound host → IsSound (rule_append_of host rule).0
+pub IsSound-rule_append : (host : Host) (rule : Rule) → is_owned rule.tag ≡ true → IsSound host
+    → IsSound (rule_append_of host rule).0
 IsSound-rule_append host rule owned sound =
     by_absence IsSound (list_any (λ r. rule_eq r rule) host.rules) _ host _ sound
     (λ none. IsSound-with_rules host _ sound (record {
@@ -93,19 +100,22 @@ IsSound-rule_append host rule owned sound =
       tags = list_all-push (λ r. is_owned r.tag) host.rules rule sound.rules.tags owned;
     }))
 
-pub TouchesTag-rule_append : (host : Host) (rule : Rule) → is_owned rule.tag ≡ true → TouchesTag rule.tag host (rule_append_of host rule).0
+pub TouchesTag-rule_append : (host : Host) (rule : Rule) → is_owned rule.tag ≡ true
+    → TouchesTag rule.tag host (rule_append_of host rule).0
 TouchesTag-rule_append host rule owned =
     by_absence (TouchesTag rule.tag host) (list_any (λ r. rule_eq r rule) host.rules) _ host _ (TouchesTag-nothing rule.tag host)
     (λ _. TouchesTag-owned rule.tag host _ owned (λ att own. TouchesOwnAlone-with_rules att host _ (ChangesOnly-append (λ r. is_own att r.tag) host.rules (rule ∷ []) (one_own att rule.tag own))))
 
 -- ---- settings
 
-setting_fits_tag-owned : (namespaces : List NsObj) (s : Setting) (t : Tag) → is_owned t ≡ true → list_any (λ n. bytes_eq n.name s.ns) namespaces ≡ true → setting_fits_tag namespaces s t ≡ true
+setting_fits_tag-owned : (namespaces : List NsObj) (s : Setting) (t : Tag) → is_owned t ≡ true
+    → list_any (λ n. bytes_eq n.name s.ns) namespaces ≡ true → setting_fits_tag namespaces s t ≡ true
 setting_fits_tag-owned namespaces s Outside h there = cc
 setting_fits_tag-owned namespaces s Base h there = cc
 setting_fits_tag-owned namespaces s (Own att) h there = grind (arith, there)
 
-pub IsSound-setting_set : (host : Host) (setting : Setting) → is_owned setting.tag ≡ true → IsSound host → IsSound (setting_set_of host setting).0
+pub IsSound-setting_set : (host : Host) (setting : Setting) → is_owned setting.tag ≡ true → IsSound host
+    → IsSound (setting_set_of host setting).0
 IsSound-setting_set host setting owned sound =
     by_addition IsSound (has_named_ns host setting.ns) (option_map (λ s. s.tag) (find (is_same_setting setting) host.settings)) host _ _ sound
     (λ there free. IsSound-with_settings host _ sound (record {
@@ -114,14 +124,16 @@ IsSound-setting_set host setting owned sound =
       tags = list_all-push (λ s. setting_fits_tag host.namespaces s s.tag) host.settings setting sound.settings.tags (setting_fits_tag-owned host.namespaces setting setting.tag owned there);
     }))
 
-pub TouchesTag-setting_set : (host : Host) (setting : Setting) → is_owned setting.tag ≡ true → TouchesTag setting.tag host (setting_set_of host setting).0
+pub TouchesTag-setting_set : (host : Host) (setting : Setting) → is_owned setting.tag ≡ true
+    → TouchesTag setting.tag host (setting_set_of host setting).0
 TouchesTag-setting_set host setting owned =
     by_addition (TouchesTag setting.tag host) (has_named_ns host setting.ns) (option_map (λ s. s.tag) (find (is_same_setting setting) host.settings)) host _ _ (TouchesTag-nothing setting.tag host)
     (λ _ _. TouchesTag-owned setting.tag host _ owned (λ att own. TouchesOwnAlone-with_settings att host _ (ChangesOnly-append (λ s. is_own att s.tag) host.settings (setting ∷ []) (one_own att setting.tag own))))
 
 -- ---- what the attachments of a host share
 
-pub IsSound-gateway_ensure : (host : Host) (bridge : List ℕ) (cidr : Cidr) → IsSound host → IsSound (gateway_ensure_of host bridge cidr).0
+pub IsSound-gateway_ensure : (host : Host) (bridge : List ℕ) (cidr : Cidr) → IsSound host
+    → IsSound (gateway_ensure_of host bridge cidr).0
 IsSound-gateway_ensure host bridge cidr sound =
     by_test (λ (step : Host × Reply). IsSound step.0) (has_host_bridge host bridge) _ _
     (λ there. by_absence IsSound (list_any (is_same_addr (new_gateway bridge cidr)) host.addresses) _ host _ sound
@@ -131,7 +143,8 @@ IsSound-gateway_ensure host bridge cidr sound =
     })))
     (λ _. sound)
 
-pub AddsAddress-gateway_ensure : (host : Host) (bridge : List ℕ) (cidr : Cidr) → AddsAddress host (gateway_ensure_of host bridge cidr).0
+pub AddsAddress-gateway_ensure : (host : Host) (bridge : List ℕ) (cidr : Cidr)
+    → AddsAddress host (gateway_ensure_of host bridge cidr).0
 AddsAddress-gateway_ensure host bridge cidr =
     by_test (λ (step : Host × Reply). AddsAddress host step.0) (has_host_bridge host bridge) _ _
     (λ there. by_absence (AddsAddress host) (list_any (is_same_addr (new_gateway bridge cidr)) host.addresses) _ host _ (inl refl) (λ free. inr (new_gateway bridge cidr, refl, refl)))

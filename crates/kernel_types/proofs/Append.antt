@@ -24,11 +24,13 @@ use Rattle.kernel_types.proofs.OneList.{TouchesOwnAlone-with_links}
 
 -- ---- more links
 
-peer_fits-more : (links more : List Link) (l : Link) (o : Option LinkKey) → peer_fits links l o ≡ true → peer_fits (links ++ more) l o ≡ true
+peer_fits-more : (links more : List Link) (l : Link) (o : Option LinkKey) → peer_fits links l o ≡ true
+    → peer_fits (links ++ more) l o ≡ true
 peer_fits-more links more l None h = h
 peer_fits-more links more l (Some key) h = grind (arith, h, list_any-append_left (peers_back l key) links more)
 
-address_fits_tag-more : (links more : List Link) (a : AddrObj) (t : Tag) → address_fits_tag links a t ≡ true → address_fits_tag (links ++ more) a t ≡ true
+address_fits_tag-more : (links more : List Link) (a : AddrObj) (t : Tag) → address_fits_tag links a t ≡ true
+    → address_fits_tag (links ++ more) a t ≡ true
 address_fits_tag-more links more a Outside h = h
 address_fits_tag-more links more a Base h = grind (arith, h, list_any-append_left (is_host_bridge a.link) links more)
 address_fits_tag-more links more a (Own att) h = list_any-append_left (is_link_of a.ns a.link (Own att)) links more h
@@ -41,7 +43,8 @@ pub record AreNewLinks (namespaces : List NsObj) (links more : List Link) : Type
   pub places : list_all (λ l. is_host_or_ns namespaces l.ns) more ≡ true
   pub peers : list_all (λ l. peer_fits (links ++ more) l l.peer) more ≡ true
 
-pub IsSound-more_links : (host : Host) (more : List Link) → IsSound host → AreNewLinks host.namespaces host.links more → IsSound (record host { links = host.links ++ more })
+pub IsSound-more_links : (host : Host) (more : List Link) → IsSound host → AreNewLinks host.namespaces host.links more
+    → IsSound (record host { links = host.links ++ more })
 IsSound-more_links host more sound n = record {
   namespaces = sound.namespaces;
   links = record {
@@ -73,24 +76,31 @@ IsSound-more_links host more sound n = record {
 host_link-at : (name : List ℕ) (l : Link) → is_at [] name l ≡ is_host_link name l
 host_link-at name l = ap (λ b. b && bytes_eq l.name name) (sym (host_ns-eq l.ns))
 
-AreNewLinks-bridge : (host : Host) (name : List ℕ) (mtu : ℕ) (promisc : Bool) → find (is_host_link name) host.links ≡ None → AreNewLinks host.namespaces host.links (new_bridge name mtu promisc ∷ [])
+AreNewLinks-bridge : (host : Host) (name : List ℕ) (mtu : ℕ) (promisc : Bool)
+    → find (is_host_link name) host.links ≡ None
+    → AreNewLinks host.namespaces host.links (new_bridge name mtu promisc ∷ [])
 AreNewLinks-bridge host name mtu promisc free =
     let new : list_any (is_at [] name) host.links ≡ false =
     list_any-none (is_at [] name) (is_host_link name) (λ l h. sym (host_link-at name l) ∙ h) host.links (list_any-find_none (is_host_link name) host.links free) in
     record { distinct = refl; new = grind (arith, new); tags = refl; places = refl; peers = refl }
 
-bridge-sound : (host : Host) (name : List ℕ) (mtu : ℕ) (promisc : Bool) (o : Option Link) → find (is_host_link name) host.links ≡ o → IsSound host → IsSound (bridge_or_new host o (new_bridge name mtu promisc)).0
+bridge-sound : (host : Host) (name : List ℕ) (mtu : ℕ) (promisc : Bool) (o : Option Link)
+    → find (is_host_link name) host.links ≡ o → IsSound host
+    → IsSound (bridge_or_new host o (new_bridge name mtu promisc)).0
 bridge-sound host name mtu promisc None free sound = IsSound-more_links host (new_bridge name mtu promisc ∷ []) sound (AreNewLinks-bridge host name mtu promisc free)
 bridge-sound host name mtu promisc (Some link) found sound = sound
 
-pub IsSound-bridge_ensure : (host : Host) (name : List ℕ) (mtu : ℕ) (promisc : Bool) → IsSound host → IsSound (bridge_ensure_of host name mtu promisc).0
+pub IsSound-bridge_ensure : (host : Host) (name : List ℕ) (mtu : ℕ) (promisc : Bool) → IsSound host
+    → IsSound (bridge_ensure_of host name mtu promisc).0
 IsSound-bridge_ensure host name mtu promisc sound = bridge-sound host name mtu promisc (find (is_host_link name) host.links) refl sound
 
-bridge-added : (host : Host) (o : Option Link) (bridge : Link) → bridge.tag ≡ Base → AddsBridge host (bridge_or_new host o bridge).0
+bridge-added : (host : Host) (o : Option Link) (bridge : Link) → bridge.tag ≡ Base
+    → AddsBridge host (bridge_or_new host o bridge).0
 bridge-added host None bridge base = inr (bridge, base, refl)
 bridge-added host (Some link) bridge base = inl refl
 
-pub AddsBridge-bridge_ensure : (host : Host) (name : List ℕ) (mtu : ℕ) (promisc : Bool) → AddsBridge host (bridge_ensure_of host name mtu promisc).0
+pub AddsBridge-bridge_ensure : (host : Host) (name : List ℕ) (mtu : ℕ) (promisc : Bool)
+    → AddsBridge host (bridge_ensure_of host name mtu promisc).0
 AddsBridge-bridge_ensure host name mtu promisc = bridge-added host (find (is_host_link name) host.links) (new_bridge name mtu promisc) refl
 
 -- ---- a veth pair
@@ -109,7 +119,8 @@ tagged_owned l Base h k = cc
 tagged_owned l (Own att) h k = k
 
 -- the one end has the other as its peer
-end_has_peer : (links : List Link) (l m : Link) (o : Option LinkKey) → is_peer_at m.ns m.name o ≡ true → is_peer_at l.ns l.name m.peer ≡ true → tag_eq m.tag l.tag ≡ true → is_veth l.kind ≡ true
+end_has_peer : (links : List Link) (l m : Link) (o : Option LinkKey) → is_peer_at m.ns m.name o ≡ true
+    → is_peer_at l.ns l.name m.peer ≡ true → tag_eq m.tag l.tag ≡ true → is_veth l.kind ≡ true
     → not (is_host_ns l.ns && is_host_ns m.ns) ≡ true → (is_host_ns l.ns || is_host_ns m.ns) ≡ true → list_any (λ x. is_at m.ns m.name x && is_peer_at l.ns l.name x.peer && tag_eq x.tag l.tag) links ≡ true → peer_fits links l o ≡ true
 end_has_peer links l m None p b t v n s c = cc
 end_has_peer links l m (Some key) p b t v n s c =
@@ -117,7 +128,9 @@ end_has_peer links l m (Some key) p b t v n s c =
     let name : key.name ≡ m.name = (bytes_eq-Decides key.name m.name).0 (grind (arith, p)) in
     rw (ns, name) (grind (arith, v, n, s, c))
 
-AreNewLinks-veth : (host : Host) (h i : Link) → IsVethPair h i → has_named_ns host i.ns ≡ true → link_at host i.ns i.name ≡ None → link_at host h.ns h.name ≡ None → AreNewLinks host.namespaces host.links (h ∷ i ∷ [])
+AreNewLinks-veth : (host : Host) (h i : Link) → IsVethPair h i → has_named_ns host i.ns ≡ true
+    → link_at host i.ns i.name ≡ None → link_at host h.ns h.name ≡ None
+    → AreNewLinks host.namespaces host.links (h ∷ i ∷ [])
 AreNewLinks-veth host h i pair there free_i free_h =
     let differ : bytes_eq h.ns i.ns ≡ false = other_host h.ns i.ns pair.outer pair.inner in
     let same : tag_eq i.tag h.tag ≡ true = rw pair.same_tag (tag_eq-refl h.tag) in
@@ -152,7 +165,8 @@ IsSound-veth_add host h i pair sound =
     IsSound-more_links host (h ∷ i ∷ []) sound (AreNewLinks-veth host h i pair there none.0 none.1)))
     (λ _. sound)
 
-touches-veth : (host : Host) (h i : Link) (att : Att) → h.tag ≡ Own att → i.tag ≡ Own att → TouchesOwnAlone att host (veth_add_of host h i).0
+touches-veth : (host : Host) (h i : Link) (att : Att) → h.tag ≡ Own att → i.tag ≡ Own att
+    → TouchesOwnAlone att host (veth_add_of host h i).0
 touches-veth host h i att own_h own_i =
     let at_h : is_own att h.tag ≡ true = own-own att h.tag own_h in
     let at_i : is_own att i.tag ≡ true = own-own att i.tag own_i in
@@ -168,7 +182,8 @@ TouchesTag-veth_add host h i pair =
 
 -- ---- a link that is no end of a pair
 
-inner_kind : (ns : List ℕ) (k : LinkKind) (master : Option (List ℕ)) → fits_master k master ≡ true → is_host_ns ns ≡ false → (is_owned_kind ns k ≡ true) × (is_veth k ≡ false)
+inner_kind : (ns : List ℕ) (k : LinkKind) (master : Option (List ℕ)) → fits_master k master ≡ true
+    → is_host_ns ns ≡ false → (is_owned_kind ns k ≡ true) × (is_veth k ≡ false)
 inner_kind ns Device master h inner = cc
 inner_kind ns Bridge master h inner = cc
 inner_kind ns Veth master h inner = cc
@@ -176,11 +191,13 @@ inner_kind ns (Macvlan mode) master h inner = (grind (arith, inner), refl)
 inner_kind ns Dummy master h inner = (grind (arith, inner), refl)
 inner_kind ns (Vlan id) master h inner = (grind (arith, inner), refl)
 
-no_peer-fits : (links : List Link) (l : Link) (o : Option LinkKey) → o ≡ None → is_veth l.kind ≡ false → peer_fits links l o ≡ true
+no_peer-fits : (links : List Link) (l : Link) (o : Option LinkKey) → o ≡ None → is_veth l.kind ≡ false
+    → peer_fits links l o ≡ true
 no_peer-fits links l None e v = grind (arith, v)
 no_peer-fits links l (Some key) e v = cc
 
-AreNewLinks-inner : (host : Host) (l : Link) → IsInnerLink l → has_named_ns host l.ns ≡ true → link_at host l.ns l.name ≡ None → AreNewLinks host.namespaces host.links (l ∷ [])
+AreNewLinks-inner : (host : Host) (l : Link) → IsInnerLink l → has_named_ns host l.ns ≡ true
+    → link_at host l.ns l.name ≡ None → AreNewLinks host.namespaces host.links (l ∷ [])
 AreNewLinks-inner host l link there free =
     let new : list_any (is_at l.ns l.name) host.links ≡ false = list_any-find_none (is_at l.ns l.name) host.links free in
     let kind = inner_kind l.ns l.kind l.master link.fits link.inner in
@@ -201,7 +218,8 @@ IsSound-macvlan_add host l link sound =
     (λ master free. IsSound-more_links host (l ∷ []) sound (AreNewLinks-inner host l link there (none-option_map (λ m. m.tag) _ free))))
     (λ _. sound)
 
-touches-macvlan : (host : Host) (l : Link) (att : Att) → l.tag ≡ Own att → TouchesOwnAlone att host (macvlan_add_of host l).0
+touches-macvlan : (host : Host) (l : Link) (att : Att) → l.tag ≡ Own att
+    → TouchesOwnAlone att host (macvlan_add_of host l).0
 touches-macvlan host l att own =
     let at : is_own att l.tag ≡ true = own-own att l.tag own in
     let nothing : TouchesOwnAlone att host host = TouchesOwnAlone-nothing att host in

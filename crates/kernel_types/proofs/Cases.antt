@@ -13,17 +13,21 @@ use Rattle.kernel_types.specs.declared.object.{LinkKind.TheVariants.Vlan, Tag.{T
 
 -- ---- cases
 
-pub by_way : (P : Host × Reply → Type 0) (o : Option Tag) (host next : Host) → ((t : Tag) → P (append_unless_taken (Some t) host next)) → (o ≡ None → P (append_unless_taken None host next)) → P (append_unless_taken o host next)
+pub by_way : (P : Host × Reply → Type 0) (o : Option Tag) (host next : Host)
+    → ((t : Tag) → P (append_unless_taken (Some t) host next)) → (o ≡ None → P (append_unless_taken None host next))
+    → P (append_unless_taken o host next)
 by_way P None host next h g = g refl
 by_way P (Some t) host next h g = h t
 
 -- the host stays where the place isn't there or is taken
-pub by_addition : (P : Host → Type 0) (there : Bool) (o : Option Tag) (host next : Host) (reply : Reply) → P host → (there ≡ true → o ≡ None → P next) → P (if there then append_unless_taken o host next else (host, reply)).0
+pub by_addition : (P : Host → Type 0) (there : Bool) (o : Option Tag) (host next : Host) (reply : Reply) → P host
+    → (there ≡ true → o ≡ None → P next) → P (if there then append_unless_taken o host next else (host, reply)).0
 by_addition P there o host next reply h g =
     by_test (λ (step : Host × Reply). P step.0) there (append_unless_taken o host next) (host, reply) (λ t. by_way (λ step. P step.0) o host next (λ _. h) (g t)) (λ _. h)
 
 -- the host stays where it is there already
-pub by_absence : (P : Host → Type 0) (there : Bool) (reply : Reply) (host next : Host) → P host → (there ≡ false → P next) → P (unless_there there reply host next).0
+pub by_absence : (P : Host → Type 0) (there : Bool) (reply : Reply) (host next : Host) → P host
+    → (there ≡ false → P next) → P (unless_there there reply host next).0
 by_absence P there reply host next h g = by_test (λ (step : Host × Reply). P step.0) there (host, reply) (next, Done) (λ _. h) g
 
 pub none-option_map : {A B : Type 0} (f : A → B) (o : Option A) → option_map f o ≡ None → o ≡ None
@@ -53,7 +57,8 @@ tag_eq-own att (Own a) = refl
 pub own-own : (att : Att) (t : Tag) → t ≡ Own att → is_own att t ≡ true
 own-own att t e = ap (is_own att) e ∙ att_eq-refl att
 
-pub TouchesTag-owned : (t : Tag) (old new : Host) → is_owned t ≡ true → ((att : Att) → t ≡ Own att → TouchesOwnAlone att old new) → TouchesTag t old new
+pub TouchesTag-owned : (t : Tag) (old new : Host) → is_owned t ≡ true
+    → ((att : Att) → t ≡ Own att → TouchesOwnAlone att old new) → TouchesTag t old new
 TouchesTag-owned Outside old new h w = cc
 TouchesTag-owned Base old new h w = cc
 TouchesTag-owned (Own att) old new h w = w att refl
@@ -69,7 +74,8 @@ host_ns-eq [] = refl
 host_ns-eq (x ∷ xs) = grind (arith, nat_tests)
 
 -- a bridge of the host stands at its name in the host's namespace
-pub host_bridge-at : (ns name : List ℕ) (l : Link) → is_host_ns ns ≡ true → is_host_bridge name l ≡ true → is_at ns name l ≡ true
+pub host_bridge-at : (ns name : List ℕ) (l : Link) → is_host_ns ns ≡ true → is_host_bridge name l ≡ true
+    → is_at ns name l ≡ true
 host_bridge-at [] name l host h = grind (arith, h, host_ns-eq l.ns)
 host_bridge-at (x ∷ xs) name l host h = grind (arith, host, nat_tests)
 

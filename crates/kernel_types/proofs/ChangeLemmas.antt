@@ -11,20 +11,24 @@ pub DropsOnly-nothing : {X : Type 0} (gone : X → Bool) (xs : List X) → Drops
 DropsOnly-nothing gone [] = refl
 DropsOnly-nothing gone (x ∷ xs) = inl (refl, DropsOnly-nothing gone xs)
 
-DropsOnly-drop : {X : Type 0} (gone : X → Bool) (x : X) (xs ys : List X) → gone x ≡ true → DropsOnly gone xs ys → DropsOnly gone (x ∷ xs) ys
+DropsOnly-drop : {X : Type 0} (gone : X → Bool) (x : X) (xs ys : List X) → gone x ≡ true → DropsOnly gone xs ys
+    → DropsOnly gone (x ∷ xs) ys
 DropsOnly-drop gone x xs [] h c = (h, c)
 DropsOnly-drop gone x xs (y ∷ ys) h c = inr (h, c)
 
-drops-step : {X : Type 0} (gone : X → Bool) (keep : Bool) (x : X) (xs ys : List X) → keep || gone x ≡ true → DropsOnly gone xs ys → DropsOnly gone (x ∷ xs) (if keep then x ∷ ys else ys)
+drops-step : {X : Type 0} (gone : X → Bool) (keep : Bool) (x : X) (xs ys : List X) → keep || gone x ≡ true
+    → DropsOnly gone xs ys → DropsOnly gone (x ∷ xs) (if keep then x ∷ ys else ys)
 drops-step gone true x xs ys h c = inl (refl, c)
 drops-step gone false x xs ys h c = DropsOnly-drop gone x xs ys h c
 
-pub DropsOnly-filter : {X : Type 0} (gone keep : X → Bool) (xs : List X) → list_all (λ x. keep x || gone x) xs ≡ true → DropsOnly gone xs (filter keep xs)
+pub DropsOnly-filter : {X : Type 0} (gone keep : X → Bool) (xs : List X) → list_all (λ x. keep x || gone x) xs ≡ true
+    → DropsOnly gone xs (filter keep xs)
 DropsOnly-filter gone keep [] h = refl
 DropsOnly-filter gone keep (x ∷ xs) h =
     drops-step gone (keep x) x xs (filter keep xs) (grind (arith, h)) (DropsOnly-filter gone keep xs (grind (arith, h)))
 
-drops_first-step : {X : Type 0} (gone : X → Bool) (b : Bool) (x : X) (xs ys : List X) → gone x ≡ b → DropsOnly gone xs ys → DropsOnly gone (x ∷ xs) (if b then xs else x ∷ ys)
+drops_first-step : {X : Type 0} (gone : X → Bool) (b : Bool) (x : X) (xs ys : List X) → gone x ≡ b
+    → DropsOnly gone xs ys → DropsOnly gone (x ∷ xs) (if b then xs else x ∷ ys)
 drops_first-step gone true x xs ys e c = DropsOnly-drop gone x xs xs e (DropsOnly-nothing gone xs)
 drops_first-step gone false x xs ys e c = inl (refl, c)
 
@@ -43,12 +47,14 @@ ChangesOnly-DropsOnly own (x ∷ xs) (y ∷ ys) d =
 pub ChangesOnly-nothing : {X : Type 0} (own : X → Bool) (xs : List X) → ChangesOnly own xs xs
 ChangesOnly-nothing own xs = ChangesOnly-DropsOnly own xs xs (DropsOnly-nothing own xs)
 
-pub ChangesOnly-append : {X : Type 0} (own : X → Bool) (xs ys : List X) → list_all own ys ≡ true → ChangesOnly own xs (xs ++ ys)
+pub ChangesOnly-append : {X : Type 0} (own : X → Bool) (xs ys : List X) → list_all own ys ≡ true
+    → ChangesOnly own xs (xs ++ ys)
 ChangesOnly-append own [] ys h = h
 ChangesOnly-append own (x ∷ xs) ys h = inl (refl, ChangesOnly-append own xs ys h)
 
 -- a change in place of what passes, which passes still
-pub ChangesOnly-map : {X : Type 0} (own : X → Bool) (f : X → X) → ((x : X) → (f x ≡ x) ⊎ ((own x ≡ true) × (own (f x) ≡ true))) → (xs : List X) → ChangesOnly own xs (map f xs)
+pub ChangesOnly-map : {X : Type 0} (own : X → Bool) (f : X → X)
+    → ((x : X) → (f x ≡ x) ⊎ ((own x ≡ true) × (own (f x) ≡ true))) → (xs : List X) → ChangesOnly own xs (map f xs)
 ChangesOnly-map own f w [] = refl
 ChangesOnly-map own f w (x ∷ xs) =
     elim (w x) [ inl e ↦ inl (sym e, ChangesOnly-map own f w xs) | inr e ↦ inr (inl (e.0, e.1, ChangesOnly-map own f w xs)) ]
@@ -56,7 +62,8 @@ ChangesOnly-map own f w (x ∷ xs) =
 -- ---- what doesn't pass stays
 
 -- the elements that pass a test which no changed element passes are the same, in the same order
-pub filter-ChangesOnly : {X : Type 0} (own p : X → Bool) → ((x : X) → own x ≡ true → p x ≡ false) → (xs ys : List X) → ChangesOnly own xs ys → filter p ys ≡ filter p xs
+pub filter-ChangesOnly : {X : Type 0} (own p : X → Bool) → ((x : X) → own x ≡ true → p x ≡ false) → (xs ys : List X)
+    → ChangesOnly own xs ys → filter p ys ≡ filter p xs
 filter-ChangesOnly own p apart [] ys c = filter_never p own apart ys c
 filter-ChangesOnly own p apart (x ∷ xs) [] c = grind (arith, apart x c.0, filter-ChangesOnly own p apart xs [] c.1)
 filter-ChangesOnly own p apart (x ∷ xs) (y ∷ ys) c =
@@ -68,5 +75,6 @@ filter-ChangesOnly own p apart (x ∷ xs) (y ∷ ys) c =
       ]
     ]
 
-pub filter-DropsOnly : {X : Type 0} (gone p : X → Bool) → ((x : X) → gone x ≡ true → p x ≡ false) → (xs ys : List X) → DropsOnly gone xs ys → filter p ys ≡ filter p xs
+pub filter-DropsOnly : {X : Type 0} (gone p : X → Bool) → ((x : X) → gone x ≡ true → p x ≡ false) → (xs ys : List X)
+    → DropsOnly gone xs ys → filter p ys ≡ filter p xs
 filter-DropsOnly gone p apart xs ys d = filter-ChangesOnly gone p apart xs ys (ChangesOnly-DropsOnly gone xs ys d)

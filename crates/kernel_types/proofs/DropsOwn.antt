@@ -68,7 +68,9 @@ RemovesOwn-cache_del host att = RemovesOwn-with att host host.rules host.setting
 
 -- ---- a link, its peer and what is on them
 
-removes-without_link : (att : Att) (host : Host) (found : Link) → IsSound host → find (λ l. is_own att l.tag) host.links ≡ Some found → RemovesOwn att host (without_links (goes_with found.ns found.name) host)
+removes-without_link : (att : Att) (host : Host) (found : Link) → IsSound host
+    → find (λ l. is_own att l.tag) host.links ≡ Some found
+    → RemovesOwn att host (without_links (goes_with found.ns found.name) host)
 removes-without_link att host found sound f =
     let gone : Link → Bool = goes_with found.ns found.name in
     record {
@@ -85,7 +87,8 @@ removes-without_link att host found sound f =
       lasts = refl;
     }
 
-removes_found : (att : Att) (host : Host) (o : Option Link) → IsSound host → find (λ l. is_own att l.tag) host.links ≡ o → RemovesOwn att host (without_link host o).0
+removes_found : (att : Att) (host : Host) (o : Option Link) → IsSound host → find (λ l. is_own att l.tag) host.links ≡ o
+    → RemovesOwn att host (without_link host o).0
 removes_found att host None sound f = RemovesOwn-nothing att host
 removes_found att host (Some found) sound f = removes-without_link att host found sound f
 
@@ -94,7 +97,8 @@ RemovesOwn-link_del host att sound = removes_found att host (find (λ l. is_own 
 
 -- ---- each call that deletes
 
-pub RemovesOwn-apply : (host : Host) (call : Call) (att : Att) → IsSound host → deletes_for call ≡ Some att → RemovesOwn att host (apply.apply host call).0
+pub RemovesOwn-apply : (host : Host) (call : Call) (att : Att) → IsSound host → deletes_for call ≡ Some att
+    → RemovesOwn att host (apply.apply host call).0
 RemovesOwn-apply host (Begin a netns) att sound e = cc
 RemovesOwn-apply host (BridgeEnsure name mtu promisc) att sound e = cc
 RemovesOwn-apply host (GatewayEnsure bridge cidr) att sound e = cc

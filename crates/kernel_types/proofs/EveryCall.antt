@@ -52,7 +52,8 @@ IsSound-apply host (NsChange name false) sound allowed = IsSound-ns_del host nam
 IsSound-apply host (Outside (DropLink key)) sound allowed = IsSound-drop_link host key sound
 IsSound-apply host (Outside (Flush table)) sound allowed = IsSound-flush host table sound
 
-pub Touches-apply : (host : Host) (call : Call) → IsSound host → IsAllowed host call → Touches call host (apply.apply host call).0
+pub Touches-apply : (host : Host) (call : Call) → IsSound host → IsAllowed host call
+    → Touches call host (apply.apply host call).0
 Touches-apply host (Begin att netns) sound allowed = refl
 Touches-apply host (BridgeEnsure name mtu promisc) sound allowed = AddsBridge-bridge_ensure host name mtu promisc
 Touches-apply host (GatewayEnsure bridge cidr) sound allowed = AddsAddress-gateway_ensure host bridge cidr

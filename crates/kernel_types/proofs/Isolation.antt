@@ -25,7 +25,8 @@ pub KeepsWhere-same : (test : Tag → Bool) (old new : Host) → new ≡ old →
 KeepsWhere-same test old new e = subst (KeepsWhere test old) (sym e) (KeepsWhere-nothing test old)
 
 -- objects of a tag that fails the test are all that may change
-pub KeepsWhere-TouchesOwn : (test : Tag → Bool) (att : Att) (old new : Host) → ((t : Tag) → is_own att t ≡ true → test t ≡ false) → TouchesOwn att old new → KeepsWhere test old new
+pub KeepsWhere-TouchesOwn : (test : Tag → Bool) (att : Att) (old new : Host)
+    → ((t : Tag) → is_own att t ≡ true → test t ≡ false) → TouchesOwn att old new → KeepsWhere test old new
 KeepsWhere-TouchesOwn test att old new apart touches = record {
   namespaces = ap (λ ns. filter (λ n. test n.tag) ns) touches.namespaces;
   links = filter-ChangesOnly (λ x. is_own att x.tag) (λ x. test x.tag) (λ x. apart x.tag) old.links new.links touches.links;
@@ -37,31 +38,37 @@ KeepsWhere-TouchesOwn test att old new apart touches = record {
   cached = filter-ChangesOnly (λ x. is_own att x.tag) (λ x. test x.tag) (λ x. apart x.tag) old.cached new.cached touches.cached;
 }
 
-KeepsWhere-AddsOne : {X : Type 0} (test : Tag → Bool) (tag_of : X → Tag) (tag : Tag) (put : X → Host) (old new : Host) → ((x : X) → test (tag_of x) ≡ false → KeepsWhere test old (put x)) → test tag ≡ false → AddsOne tag_of tag put old new → KeepsWhere test old new
+KeepsWhere-AddsOne : {X : Type 0} (test : Tag → Bool) (tag_of : X → Tag) (tag : Tag) (put : X → Host) (old new : Host)
+    → ((x : X) → test (tag_of x) ≡ false → KeepsWhere test old (put x)) → test tag ≡ false
+    → AddsOne tag_of tag put old new → KeepsWhere test old new
 KeepsWhere-AddsOne test tag_of tag put old new keeps fails adds =
     elim adds [
       | inl e ↦ KeepsWhere-same test old new e
       | inr more ↦ subst (KeepsWhere test old) (sym more.2) (keeps more.0 (ap test more.1 ∙ fails))
     ]
 
-pub KeepsWhere-AddsBridge : (test : Tag → Bool) (old new : Host) → test tags.Base ≡ false → AddsBridge old new → KeepsWhere test old new
+pub KeepsWhere-AddsBridge : (test : Tag → Bool) (old new : Host) → test tags.Base ≡ false → AddsBridge old new
+    → KeepsWhere test old new
 KeepsWhere-AddsBridge test old new fails adds =
     KeepsWhere-AddsOne test (λ (x : Link). x.tag) tags.Base (λ x. record old { links = old.links ++ x ∷ [] }) old new
     (λ bridge out. record { namespaces = refl; links = filter-push_dropped (λ l. test l.tag) old.links bridge out; addresses = refl; routes = refl; rules = refl; settings = refl; leases = refl; cached = refl }) fails adds
 
-pub KeepsWhere-AddsAddress : (test : Tag → Bool) (old new : Host) → test tags.Base ≡ false → AddsAddress old new → KeepsWhere test old new
+pub KeepsWhere-AddsAddress : (test : Tag → Bool) (old new : Host) → test tags.Base ≡ false → AddsAddress old new
+    → KeepsWhere test old new
 KeepsWhere-AddsAddress test old new fails adds =
     KeepsWhere-AddsOne test (λ (x : AddrObj). x.tag) tags.Base (λ x. record old { addresses = old.addresses ++ x ∷ [] }) old new
     (λ addr out. record { namespaces = refl; links = refl; addresses = filter-push_dropped (λ a. test a.tag) old.addresses addr out; routes = refl; rules = refl; settings = refl; leases = refl; cached = refl }) fails adds
 
-pub KeepsWhere-AddsSetting : (test : Tag → Bool) (old new : Host) → test tags.Base ≡ false → AddsSetting old new → KeepsWhere test old new
+pub KeepsWhere-AddsSetting : (test : Tag → Bool) (old new : Host) → test tags.Base ≡ false → AddsSetting old new
+    → KeepsWhere test old new
 KeepsWhere-AddsSetting test old new fails adds =
     KeepsWhere-AddsOne test (λ (x : Setting). x.tag) tags.Base (λ x. record old { settings = old.settings ++ x ∷ [] }) old new
     (λ setting out. record { namespaces = refl; links = refl; addresses = refl; routes = refl; rules = refl; settings = filter-push_dropped (λ s. test s.tag) old.settings setting out; leases = refl; cached = refl }) fails adds
 
 -- ---- another attachment
 
-same_fields : (n m c d i j : List ℕ) → n ≡ m → c ≡ d → i ≡ j → let a : Att = record { network = n; container = c; ifname = i } in let b : Att = record { network = m; container = d; ifname = j } in a ≡ b
+same_fields : (n m c d i j : List ℕ) → n ≡ m → c ≡ d → i ≡ j
+    → let a : Att = record { network = n; container = c; ifname = i } in let b : Att = record { network = m; container = d; ifname = j } in a ≡ b
 same_fields n m c d i j en ec ei = cc
 
 pub att_eq-same : (a b : Att) → att_eq a b ≡ true → a ≡ b
@@ -95,10 +102,12 @@ is_own-one att t h = tag_eq-same t (tags.Own att) (tag_eq-own att t ∙ h)
 pub own_apart : (att other : Att) → att_eq att other ≡ false → (t : Tag) → is_own att t ≡ true → is_own other t ≡ false
 own_apart att other differ t own = ap (is_own other) (is_own-one att t own) ∙ differ
 
-pub KeepsPart-TouchesOwn : (att other : Att) (old new : Host) → att_eq att other ≡ false → TouchesOwn att old new → KeepsPart other old new
+pub KeepsPart-TouchesOwn : (att other : Att) (old new : Host) → att_eq att other ≡ false → TouchesOwn att old new
+    → KeepsPart other old new
 KeepsPart-TouchesOwn att other old new differ touches = KeepsWhere-TouchesOwn (is_own other) att old new (own_apart att other differ) touches
 
-KeepsPart-TouchesTag : (t : Tag) (other : Att) (old new : Host) → is_own other t ≡ false → TouchesTag t old new → KeepsPart other old new
+KeepsPart-TouchesTag : (t : Tag) (other : Att) (old new : Host) → is_own other t ≡ false → TouchesTag t old new
+    → KeepsPart other old new
 KeepsPart-TouchesTag tags.Outside other old new differ touches = KeepsWhere-same (is_own other) old new touches
 KeepsPart-TouchesTag tags.Base other old new differ touches = KeepsWhere-same (is_own other) old new touches
 KeepsPart-TouchesTag (tags.Own att) other old new differ touches = KeepsPart-TouchesOwn att other old new differ touches.own
@@ -107,7 +116,8 @@ both_same : (a b : Bool) → b ≡ a → (a && b) ≡ false → a ≡ false
 both_same true b same h = sym same ∙ h
 both_same false b same h = refl
 
-pub KeepsPart-Touches : (call : Call) (other : Att) (old new : Host) → IsAllowed old call → is_from_outside call ≡ false → names_att other call ≡ false → Touches call old new → KeepsPart other old new
+pub KeepsPart-Touches : (call : Call) (other : Att) (old new : Host) → IsAllowed old call → is_from_outside call ≡ false
+    → names_att other call ≡ false → Touches call old new → KeepsPart other old new
 KeepsPart-Touches (Begin att netns) other old new allowed inside differ touches = KeepsWhere-same (is_own other) old new touches
 KeepsPart-Touches (BridgeEnsure name mtu promisc) other old new allowed inside differ touches = KeepsWhere-AddsBridge (is_own other) old new refl touches
 KeepsPart-Touches (GatewayEnsure bridge cidr) other old new allowed inside differ touches = KeepsWhere-AddsAddress (is_own other) old new refl touches
@@ -148,7 +158,8 @@ KeepsUnowned-TouchesTag tags.Outside old new touches = KeepsWhere-same (λ t. no
 KeepsUnowned-TouchesTag tags.Base old new touches = KeepsWhere-same (λ t. not (is_owned t)) old new touches
 KeepsUnowned-TouchesTag (tags.Own att) old new touches = KeepsUnowned-TouchesOwn att old new touches.own
 
-pub KeepsUnowned-Touches : (call : Call) (old new : Host) → is_from_outside call ≡ false → ensures_shared call ≡ false → Touches call old new → KeepsUnowned old new
+pub KeepsUnowned-Touches : (call : Call) (old new : Host) → is_from_outside call ≡ false → ensures_shared call ≡ false
+    → Touches call old new → KeepsUnowned old new
 KeepsUnowned-Touches (Begin att netns) old new inside own touches = KeepsWhere-same (λ t. not (is_owned t)) old new touches
 KeepsUnowned-Touches (BridgeEnsure name mtu promisc) old new inside own touches = cc
 KeepsUnowned-Touches (GatewayEnsure bridge cidr) old new inside own touches = cc
@@ -177,7 +188,8 @@ KeepsUnowned-Touches (Outside change) old new inside own touches = cc
 -- ---- what a change from outside leaves
 
 -- what is shared, as by a test that no other tag passes
-pub KeepsWhere-RemovesUnshared : (test : Tag → Bool) (old new : Host) → ((t : Tag) → is_unshared t ≡ true → test t ≡ false) → RemovesUnshared old new → KeepsWhere test old new
+pub KeepsWhere-RemovesUnshared : (test : Tag → Bool) (old new : Host)
+    → ((t : Tag) → is_unshared t ≡ true → test t ≡ false) → RemovesUnshared old new → KeepsWhere test old new
 KeepsWhere-RemovesUnshared test old new apart removes = record {
   namespaces = filter-DropsOnly (λ x. is_unshared x.tag) (λ x. test x.tag) (λ x. apart x.tag) old.namespaces new.namespaces removes.namespaces;
   links = filter-DropsOnly (λ x. is_unshared x.tag) (λ x. test x.tag) (λ x. apart x.tag) old.links new.links removes.links;

@@ -17,15 +17,18 @@ use Rattle.kernel_types.proofs.{Outside.outside-unshared, Removal.{IsSound-witho
 
 -- ---- a namespace that comes
 
-is_host_or_ns-more : (namespaces : List NsObj) (more : NsObj) (ns : List ℕ) → is_host_or_ns namespaces ns ≡ true → is_host_or_ns (namespaces ++ more ∷ []) ns ≡ true
+is_host_or_ns-more : (namespaces : List NsObj) (more : NsObj) (ns : List ℕ) → is_host_or_ns namespaces ns ≡ true
+    → is_host_or_ns (namespaces ++ more ∷ []) ns ≡ true
 is_host_or_ns-more namespaces more ns h = grind (arith, h, list_any-append_left (λ n. bytes_eq n.name ns) namespaces (more ∷ []))
 
-setting_fits_tag-more : (namespaces : List NsObj) (more : NsObj) (s : Setting) (t : Tag) → setting_fits_tag namespaces s t ≡ true → setting_fits_tag (namespaces ++ more ∷ []) s t ≡ true
+setting_fits_tag-more : (namespaces : List NsObj) (more : NsObj) (s : Setting) (t : Tag)
+    → setting_fits_tag namespaces s t ≡ true → setting_fits_tag (namespaces ++ more ∷ []) s t ≡ true
 setting_fits_tag-more namespaces more s Outside h = h
 setting_fits_tag-more namespaces more s Base h = h
 setting_fits_tag-more namespaces more s (Own att) h = is_host_or_ns-more namespaces more s.ns h
 
-pub IsSound-ns_add : (host : Host) (name : List ℕ) → is_host_ns name ≡ false → IsSound host → IsSound (ns_add_of host name).0
+pub IsSound-ns_add : (host : Host) (name : List ℕ) → is_host_ns name ≡ false → IsSound host
+    → IsSound (ns_add_of host name).0
 IsSound-ns_add host name inner sound =
     by_absence IsSound (has_named_ns host name) _ host _ sound
     (λ none. record {
@@ -60,11 +63,13 @@ AddsNamespace-ns_add host name =
 
 -- ---- a namespace that goes
 
-by_same : (same : Bool) (n ns name : List ℕ) → bytes_eq n ns ≡ same → bytes_eq ns name ≡ false → (same && not (not (bytes_eq n name))) ≡ false
+by_same : (same : Bool) (n ns name : List ℕ) → bytes_eq n ns ≡ same → bytes_eq ns name ≡ false
+    → (same && not (not (bytes_eq n name))) ≡ false
 by_same true n ns name e h = let same : n ≡ ns = (bytes_eq-Decides n ns).0 e in rw same (grind (arith, h))
 by_same false n ns name e h = refl
 
-pub by_place : (inside some left : Bool) → (inside || some) ≡ true → (some ≡ true → left ≡ true) → (inside || left) ≡ true
+pub by_place : (inside some left : Bool) → (inside || some) ≡ true → (some ≡ true → left ≡ true)
+    → (inside || left) ≡ true
 by_place true some left h w = refl
 by_place false some left h w = w h
 
@@ -72,18 +77,22 @@ by_place false some left h w = w h
 other_name : (n ns name : List ℕ) → bytes_eq ns name ≡ false → (bytes_eq n ns && not (not (bytes_eq n name))) ≡ false
 other_name n ns name h = by_same (bytes_eq n ns) n ns name refl h
 
-is_host_or_ns-kept : (namespaces : List NsObj) (name ns : List ℕ) → is_host_or_ns namespaces ns ≡ true → not (bytes_eq ns name) ≡ true → is_host_or_ns (filter (λ n. not (bytes_eq n.name name)) namespaces) ns ≡ true
+is_host_or_ns-kept : (namespaces : List NsObj) (name ns : List ℕ) → is_host_or_ns namespaces ns ≡ true
+    → not (bytes_eq ns name) ≡ true → is_host_or_ns (filter (λ n. not (bytes_eq n.name name)) namespaces) ns ≡ true
 is_host_or_ns-kept namespaces name ns h stays =
     by_place (is_host_ns ns) (list_any (λ n. bytes_eq n.name ns) namespaces) (list_any (λ n. bytes_eq n.name ns) (filter (λ n. not (bytes_eq n.name name)) namespaces)) h
     (λ there. list_any-kept (λ n. bytes_eq n.name ns) (λ n. not (bytes_eq n.name name)) namespaces there
     (none_by (λ n. bytes_eq n.name ns && not (not (bytes_eq n.name name))) (λ n. other_name n.name ns name (grind (arith, stays))) namespaces))
 
-setting_fits_tag-kept : (namespaces : List NsObj) (name : List ℕ) (s : Setting) (t : Tag) → setting_fits_tag namespaces s t ≡ true → not (bytes_eq s.ns name) ≡ true → setting_fits_tag (filter (λ n. not (bytes_eq n.name name)) namespaces) s t ≡ true
+setting_fits_tag-kept : (namespaces : List NsObj) (name : List ℕ) (s : Setting) (t : Tag)
+    → setting_fits_tag namespaces s t ≡ true → not (bytes_eq s.ns name) ≡ true
+    → setting_fits_tag (filter (λ n. not (bytes_eq n.name name)) namespaces) s t ≡ true
 setting_fits_tag-kept namespaces name s Outside h stays = h
 setting_fits_tag-kept namespaces name s Base h stays = h
 setting_fits_tag-kept namespaces name s (Own att) h stays = is_host_or_ns-kept namespaces name s.ns h stays
 
-sound-ns_del : (host : Host) (name : List ℕ) → IsSound host → IsSound (without_ns name (without_links (goes_with_ns name) host))
+sound-ns_del : (host : Host) (name : List ℕ) → IsSound host
+    → IsSound (without_ns name (without_links (goes_with_ns name) host))
 sound-ns_del host name sound =
     let rest : IsSound (without_links (goes_with_ns name) host) = IsSound-without_links (λ ns _. bytes_eq ns name) host sound in
     record {
@@ -123,15 +132,18 @@ peer_in-some name (Some key) h = refl
 in-inner : (ns name : List ℕ) → is_host_ns name ≡ false → bytes_eq ns name ≡ true → is_host_ns ns ≡ false
 in-inner ns name inner h = let e : ns ≡ name = (bytes_eq-Decides ns name).0 h in rw e inner
 
-goes_with_ns-loose : (name : List ℕ) → is_host_ns name ≡ false → (l : Link) → goes_with_ns name l ≡ true → is_loose l ≡ true
+goes_with_ns-loose : (name : List ℕ) → is_host_ns name ≡ false → (l : Link) → goes_with_ns name l ≡ true
+    → is_loose l ≡ true
 goes_with_ns-loose name inner l h = grind (arith, h, in-inner l.ns name inner, peer_in-some name l.peer)
 
-setting-unshared : (namespaces : List NsObj) (name : List ℕ) → is_host_ns name ≡ false → (s : Setting) (t : Tag) → setting_fits_tag namespaces s t ≡ true → (not (bytes_eq s.ns name) || is_unshared t) ≡ true
+setting-unshared : (namespaces : List NsObj) (name : List ℕ) → is_host_ns name ≡ false → (s : Setting) (t : Tag)
+    → setting_fits_tag namespaces s t ≡ true → (not (bytes_eq s.ns name) || is_unshared t) ≡ true
 setting-unshared namespaces name inner s Outside h = grind arith
 setting-unshared namespaces name inner s Base h = grind (arith, h, in-inner s.ns name inner)
 setting-unshared namespaces name inner s (Own att) h = grind arith
 
-removes-ns_del : (host : Host) (name : List ℕ) → is_host_ns name ≡ false → IsSound host → RemovesUnshared host (without_ns name (without_links (goes_with_ns name) host))
+removes-ns_del : (host : Host) (name : List ℕ) → is_host_ns name ≡ false → IsSound host
+    → RemovesUnshared host (without_ns name (without_links (goes_with_ns name) host))
 removes-ns_del host name inner sound =
     let rest : RemovesUnshared host (without_links (goes_with_ns name) host) = RemovesUnshared-without_links (goes_with_ns name) host sound (goes_with_ns-loose name inner) in
     record {
@@ -148,6 +160,7 @@ removes-ns_del host name inner sound =
       lasts = refl;
     }
 
-pub RemovesUnshared-ns_del : (host : Host) (name : List ℕ) → is_host_ns name ≡ false → IsSound host → RemovesUnshared host (ns_del_of host name).0
+pub RemovesUnshared-ns_del : (host : Host) (name : List ℕ) → is_host_ns name ≡ false → IsSound host
+    → RemovesUnshared host (ns_del_of host name).0
 RemovesUnshared-ns_del host name inner sound =
     by_test (λ (step : Host × Reply). RemovesUnshared host step.0) (has_named_ns host name) _ _ (λ _. removes-ns_del host name inner sound) (λ _. RemovesUnshared-nothing host)

@@ -64,11 +64,13 @@ veth_no_bridge (Macvlan mode) h = refl
 veth_no_bridge Dummy h = refl
 veth_no_bridge (Vlan id) h = refl
 
-peer-veth : (links : List Link) (l : Link) (o : Option LinkKey) → peer_fits links l o ≡ true → is_some o ≡ true → is_veth l.kind ≡ true
+peer-veth : (links : List Link) (l : Link) (o : Option LinkKey) → peer_fits links l o ≡ true → is_some o ≡ true
+    → is_veth l.kind ≡ true
 peer-veth links l None h s = cc
 peer-veth links l (Some key) h s = grind (arith, h)
 
-by_loose : (links : List Link) (l : Link) (inner : Bool) → is_host_ns l.ns ≡ inner → link_fits_tag l l.tag ≡ true → peer_fits links l l.peer ≡ true → is_loose l ≡ true → may_go is_unshared l ≡ true
+by_loose : (links : List Link) (l : Link) (inner : Bool) → is_host_ns l.ns ≡ inner → link_fits_tag l l.tag ≡ true
+    → peer_fits links l l.peer ≡ true → is_loose l ≡ true → may_go is_unshared l ≡ true
 by_loose links l false e t p loose = let unshared : is_unshared l.tag ≡ true = inner-unshared l l.tag t e in grind (arith, unshared, e)
 by_loose links l true e t p loose =
     let veth : is_veth l.kind ≡ true = peer-veth links l l.peer p (grind (arith, loose, e)) in
@@ -76,12 +78,14 @@ by_loose links l true e t p loose =
     grind (arith, unshared, veth_no_bridge l.kind veth)
 
 -- where all that go are loose, nothing that goes is shared
-loose-may_go : (gone : Link → Bool) (host : Host) → IsSound host → ((l : Link) → gone l ≡ true → is_loose l ≡ true) → list_all (λ l. not (gone l) || may_go is_unshared l) host.links ≡ true
+loose-may_go : (gone : Link → Bool) (host : Host) → IsSound host → ((l : Link) → gone l ≡ true → is_loose l ≡ true)
+    → list_all (λ l. not (gone l) || may_go is_unshared l) host.links ≡ true
 loose-may_go gone host sound loose =
     list_all-both (λ l. link_fits_tag l l.tag) (λ l. peer_fits host.links l l.peer) (λ l. not (gone l) || may_go is_unshared l)
     (λ l t p. keeps_or_owns (gone l) (may_go is_unshared l) (λ g. by_loose host.links l (is_host_ns l.ns) refl t p (loose l g))) host.links sound.links.tags sound.links.peers
 
-pub RemovesUnshared-without_links : (gone : Link → Bool) (host : Host) → IsSound host → ((l : Link) → gone l ≡ true → is_loose l ≡ true) → RemovesUnshared host (without_links gone host)
+pub RemovesUnshared-without_links : (gone : Link → Bool) (host : Host) → IsSound host
+    → ((l : Link) → gone l ≡ true → is_loose l ≡ true) → RemovesUnshared host (without_links gone host)
 RemovesUnshared-without_links gone host sound loose =
     let may : list_all (λ l. not (gone l) || may_go is_unshared l) host.links ≡ true = loose-may_go gone host sound loose in
     record {
@@ -108,10 +112,12 @@ peer_at-some ns name (Some key) h = refl
 at-inner : (ns name : List ℕ) (l : Link) → is_host_ns ns ≡ false → is_at ns name l ≡ true → is_host_ns l.ns ≡ false
 at-inner ns name l inner h = let e : l.ns ≡ ns = (bytes_eq-Decides l.ns ns).0 (grind (arith, h)) in rw e inner
 
-goes_with-loose : (ns name : List ℕ) → is_host_ns ns ≡ false → (l : Link) → goes_with ns name l ≡ true → is_loose l ≡ true
+goes_with-loose : (ns name : List ℕ) → is_host_ns ns ≡ false → (l : Link) → goes_with ns name l ≡ true
+    → is_loose l ≡ true
 goes_with-loose ns name inner l h = grind (arith, h, at-inner ns name l inner, peer_at-some ns name l.peer)
 
-drops_found : (host : Host) (key : LinkKey) (o : Option Link) → is_host_ns key.ns ≡ false → link_at host key.ns key.name ≡ o → IsSound host → RemovesUnshared host (without_link host o).0
+drops_found : (host : Host) (key : LinkKey) (o : Option Link) → is_host_ns key.ns ≡ false
+    → link_at host key.ns key.name ≡ o → IsSound host → RemovesUnshared host (without_link host o).0
 drops_found host key None inner f sound = RemovesUnshared-nothing host
 drops_found host key (Some found) inner f sound =
     RemovesUnshared-without_links (goes_with found.ns found.name) host sound
@@ -121,7 +127,8 @@ pub IsSound-drop_link : (host : Host) (key : LinkKey) → IsSound host → IsSou
 IsSound-drop_link host key sound =
     by_test (λ (step : Host × Reply). IsSound step.0) (has_named_ns host key.ns) _ _ (λ _. IsSound-without_link host (link_at host key.ns key.name) sound) (λ _. sound)
 
-pub RemovesUnshared-drop_link : (host : Host) (key : LinkKey) → is_host_ns key.ns ≡ false → IsSound host → RemovesUnshared host (drop_link_of host key).0
+pub RemovesUnshared-drop_link : (host : Host) (key : LinkKey) → is_host_ns key.ns ≡ false → IsSound host
+    → RemovesUnshared host (drop_link_of host key).0
 RemovesUnshared-drop_link host key inner sound =
     by_test (λ (step : Host × Reply). RemovesUnshared host step.0) (has_named_ns host key.ns) _ _ (λ _. drops_found host key (link_at host key.ns key.name) inner refl sound) (λ _. RemovesUnshared-nothing host)
 

@@ -27,12 +27,14 @@ same_place a b c d q h =
     let bd : b ≡ d = (bytes_eq-Decides b d).0 (grind (arith, h)) in
     ap (λ x. q x b) ac ∙ ap (λ y. q c y) bd
 
-peer_place : (ns name : List ℕ) (o : Option LinkKey) (q : List ℕ → List ℕ → Bool) → is_peer_at ns name o ≡ true → passes_peer q o ≡ q ns name
+peer_place : (ns name : List ℕ) (o : Option LinkKey) (q : List ℕ → List ℕ → Bool) → is_peer_at ns name o ≡ true
+    → passes_peer q o ≡ q ns name
 peer_place ns name None q h = cc
 peer_place ns name (Some key) q h = same_place key.ns key.name ns name q h
 
 -- the link that names another as its peer goes exactly where the other does
-peer_goes_alike : (q : List ℕ → List ℕ → Bool) (l : Link) (key : LinkKey) (m : Link) → peers_back l key m ≡ true → (q l.ns l.name || q key.ns key.name) ≡ false → goes_by q m ≡ false
+peer_goes_alike : (q : List ℕ → List ℕ → Bool) (l : Link) (key : LinkKey) (m : Link) → peers_back l key m ≡ true
+    → (q l.ns l.name || q key.ns key.name) ≡ false → goes_by q m ≡ false
 peer_goes_alike q l key m a stays =
     let here : q m.ns m.name ≡ q key.ns key.name = same_place m.ns m.name key.ns key.name q (grind (arith, a)) in
     let there : passes_peer q m.peer ≡ q l.ns l.name = peer_place l.ns l.name m.peer q (grind (arith, a)) in
@@ -47,7 +49,9 @@ pub none_by : {X : Type 0} (p : X → Bool) → ((x : X) → p x ≡ false) → 
 none_by p h [] = refl
 none_by p h (x ∷ xs) = grind (arith, h x, none_by p h xs)
 
-peer_fits-kept : (q : List ℕ → List ℕ → Bool) (links : List Link) (l : Link) (o : Option LinkKey) → peer_fits links l o ≡ true → not (q l.ns l.name || passes_peer q o) ≡ true → peer_fits (filter (λ m. not (goes_by q m)) links) l o ≡ true
+peer_fits-kept : (q : List ℕ → List ℕ → Bool) (links : List Link) (l : Link) (o : Option LinkKey)
+    → peer_fits links l o ≡ true → not (q l.ns l.name || passes_peer q o) ≡ true
+    → peer_fits (filter (λ m. not (goes_by q m)) links) l o ≡ true
 peer_fits-kept q links l None h stays = h
 peer_fits-kept q links l (Some key) h stays =
     let some : list_any (peers_back l key) links ≡ true = grind (arith, h) in
@@ -57,7 +61,8 @@ peer_fits-kept q links l (Some key) h stays =
     (none_by (λ m. peers_back l key m && not (not (goes_by q m))) (λ m. and_false (peers_back l key m) (goes_by q m) (λ a. peer_goes_alike q l key m a gone)) links) in
     grind (arith, h, kept)
 
-pub AreLinks-without : (q : List ℕ → List ℕ → Bool) (namespaces : List NsObj) (links : List Link) → AreLinks namespaces links → AreLinks namespaces (filter (λ l. not (goes_by q l)) links)
+pub AreLinks-without : (q : List ℕ → List ℕ → Bool) (namespaces : List NsObj) (links : List Link)
+    → AreLinks namespaces links → AreLinks namespaces (filter (λ l. not (goes_by q l)) links)
 AreLinks-without q namespaces links sound = record {
   keys = distinct-filter (λ a b. is_at b.ns b.name a) (λ l. not (goes_by q l)) links sound.keys;
   tags = list_all-filter (λ l. link_fits_tag l l.tag) (λ l. not (goes_by q l)) links sound.tags;
@@ -68,12 +73,16 @@ AreLinks-without q namespaces links sound = record {
 -- ---- what is on the links
 
 -- a link that something lies on stays where nothing at its place goes
-on_kept : (gone p at : Link → Bool) (links : List Link) → ((l : Link) → p l ≡ true → at l ≡ true) → list_any p links ≡ true → not (list_any (λ l. gone l && at l) links) ≡ true → list_any p (filter (λ l. not (gone l)) links) ≡ true
+on_kept : (gone p at : Link → Bool) (links : List Link) → ((l : Link) → p l ≡ true → at l ≡ true)
+    → list_any p links ≡ true → not (list_any (λ l. gone l && at l) links) ≡ true
+    → list_any p (filter (λ l. not (gone l)) links) ≡ true
 on_kept gone p at links w some stays =
     list_any-kept p (λ l. not (gone l)) links some
     (list_any-none (λ l. p l && not (not (gone l))) (λ l. gone l && at l) (λ l h. grind (arith, h, w l)) links (grind (arith, stays)))
 
-address_fits_tag-kept : (gone : Link → Bool) (links : List Link) (a : AddrObj) (t : Tag) → address_fits_tag links a t ≡ true → not (list_any (λ l. gone l && is_at a.ns a.link l) links) ≡ true → address_fits_tag (filter (λ l. not (gone l)) links) a t ≡ true
+address_fits_tag-kept : (gone : Link → Bool) (links : List Link) (a : AddrObj) (t : Tag)
+    → address_fits_tag links a t ≡ true → not (list_any (λ l. gone l && is_at a.ns a.link l) links) ≡ true
+    → address_fits_tag (filter (λ l. not (gone l)) links) a t ≡ true
 address_fits_tag-kept gone links a Outside h stays = h
 address_fits_tag-kept gone links a Base h stays =
     let lies = and_parts (is_host_ns a.ns) (list_any (is_host_bridge a.link) links) h in
@@ -82,7 +91,8 @@ address_fits_tag-kept gone links a Base h stays =
 address_fits_tag-kept gone links a (Own att) h stays =
     on_kept gone (is_link_of a.ns a.link (Own att)) (is_at a.ns a.link) links (λ l h. (and_parts (is_at a.ns a.link l) (tag_eq l.tag (Own att)) h).0) h stays
 
-pub AreAddresses-without : (gone : Link → Bool) (links : List Link) (addresses : List AddrObj) → AreAddresses links addresses
+pub AreAddresses-without : (gone : Link → Bool) (links : List Link) (addresses : List AddrObj)
+    → AreAddresses links addresses
     → AreAddresses (filter (λ l. not (gone l)) links) (filter (λ a. not (list_any (λ l. gone l && is_at a.ns a.link l) links)) addresses)
 AreAddresses-without gone links addresses sound = record {
   keys = distinct-filter (λ a b. is_same_addr b a) (λ a. not (list_any (λ l. gone l && is_at a.ns a.link l) links)) addresses sound.keys;
@@ -97,7 +107,8 @@ AreRoutes-without gone links routes sound = record {
       (λ r h stays. on_kept gone (is_link_of r.ns r.link r.tag) (is_at r.ns r.link) links (λ l h. (and_parts (is_at r.ns r.link l) (tag_eq l.tag r.tag) h).0) h stays) routes sound.on_links;
 }
 
-pub IsSound-without_links : (q : List ℕ → List ℕ → Bool) (host : Host) → IsSound host → IsSound (without_links (goes_by q) host)
+pub IsSound-without_links : (q : List ℕ → List ℕ → Bool) (host : Host) → IsSound host
+    → IsSound (without_links (goes_by q) host)
 IsSound-without_links q host sound = record {
   namespaces = sound.namespaces;
   links = AreLinks-without q host.namespaces host.links sound.links;
@@ -120,5 +131,6 @@ IsSound-link_del host att sound = IsSound-without_link host _ sound
 pub goes_with-itself : (l : Link) → goes_with l.ns l.name l ≡ true
 goes_with-itself l = grind (arith, nat_list_eq_equiv.refl l.ns, nat_list_eq_equiv.refl l.name)
 
-pub link_del-found : (host : Host) (att : Att) (link : Link) → find (λ l. is_own att l.tag) host.links ≡ Some link → (without_links (goes_with link.ns link.name) host, Gone true) ≡ link_del_of host att
+pub link_del-found : (host : Host) (att : Att) (link : Link) → find (λ l. is_own att l.tag) host.links ≡ Some link
+    → (without_links (goes_with link.ns link.name) host, Gone true) ≡ link_del_of host att
 link_del-found host att link found = ap (without_link host) (sym found)

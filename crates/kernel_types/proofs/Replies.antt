@@ -28,7 +28,8 @@ pub record IsReplyOf (host : Host) (step : Host × Reply) : Type 0 where
 in_place : (host : Host) (reply : Reply) → is_fault reply ≡ false → IsReplyOf host (host, reply)
 in_place host reply h = record { no_fault = h; leaves = λ _. refl }
 
-changed : (host next : Host) (reply : Reply) → is_fault reply ≡ false → holds_text_or_list reply ≡ false → IsReplyOf host (next, reply)
+changed : (host next : Host) (reply : Reply) → is_fault reply ≡ false → holds_text_or_list reply ≡ false
+    → IsReplyOf host (next, reply)
 changed host next reply h n = record { no_fault = h; leaves = λ t. cc (n, t) }
 
 appended : (o : Option Tag) (host next : Host) → IsReplyOf host (append_unless_taken o host next)
@@ -40,7 +41,8 @@ bridge_reply host None bridge = changed host _ Done refl refl
 bridge_reply host (Some link) bridge =
     in_place host _ (by_test (λ (reply : Reply). is_fault reply ≡ false) (is_bridge link.kind) Done (Taken link.tag) (λ _. refl) (λ _. refl))
 
-begin_reply : (host : Host) (att : Att) (netns : List ℕ) → is_fault (if is_host_or_ns host.namespaces netns then (if has_objects host att then Taken (tags.Own att) else Done) else NoNs) ≡ false
+begin_reply : (host : Host) (att : Att) (netns : List ℕ)
+    → is_fault (if is_host_or_ns host.namespaces netns then (if has_objects host att then Taken (tags.Own att) else Done) else NoNs) ≡ false
 begin_reply host att netns =
     by_test (λ (reply : Reply). is_fault reply ≡ false) (is_host_or_ns host.namespaces netns) _ NoNs
     (λ _. by_test (λ (reply : Reply). is_fault reply ≡ false) (has_objects host att) (Taken (tags.Own att)) Done (λ _. refl) (λ _. refl))

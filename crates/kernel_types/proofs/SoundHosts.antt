@@ -18,19 +18,24 @@ use Rattle.kernel_types.proofs.{ListLemmas.list_any-map_filter, TouchRemoval.{is
 -- ---- places
 
 -- what lies on a link is where the link is
-place_of_link : (namespaces : List NsObj) (ns name : List ℕ) (p : Link → Bool) (links : List Link) → ((l : Link) → p l ≡ true → is_at ns name l ≡ true) → list_any p links ≡ true → list_all (λ l. is_host_or_ns namespaces l.ns) links ≡ true → is_host_or_ns namespaces ns ≡ true
+place_of_link : (namespaces : List NsObj) (ns name : List ℕ) (p : Link → Bool) (links : List Link)
+    → ((l : Link) → p l ≡ true → is_at ns name l ≡ true) → list_any p links ≡ true
+    → list_all (λ l. is_host_or_ns namespaces l.ns) links ≡ true → is_host_or_ns namespaces ns ≡ true
 place_of_link namespaces ns name p [] w h places = cc
 place_of_link namespaces ns name p (l ∷ ls) w h places =
     let here : is_at ns name l ≡ true → is_host_or_ns namespaces l.ns ≡ is_host_or_ns namespaces ns = λ at. ap (is_host_or_ns namespaces) ((bytes_eq-Decides l.ns ns).0 (grind (arith, at))) in
     grind (arith, h, places, w l, here, place_of_link namespaces ns name p ls w)
 
-place_of_address : (namespaces : List NsObj) (links : List Link) → list_all (λ l. is_host_or_ns namespaces l.ns) links ≡ true → (a : AddrObj) (t : Tag) → address_fits_tag links a t ≡ true → is_host_or_ns namespaces a.ns ≡ true
+place_of_address : (namespaces : List NsObj) (links : List Link)
+    → list_all (λ l. is_host_or_ns namespaces l.ns) links ≡ true → (a : AddrObj) (t : Tag)
+    → address_fits_tag links a t ≡ true → is_host_or_ns namespaces a.ns ≡ true
 place_of_address namespaces links places a Outside h = cc
 place_of_address namespaces links places a Base h = grind (arith, h)
 place_of_address namespaces links places a (Own att) h =
     place_of_link namespaces a.ns a.link (is_link_of a.ns a.link (Own att)) links (λ l g. grind (arith, g)) h places
 
-place_of_setting : (namespaces : List NsObj) (s : Setting) (t : Tag) → setting_fits_tag namespaces s t ≡ true → is_host_or_ns namespaces s.ns ≡ true
+place_of_setting : (namespaces : List NsObj) (s : Setting) (t : Tag) → setting_fits_tag namespaces s t ≡ true
+    → is_host_or_ns namespaces s.ns ≡ true
 place_of_setting namespaces s Outside h = cc
 place_of_setting namespaces s Base h = grind (arith, h)
 place_of_setting namespaces s (Own att) h = h
@@ -51,7 +56,8 @@ outside-not_owned Outside h = refl
 outside-not_owned Base h = refl
 outside-not_owned (Own att) h = cc
 
-none_owned : (namespaces : List NsObj) → list_all (λ n. tag_eq n.tag Outside) namespaces ≡ true → list_any (λ n. is_owned n.tag) namespaces ≡ false
+none_owned : (namespaces : List NsObj) → list_all (λ n. tag_eq n.tag Outside) namespaces ≡ true
+    → list_any (λ n. is_owned n.tag) namespaces ≡ false
 none_owned [] h = refl
 none_owned (n ∷ ns) h = grind (arith, h, outside-not_owned n.tag, none_owned ns)
 
@@ -60,11 +66,16 @@ NoNamespaceOwned-sound host sound = none_owned host.namespaces sound.namespaces.
 
 -- ---- leases
 
-distinct-step : (b : Bool) (x : Lease) (kept : List Lease) → (b ≡ true → list_any (addr_eq x.addr) (map (λ l. l.addr) kept) ≡ false) → distinct addr_eq (map (λ l. l.addr) kept) ≡ true → distinct addr_eq (map (λ l. l.addr) (if b then x ∷ kept else kept)) ≡ true
+distinct-step : (b : Bool) (x : Lease) (kept : List Lease)
+    → (b ≡ true → list_any (addr_eq x.addr) (map (λ l. l.addr) kept) ≡ false)
+    → distinct addr_eq (map (λ l. l.addr) kept) ≡ true
+    → distinct addr_eq (map (λ l. l.addr) (if b then x ∷ kept else kept)) ≡ true
 distinct-step true x kept new h = grind (arith, h, new refl)
 distinct-step false x kept new h = h
 
-distinct-addresses : (network : List ℕ) (leases : List Lease) → distinct (λ a b. bytes_eq a.network b.network && addr_eq a.addr b.addr) leases ≡ true → distinct addr_eq (map (λ l. l.addr) (filter (λ l. bytes_eq l.network network) leases)) ≡ true
+distinct-addresses : (network : List ℕ) (leases : List Lease)
+    → distinct (λ a b. bytes_eq a.network b.network && addr_eq a.addr b.addr) leases ≡ true
+    → distinct addr_eq (map (λ l. l.addr) (filter (λ l. bytes_eq l.network network) leases)) ≡ true
 distinct-addresses network [] h = refl
 distinct-addresses network (x ∷ xs) h =
     let same_network : (l : Lease) → bytes_eq x.network network ≡ true → bytes_eq l.network network ≡ true → bytes_eq x.network l.network ≡ true =
@@ -98,7 +109,8 @@ among-fails p x (y ∷ ys) at h =
     elim at [ inl e ↦ ap p e ∙ grind (arith, h) | inr later ↦ among-fails p x ys later (grind (arith, h)) ]
 
 -- where no two are the same, two that are the same are one
-one_among : {X : Type 0} (same : X → X → Bool) → ((x y : X) → same x y ≡ same y x) → (x y : X) (xs : List X) → distinct same xs ≡ true → IsAmong x xs → IsAmong y xs → same x y ≡ true → x ≡ y
+one_among : {X : Type 0} (same : X → X → Bool) → ((x y : X) → same x y ≡ same y x) → (x y : X) (xs : List X)
+    → distinct same xs ≡ true → IsAmong x xs → IsAmong y xs → same x y ≡ true → x ≡ y
 one_among same s x y [] d at_x at_y h = absurd at_x
 one_among same s x y (z ∷ zs) d at_x at_y h =
     let none : list_any (same z) zs ≡ false = grind (arith, d) in
@@ -114,7 +126,8 @@ one_among same s x y (z ∷ zs) d at_x at_y h =
     ]
 
 -- what each element that passes gives, where some element does
-from_among : {X : Type 0} (p : X → Bool) (c : Bool) (xs : List X) → ((x : X) → IsAmong x xs → p x ≡ true → c ≡ true) → list_any p xs ≡ true → c ≡ true
+from_among : {X : Type 0} (p : X → Bool) (c : Bool) (xs : List X) → ((x : X) → IsAmong x xs → p x ≡ true → c ≡ true)
+    → list_any p xs ≡ true → c ≡ true
 from_among p c [] w h = cc
 from_among p c (x ∷ xs) w h =
     let here : p x ≡ true → c ≡ true = w x (inl refl) in
@@ -122,7 +135,9 @@ from_among p c (x ∷ xs) w h =
     grind (arith, h, here, later)
 
 -- a link that stands at the place of another's peer names that other as its peer
-peer_names_back : (links : List Link) (l m : Link) (o : Option LinkKey) → distinct (λ a b. is_at b.ns b.name a) links ≡ true → IsAmong m links → peer_fits links l o ≡ true → is_peer_at m.ns m.name o ≡ true → is_peer_at l.ns l.name m.peer ≡ true
+peer_names_back : (links : List Link) (l m : Link) (o : Option LinkKey)
+    → distinct (λ a b. is_at b.ns b.name a) links ≡ true → IsAmong m links → peer_fits links l o ≡ true
+    → is_peer_at m.ns m.name o ≡ true → is_peer_at l.ns l.name m.peer ≡ true
 peer_names_back links l m None keys at fits p = cc
 peer_names_back links l m (Some key) keys at fits p =
     let ns : key.ns ≡ m.ns = (bytes_eq-Decides key.ns m.ns).0 (grind (arith, p)) in
@@ -135,7 +150,8 @@ peer_names_back links l m (Some key) keys at fits p =
     (grind (arith, fits))
 
 -- in a sound host a link goes with another exactly where it stands at its place, or is its peer
-pub goes_with-sound : (host : Host) (link other : Link) → IsSound host → Contains host.links link → Contains host.links other → goes_with link.ns link.name other ≡ is_link_or_peer link other
+pub goes_with-sound : (host : Host) (link other : Link) → IsSound host → Contains host.links link
+    → Contains host.links other → goes_with link.ns link.name other ≡ is_link_or_peer link other
 goes_with-sound host link other sound link_there other_there =
     let at_link : IsAmong link host.links = IsAmong-Contains link host.links link_there in
     let at_other : IsAmong other host.links = IsAmong-Contains other host.links other_there in
@@ -149,7 +165,9 @@ goes_with-sound host link other sound link_there other_there =
 -- ---- what is on a link
 
 -- what some link at a place passes, the link at that place passes
-passes_at : (p : Link → Bool) (ns name : List ℕ) (link : Link) (links : List Link) → ((l : Link) → p l ≡ true → is_at ns name l ≡ true) → is_at ns name link ≡ true → distinct (λ a b. is_at b.ns b.name a) links ≡ true → IsAmong link links → list_any p links ≡ true → p link ≡ true
+passes_at : (p : Link → Bool) (ns name : List ℕ) (link : Link) (links : List Link)
+    → ((l : Link) → p l ≡ true → is_at ns name l ≡ true) → is_at ns name link ≡ true
+    → distinct (λ a b. is_at b.ns b.name a) links ≡ true → IsAmong link links → list_any p links ≡ true → p link ≡ true
 passes_at p ns name link links at here keys among some =
     from_among p (p link) links
     (λ x there passes.
@@ -158,12 +176,16 @@ passes_at p ns name link links at here keys among some =
     ap p (sym one) ∙ passes)
     some
 
-tag_on : (links : List Link) (link : Link) (ns name : List ℕ) (t : Tag) → distinct (λ a b. is_at b.ns b.name a) links ≡ true → IsAmong link links → is_at ns name link ≡ true → has_link_in links ns name t ≡ true → tag_eq link.tag t ≡ true
+tag_on : (links : List Link) (link : Link) (ns name : List ℕ) (t : Tag)
+    → distinct (λ a b. is_at b.ns b.name a) links ≡ true → IsAmong link links → is_at ns name link ≡ true
+    → has_link_in links ns name t ≡ true → tag_eq link.tag t ≡ true
 tag_on links link ns name t keys among at lies =
     let passes : is_link_of ns name t link ≡ true = passes_at (is_link_of ns name t) ns name link links (λ l h. grind (arith, h)) at keys among lies in
     grind (arith, passes)
 
-address_on : (links : List Link) (link : Link) (a : AddrObj) (t : Tag) → distinct (λ a b. is_at b.ns b.name a) links ≡ true → IsAmong link links → is_at a.ns a.link link ≡ true → address_fits_tag links a t ≡ true → may_be_on link t ≡ true
+address_on : (links : List Link) (link : Link) (a : AddrObj) (t : Tag)
+    → distinct (λ a b. is_at b.ns b.name a) links ≡ true → IsAmong link links → is_at a.ns a.link link ≡ true
+    → address_fits_tag links a t ≡ true → may_be_on link t ≡ true
 address_on links link a Outside keys among at fits = cc
 address_on links link a Base keys among at fits =
     let on = and_parts (is_host_ns a.ns) (has_bridge_in links a.link) fits in
@@ -188,20 +210,23 @@ HasTagsOn-sound host link sound there =
 abbrev is_peer_from : List ℕ → Link → Link → Bool
 is_peer_from name other l = bytes_eq l.ns name && is_peer_at other.ns other.name l.peer
 
-peer_in_its_ns : (ns place name : List ℕ) (o : Option LinkKey) → bytes_eq ns name ≡ true → is_peer_at ns place o ≡ true → has_peer_in name o ≡ true
+peer_in_its_ns : (ns place name : List ℕ) (o : Option LinkKey) → bytes_eq ns name ≡ true → is_peer_at ns place o ≡ true
+    → has_peer_in name o ≡ true
 peer_in_its_ns ns place name None at p = cc
 peer_in_its_ns ns place name (Some key) at p =
     let same : ns ≡ name = (bytes_eq-Decides ns name).0 at in
     rw (← same) (grind (arith, p))
 
-peer_there : (links : List Link) (name : List ℕ) (other : Link) (o : Option LinkKey) → peer_fits links other o ≡ true → has_peer_in name o ≡ true → list_any (is_peer_from name other) links ≡ true
+peer_there : (links : List Link) (name : List ℕ) (other : Link) (o : Option LinkKey) → peer_fits links other o ≡ true
+    → has_peer_in name o ≡ true → list_any (is_peer_from name other) links ≡ true
 peer_there links name other None fits h = cc
 peer_there links name other (Some key) fits h =
     let same : key.ns ≡ name = (bytes_eq-Decides key.ns name).0 h in
     list_any-weaker (peers_back other key) (is_peer_from name other) (λ l back. rw (← same) (grind (arith, back))) links (grind (arith, fits))
 
 -- in a sound host a link goes with a namespace exactly where it is in it, or is the peer of a link that is
-pub goes_with_ns-sound : (host : Host) (name : List ℕ) (other : Link) → IsSound host → Contains host.links other → goes_with_ns name other ≡ is_in_ns_or_peer name host.links other
+pub goes_with_ns-sound : (host : Host) (name : List ℕ) (other : Link) → IsSound host → Contains host.links other
+    → goes_with_ns name other ≡ is_in_ns_or_peer name host.links other
 goes_with_ns-sound host name other sound other_there =
     let at_other : IsAmong other host.links = IsAmong-Contains other host.links other_there in
     let fits_other : peer_fits host.links other other.peer ≡ true = among-passes (λ l. peer_fits host.links l l.peer) other host.links at_other sound.links.peers in

@@ -8,7 +8,8 @@ use Rattle.kernel_types.specs.{Terms.{is_host_ns, outside_namespace}, declared.o
 use Rattle.kernel_types.specs.declared.object.Tag.{Tag, TheVariants.{Outside, Base, Own}}
 use Rattle.kernel_types.proofs.{Cases.shared-no_veth, ListLemmas.{list_any-map, list_all-map, list_all-weaker}}
 
-distinct-names : (names : List (List ℕ)) → distinct (λ a b. bytes_eq a.name b.name) (map outside_namespace names) ≡ distinct bytes_eq names
+distinct-names : (names : List (List ℕ))
+    → distinct (λ a b. bytes_eq a.name b.name) (map outside_namespace names) ≡ distinct bytes_eq names
 distinct-names [] = refl
 distinct-names (x ∷ xs) =
     let head : list_any (λ n. bytes_eq x n.name) (map outside_namespace xs) ≡ list_any (bytes_eq x) xs = list_any-map (λ n. bytes_eq x n.name) outside_namespace xs in
@@ -23,11 +24,13 @@ shared-fits l Outside h k = k
 shared-fits l Base h k = cc
 shared-fits l (Own att) h k = cc
 
-shared-alone : (links : List Link) (l : Link) (o : Option LinkKey) → is_none o ≡ true → is_unowned_kind l.kind ≡ true → peer_fits links l o ≡ true
+shared-alone : (links : List Link) (l : Link) (o : Option LinkKey) → is_none o ≡ true → is_unowned_kind l.kind ≡ true
+    → peer_fits links l o ≡ true
 shared-alone links l None h k = grind (arith, shared-no_veth l.kind k)
 shared-alone links l (Some key) h k = cc
 
-pub IsSound-opening_with : (names : List (List ℕ)) (links : List Link) → AreNamespaceNames names → AreOutsideLinks names links → IsSound (opening_with names links)
+pub IsSound-opening_with : (names : List (List ℕ)) (links : List Link) → AreNamespaceNames names
+    → AreOutsideLinks names links → IsSound (opening_with names links)
 IsSound-opening_with names links good outside = record {
   namespaces = record {
     keys = distinct-names names ∙ good.distinct;

@@ -28,7 +28,8 @@ same_family : (f g h : Family) → family_eq f h ≡ true → family_eq g h ≡ 
 same_family f g h p q = grind (arith, nat_tests, p, q)
 
 -- a range of the family that starts within another has one of its addresses
-not_apart-within : (f : Family) (r s : Range) → has_address_of f r ≡ true → has_address_of f s ≡ true → r.start.bits ≤ s.start.bits → s.start.bits ≤ r.end.bits → is_apart r s ≡ false
+not_apart-within : (f : Family) (r s : Range) → has_address_of f r ≡ true → has_address_of f s ≡ true
+    → r.start.bits ≤ s.start.bits → s.start.bits ≤ r.end.bits → is_apart r s ≡ false
 not_apart-within f r s p q order within =
     let one = and_parts (family_eq r.start.family f) (nat_le r.start.bits r.end.bits) p in
     let two = and_parts (family_eq s.start.family f) (nat_le s.start.bits s.end.bits) q in
@@ -39,17 +40,20 @@ not_apart-within f r s p q order within =
 
 -- ---- ranges in order
 
-tail_order : (r : Range) (rs : List Range) → IsNonDecreasingBy (λ x. x.start.bits) (r ∷ rs) → IsNonDecreasingBy (λ x. x.start.bits) rs
+tail_order : (r : Range) (rs : List Range) → IsNonDecreasingBy (λ x. x.start.bits) (r ∷ rs)
+    → IsNonDecreasingBy (λ x. x.start.bits) rs
 tail_order r rs order i j d up within = order (suc i) (suc j) d (omega arith) (omega arith)
 
 -- no range of these starts before this number
 abbrev StartsFrom : ℕ → List Range → Type 0
 StartsFrom low rs = (k : ℕ) (d : Range) → k < length rs → low ≤ (get_or rs k d).start.bits
 
-from_first : (r : Range) (rs : List Range) → IsNonDecreasingBy (λ x. x.start.bits) (r ∷ rs) → StartsFrom r.start.bits (r ∷ rs)
+from_first : (r : Range) (rs : List Range) → IsNonDecreasingBy (λ x. x.start.bits) (r ∷ rs)
+    → StartsFrom r.start.bits (r ∷ rs)
 from_first r rs order k d within = order 0 k d (omega arith) within
 
-all_after : (r : Range) (low : ℕ) (rs : List Range) → r.end.bits < low → StartsFrom low rs → list_all (is_apart r) rs ≡ true
+all_after : (r : Range) (low : ℕ) (rs : List Range) → r.end.bits < low → StartsFrom low rs
+    → list_all (is_apart r) rs ≡ true
 all_after r low [] less from = refl
 all_after r low (s ∷ rs) less from =
     let here : low ≤ s.start.bits = from 0 s (omega arith) in
@@ -58,7 +62,8 @@ all_after r low (s ∷ rs) less from =
     rw one more
 
 -- the first range is apart from all others exactly where it ends before the second starts
-first-apart : (f : Family) (r s : Range) (rs : List Range) → has_address_of f r ≡ true → has_address_of f s ≡ true → IsNonDecreasingBy (λ x. x.start.bits) (r ∷ s ∷ rs)
+first-apart : (f : Family) (r s : Range) (rs : List Range) → has_address_of f r ≡ true → has_address_of f s ≡ true
+    → IsNonDecreasingBy (λ x. x.start.bits) (r ∷ s ∷ rs)
     → (b : Bool) → nat_lt r.end.bits s.start.bits ≡ b → list_all (is_apart r) (s ∷ rs) ≡ b
 first-apart f r s rs p q order true is =
     all_after r s.start.bits (s ∷ rs) (grind (arith, nat_tests, is)) (from_first s rs (tail_order r (s ∷ rs) order))
@@ -68,7 +73,8 @@ first-apart f r s rs p q order false is =
     rw (not_apart-within f r s p q up within) refl
 
 -- ranges with addresses of one family, in order
-ascends-are_apart : (f : Family) (rs : List Range) → All (λ r. has_address_of f r ≡ true) rs → IsNonDecreasingBy (λ x. x.start.bits) rs → ascend_after None rs ≡ are_apart rs
+ascends-are_apart : (f : Family) (rs : List Range) → All (λ r. has_address_of f r ≡ true) rs
+    → IsNonDecreasingBy (λ x. x.start.bits) rs → ascend_after None rs ≡ are_apart rs
 ascends-are_apart f [] all order = refl
 ascends-are_apart f (r ∷ []) all order = refl
 ascends-are_apart f (r ∷ s ∷ rs) all order =
@@ -127,7 +133,8 @@ list_all-of_each p [] each = refl
 list_all-of_each p (x ∷ xs) each = rw (each x) (list_all-of_each p xs each)
 
 -- a test that the others pass is to be made of those alone
-list_all-of_those : {X : Type 0} (p q : X → Bool) (xs : List X) → ((x : X) → q x ≡ false → p x ≡ true) → list_all p xs ≡ list_all p (filter q xs)
+list_all-of_those : {X : Type 0} (p q : X → Bool) (xs : List X) → ((x : X) → q x ≡ false → p x ≡ true)
+    → list_all p xs ≡ list_all p (filter q xs)
 list_all-of_those p q [] others = refl
 list_all-of_those p q (x ∷ xs) others =
     elim (cases_Bool (q x)) [
@@ -148,7 +155,8 @@ regroup_second false false c = refl
 not_both : (r : Range) → has_address_of V4 r ≡ true → has_address_of V6 r ≡ false
 not_both r is = grind (arith, nat_tests, is)
 
-apart-by_family : (rs : List Range) → are_apart rs ≡ (are_apart (filter (has_address_of V4) rs) && are_apart (filter (has_address_of V6) rs))
+apart-by_family : (rs : List Range)
+    → are_apart rs ≡ (are_apart (filter (has_address_of V4) rs) && are_apart (filter (has_address_of V6) rs))
 apart-by_family [] = refl
 apart-by_family (r ∷ rs) =
     let later = apart-by_family rs in
@@ -186,7 +194,8 @@ apart_from_places (r ∷ rs) each =
     let first = list_all-from_AllPass (is_apart r) rs (λ j d within. each 0 (suc j) d (omega arith) (omega arith)) in
     rw first (apart_from_places rs (λ i j d up within. each (suc i) (suc j) d (omega arith) (omega arith)))
 
-either_way : (rs : List Range) → AreApartAt rs → (i j : ℕ) (d : Range) → i < length rs → j < length rs → i ≢ j → is_apart (get_or rs i d) (get_or rs j d) ≡ true
+either_way : (rs : List Range) → AreApartAt rs → (i j : ℕ) (d : Range) → i < length rs → j < length rs → i ≢ j
+    → is_apart (get_or rs i d) (get_or rs j d) ≡ true
 either_way rs each i j d p q differ =
     elim (cases_Bool (nat_lt i j)) [
       | inl up ↦ each i j d (grind (arith, nat_tests, up)) q
@@ -197,7 +206,8 @@ either_way rs each i j d p q differ =
 abbrev From : ℕ → ℕ → ℕ → ℕ → Type 0
 From a b m k = ((m ≡ a) × (k ≡ b)) ⊎ (((m ≡ b) × (k ≡ a)) ⊎ ((m ≢ a) × (m ≢ b) × (k ≡ m)))
 
-origin : (f g : ℕ → Range) (a b m : ℕ) → Swapped f g a b → (m ≡ a) ⊎ (m ≢ a) → (m ≡ b) ⊎ (m ≢ b) → (k : ℕ) × From a b m k × (g m ≡ f k)
+origin : (f g : ℕ → Range) (a b m : ℕ) → Swapped f g a b → (m ≡ a) ⊎ (m ≢ a) → (m ≡ b) ⊎ (m ≢ b)
+    → (k : ℕ) × From a b m k × (g m ≡ f k)
 origin f g a b m s (inl e) y = (b, inl (e, refl), ap g e ∙ s.0)
 origin f g a b m s (inr n) (inl e) = (a, inr (inl (e, refl)), ap g e ∙ s.1)
 origin f g a b m s (inr n) (inr o) = (m, inr (inr (n, o, refl)), s.2 m n o)
@@ -218,7 +228,8 @@ are_apart-permutation : (xs ys : List Range) → IsPermutation xs ys → are_apa
 are_apart-permutation xs ys moved =
     both_ways (are_apart xs) (are_apart ys) (apart-permutation xs ys moved) (apart-permutation ys xs (IsPermutation-sym xs ys moved))
 
-ascends-of_family : (f : Family) (rs : List Range) → IsNonDecreasingBy (λ r. r.start.bits) rs → ascend_after None (filter (has_address_of f) rs) ≡ are_apart (filter (has_address_of f) rs)
+ascends-of_family : (f : Family) (rs : List Range) → IsNonDecreasingBy (λ r. r.start.bits) rs
+    → ascend_after None (filter (has_address_of f) rs) ≡ are_apart (filter (has_address_of f) rs)
 ascends-of_family f rs order =
     ascends-are_apart f (filter (has_address_of f) rs) (filter_passes (has_address_of f) rs) (IsNonDecreasingBy-filter (λ r. r.start.bits) (has_address_of f) rs order)
 

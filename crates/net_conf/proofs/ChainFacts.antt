@@ -30,7 +30,8 @@ later_by_itself before d p is =
     let new = goes (not_repeated before type.value) _ p type.rest in
     rw (form.first, type.first) new.rest
 
-later_by_type : (before : List Chained) (d : Data) (p : Chained) → later_at before d ≡ Ok p → plugin_by_type_at d ≡ Ok (plugins.Chained p)
+later_by_type : (before : List Chained) (d : Data) (p : Chained) → later_at before d ≡ Ok p
+    → plugin_by_type_at d ≡ Ok (plugins.Chained p)
 later_by_type before d p is = plugin_at-by_type false d (plugins.Chained p) (rw (later_by_itself before d p is) refl)
 
 -- ---- all plugins
@@ -41,7 +42,8 @@ record ReadAfter (before : List Chained) (ds : Items) (found : List Chained) : T
   all : before ++ more ≡ found
   alone : each plugin_by_type_at ds ≡ Ok (map plugins.Chained more)
 
-read_after : (before : List Chained) (ds : Items) (found : List Chained) → each_after later_at before ds ≡ Ok found → ReadAfter before ds found
+read_after : (before : List Chained) (ds : Items) (found : List Chained) → each_after later_at before ds ≡ Ok found
+    → ReadAfter before ds found
 read_after before no_items found is = record { more = []; all = append-nil before ∙ ok_same is; alone = refl }
 read_after before (item d ds) found is =
     let next = goes (later_at before d) _ found is in
@@ -53,7 +55,8 @@ read_after before (item d ds) found is =
     }
 
 -- each object that a chain is read of is read, by itself, as its plugin
-pub chain_of-each : (ds : Items) (chain : PluginChain) → chain_of ds ≡ Ok chain → each plugin_by_type_at ds ≡ Ok (plugins_in chain.first chain.chained)
+pub chain_of-each : (ds : Items) (chain : PluginChain) → chain_of ds ≡ Ok chain
+    → each plugin_by_type_at ds ≡ Ok (plugins_in chain.first chain.chained)
 chain_of-each no_items chain is = cc
 chain_of-each (item d ds) chain is =
     let first = goes (first_at d) _ chain is in
@@ -62,11 +65,13 @@ chain_of-each (item d ds) chain is =
     subst (λ (c : PluginChain). each plugin_by_type_at (item d ds) ≡ Ok (plugins_in c.first c.chained)) (ok_same chained.rest)
     (rw (first_by_itself d first.value first.first, rest.alone) (ap (λ (ps : List Chained). Ok (plugins_in first.value ps)) rest.all))
 
-then-ok : {A B E : Type 0} (r : Result A E) (next : A → Result B E) (a : A) (b : B) → r ≡ Ok a → next a ≡ Ok b → (r >>= next) ≡ Ok b
+then-ok : {A B E : Type 0} (r : Result A E) (next : A → Result B E) (a : A) (b : B) → r ≡ Ok a → next a ≡ Ok b
+    → (r >>= next) ≡ Ok b
 then-ok r next a b first rest = rw first rest
 
 -- the same of a whole list
-pub network_list_at-each : (d : Data) (list : NetList) → network_list_at d ≡ Ok list → each_plugin_at d ≡ Ok (plugins_in list.first list.chained)
+pub network_list_at-each : (d : Data) (list : NetList) → network_list_at d ≡ Ok list
+    → each_plugin_at d ≡ Ok (plugins_in list.first list.chained)
 unfolding network_list_at chain_at each_plugin_at
 network_list_at-each d list is =
     let header = goes (header_at d) _ list is in
@@ -81,7 +86,8 @@ network_list_at-each d list is =
 -- ---- by place
 
 -- what is read of each item is read of that in a place
-pub each-at : {A E : Type 0} (read : Data → Result A E) (ds : List Data) (xs : List A) (k : ℕ) (x : A) → each read (items_of ds) ≡ Ok xs → slice_get xs k ≡ Some x → read (slice_index_or ds k null) ≡ Ok x
+pub each-at : {A E : Type 0} (read : Data → Result A E) (ds : List Data) (xs : List A) (k : ℕ) (x : A)
+    → each read (items_of ds) ≡ Ok xs → slice_get xs k ≡ Some x → read (slice_index_or ds k null) ≡ Ok x
 each-at {A = A} read [] xs k x is there = nothing_in k (subst (λ ys. slice_get ys k ≡ Some x) (sym (ok_same {x = []} {y = xs} is)) there)
   where
     nothing_in : (k : ℕ) → slice_get [] k ≡ Some x → read (slice_index_or [] k null) ≡ Ok x

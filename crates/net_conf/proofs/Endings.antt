@@ -9,7 +9,8 @@ use Rattle.cni_json.specs.{Each.each, declared.fields.Field.{Field, TheVariants.
 use Rattle.net_conf.specs.{Members.{passing, needed_text, ok_map}, Sets.all_items, declared.error.ConfError.ConfError}
 
 -- what holds of each item that is read, where each item passes a test first
-pub each_tested : {A : Type 0} (test : Data → Bool) (read : Data → Result A ConfError) (P : A → Type 0) → ((d : Data) (x : A) → test d ≡ true → read d ≡ Ok x → P x)
+pub each_tested : {A : Type 0} (test : Data → Bool) (read : Data → Result A ConfError) (P : A → Type 0)
+    → ((d : Data) (x : A) → test d ≡ true → read d ≡ Ok x → P x)
     → (ds : Items) (xs : List A) → all_items test ds ≡ true → each read ds ≡ Ok xs → All P xs
 each_tested test read P holds no_items xs tests is = subst (All P) (ok_same is) (All-nil P)
 each_tested test read P holds (item d ds) xs tests is =
@@ -19,7 +20,8 @@ each_tested test read P holds (item d ds) xs tests is =
     subst (All P) (ok_same more.rest) (All-cons P one.value more.value (holds d one.value both.0 one.first) (each_tested test read P holds ds more.value both.1 more.first))
 
 -- as many are read as there are items
-pub each_count : {A : Type 0} (read : Data → Result A ConfError) (ds : Items) (xs : List A) → each read ds ≡ Ok xs → length xs ≡ items_len ds
+pub each_count : {A : Type 0} (read : Data → Result A ConfError) (ds : Items) (xs : List A) → each read ds ≡ Ok xs
+    → length xs ≡ items_len ds
 each_count read no_items xs is = ap length (sym (ok_same {x = []} {y = xs} is))
 each_count read (item d ds) xs is =
     let one = goes (read d) _ xs is in
@@ -27,20 +29,23 @@ each_count read (item d ds) xs is =
     ap length (sym (ok_same {x = one.value ∷ more.value} {y = xs} more.rest)) ∙ ap suc (each_count read ds more.value more.first)
 
 -- what was found and passed the test
-pub passing-ok : {A : Type 0} (blamed : List ℕ) (test : A → Bool) (o : Option A) (x : A) → passing blamed test o ≡ Ok x → (test x ≡ true) × (o ≡ Some x)
+pub passing-ok : {A : Type 0} (blamed : List ℕ) (test : A → Bool) (o : Option A) (x : A) → passing blamed test o ≡ Ok x
+    → (test x ≡ true) × (o ≡ Some x)
 passing-ok blamed test None x is = cc
 passing-ok blamed test (Some y) x is =
     let this = passed (test y) y x _ is in
     subst (λ z. (test z ≡ true) × (Some y ≡ Some z)) this.1 (this.0, refl)
 
 -- a text that must be there passed the test
-pub needed_text-ok : (key : List ℕ) (test : List ℕ → Bool) (f : Field (List ℕ)) (text : List ℕ) → needed_text key test f ≡ Ok text → test text ≡ true
+pub needed_text-ok : (key : List ℕ) (test : List ℕ → Bool) (f : Field (List ℕ)) (text : List ℕ)
+    → needed_text key test f ≡ Ok text → test text ≡ true
 needed_text-ok key test Absent text is = cc
 needed_text-ok key test WrongKind text is = cc
 needed_text-ok key test (Here found) text is = (passing-ok key test (Some found) text is).0
 
 -- what holds of the default holds of the value or the default
-pub or_default : {A : Type 0} (P : A → Type 0) (given : Option A) (default : A) → IfSome given P → P default → P (unwrap_or given default)
+pub or_default : {A : Type 0} (P : A → Type 0) (given : Option A) (default : A) → IfSome given P → P default
+    → P (unwrap_or given default)
 or_default P None default kept holds = holds
 or_default P (Some x) default kept holds = kept
 

@@ -112,7 +112,8 @@ bridge_at-ok d conf is =
       ipam = addressing_at-ok d addressing.value addressing.first;
     })
 
-needed_ipam-ok : (o : Option HostLocalConf) (conf : HostLocalConf) → IsWellFormedIpam o → ok_or o (refusal.Invalid (codes "ipam")) ≡ Ok conf → IsWellFormedHostLocal conf
+needed_ipam-ok : (o : Option HostLocalConf) (conf : HostLocalConf) → IsWellFormedIpam o
+    → ok_or o (refusal.Invalid (codes "ipam")) ≡ Ok conf → IsWellFormedHostLocal conf
 needed_ipam-ok None conf kept is = cc
 needed_ipam-ok (Some v) conf kept is = subst IsWellFormedHostLocal (ok_same is) kept
 
@@ -164,7 +165,8 @@ first_plugin-ok (item d ds) found is = first_at-ok d found is
 -- ---- the later plugins
 
 -- the object names its plugin's type
-later_of-type : (type : PluginType) (d : Data) (found : Chained) → later_of type d ≡ Ok found → type_of_chained found ≡ type
+later_of-type : (type : PluginType) (d : Data) (found : Chained) → later_of type d ≡ Ok found
+    → type_of_chained found ≡ type
 later_of-type plugin.Bridge d found is = cc
 later_of-type plugin.Ptp d found is = cc
 later_of-type plugin.Macvlan d found is = cc
@@ -172,7 +174,8 @@ later_of-type plugin.Portmap d found is = let conf = mapped _ (portmap_at d) fou
 later_of-type plugin.Firewall d found is = let conf = mapped _ (firewall_at d) found is in ap type_of_chained (sym (ok_same conf.rest))
 later_of-type plugin.Tuning d found is = let conf = mapped _ (tuning_at d) found is in ap type_of_chained (sym (ok_same conf.rest))
 
-later_of-ok : (type : PluginType) (d : Data) (found : Chained) → KeysAscend d → later_of type d ≡ Ok found → IsWellFormedChained found
+later_of-ok : (type : PluginType) (d : Data) (found : Chained) → KeysAscend d → later_of type d ≡ Ok found
+    → IsWellFormedChained found
 later_of-ok plugin.Bridge d found order is = cc
 later_of-ok plugin.Ptp d found order is = cc
 later_of-ok plugin.Macvlan d found order is = cc
@@ -190,7 +193,8 @@ chained_at-ok d found order is =
     later_of-ok type.value d found order type.rest
 
 -- one more plugin, of a type that none of these has
-once_more : (before : List Chained) (next : Chained) (type : PluginType) → type_of_chained next ≡ type → list_any (is_of_type type) before ≡ false
+once_more : (before : List Chained) (next : Chained) (type : PluginType) → type_of_chained next ≡ type
+    → list_any (is_of_type type) before ≡ false
     → HaveTypesOnce before → HaveTypesOnce (before ++ next ∷ [])
 unfolding IsDistinct
 once_more [] next type is none once = (tt, tt)
@@ -204,7 +208,8 @@ once_more (p ∷ before) next type is none once =
     also [] all new = (new, tt)
     also (q ∷ ps) all new = (all.0, also ps all.1 new)
 
-later_at-once : (before : List Chained) (d : Data) (next : Chained) → HaveTypesOnce before → later_at before d ≡ Ok next → HaveTypesOnce (before ++ next ∷ [])
+later_at-once : (before : List Chained) (d : Data) (next : Chained) → HaveTypesOnce before → later_at before d ≡ Ok next
+    → HaveTypesOnce (before ++ next ∷ [])
 unfolding later_at not_repeated
 later_at-once before d next once is =
     let form = goes (object_or wrong_plugins d) _ next is in
@@ -226,7 +231,8 @@ later_plugins-once (item d ds) found is =
 abbrev AreLaterSoFar : List Chained → Items → Type 0
 AreLaterSoFar before ds = All IsWellFormedChained before × EverywhereInItems HasAscendingKeys ds
 
-later_at-keeps : (before : List Chained) (d : Data) (ds : Items) (next : Chained) → AreLaterSoFar before (item d ds) → later_at before d ≡ Ok next → AreLaterSoFar (before ++ next ∷ []) ds
+later_at-keeps : (before : List Chained) (d : Data) (ds : Items) (next : Chained) → AreLaterSoFar before (item d ds)
+    → later_at before d ≡ Ok next → AreLaterSoFar (before ++ next ∷ []) ds
 unfolding later_at not_repeated
 later_at-keeps before d ds next kept is =
     let form = goes (object_or wrong_plugins d) _ next is in
@@ -234,13 +240,15 @@ later_at-keeps before d ds next kept is =
     let new = goes (not_repeated before type.value) _ next type.rest in
     (All-push IsWellFormedChained before next kept.0 (later_of-ok type.value d next kept.1.0 new.rest), kept.1.1)
 
-later_plugins-ok : (ds : Items) (found : List Chained) → EverywhereInItems HasAscendingKeys ds → later_plugins ds ≡ Ok found → All IsWellFormedChained found
+later_plugins-ok : (ds : Items) (found : List Chained) → EverywhereInItems HasAscendingKeys ds
+    → later_plugins ds ≡ Ok found → All IsWellFormedChained found
 later_plugins-ok no_items found order is = subst (All IsWellFormedChained) (ok_same is) (All-nil IsWellFormedChained)
 later_plugins-ok (item d ds) found order is = (each_after_keeps later_at AreLaterSoFar later_at-keeps [] ds found (All-nil IsWellFormedChained, order.1) is).0
 
 -- ---- all plugins
 
-listed-ascends : (o : Option Data) (ds : Items) → ((d : Data) → o ≡ Some d → KeysAscend d) → plugins_of (field_of as_array o) ≡ Ok ds → EverywhereInItems HasAscendingKeys ds
+listed-ascends : (o : Option Data) (ds : Items) → ((d : Data) → o ≡ Some d → KeysAscend d)
+    → plugins_of (field_of as_array o) ≡ Ok ds → EverywhereInItems HasAscendingKeys ds
 listed-ascends None ds order is = cc
 listed-ascends (Some null) ds order is = cc
 listed-ascends (Some (boolean b)) ds order is = cc
@@ -249,7 +257,8 @@ listed-ascends (Some (string s)) ds order is = cc
 listed-ascends (Some (array es)) ds order is = subst (EverywhereInItems HasAscendingKeys) (ok_same is) (order (array es) refl).1
 listed-ascends (Some (object ms)) ds order is = cc
 
-plugins_at-ascends : (d : Data) (ds : Items) → KeysAscend d → plugins_at d ≡ Ok ds → EverywhereInItems HasAscendingKeys ds
+plugins_at-ascends : (d : Data) (ds : Items) → KeysAscend d → plugins_at d ≡ Ok ds
+    → EverywhereInItems HasAscendingKeys ds
 unfolding plugins_at
 plugins_at-ascends d ds order is = listed-ascends (get (codes "plugins") d) ds (λ e there. get-everywhere HasAscendingKeys (codes "plugins") d e order there) is
 
@@ -284,7 +293,8 @@ plugin_by_type_at-ok d p order is =
     plugin_at-ok (makes_interface type.value) d p order type.rest
 
 -- the types of the two places
-first_of-type : (type : PluginType) (d : Data) (found : First) → first_of type d ≡ Ok found → makes_interface type ≡ true
+first_of-type : (type : PluginType) (d : Data) (found : First) → first_of type d ≡ Ok found
+    → makes_interface type ≡ true
 first_of-type plugin.Bridge d found is = refl
 first_of-type plugin.Ptp d found is = refl
 first_of-type plugin.Macvlan d found is = refl
@@ -292,7 +302,8 @@ first_of-type plugin.Portmap d found is = cc
 first_of-type plugin.Firewall d found is = cc
 first_of-type plugin.Tuning d found is = cc
 
-later_of-place : (type : PluginType) (d : Data) (found : Chained) → later_of type d ≡ Ok found → makes_interface type ≡ false
+later_of-place : (type : PluginType) (d : Data) (found : Chained) → later_of type d ≡ Ok found
+    → makes_interface type ≡ false
 later_of-place plugin.Bridge d found is = cc
 later_of-place plugin.Ptp d found is = cc
 later_of-place plugin.Macvlan d found is = cc

@@ -70,7 +70,8 @@ subnet_at-ok d c is = subnet_of-ok _ c is
 abbrev IsRead : (AddrValue → Bool) → AddrValue → Type 0
 IsRead test a = IsAddr a × (test a ≡ true)
 
-addr_if_of-ok : (blamed : List ℕ) (test : AddrValue → Bool) (f : Field (List ℕ)) (found : Option AddrValue) → addr_if_of blamed test f ≡ Ok found → IfSome found (IsRead test)
+addr_if_of-ok : (blamed : List ℕ) (test : AddrValue → Bool) (f : Field (List ℕ)) (found : Option AddrValue)
+    → addr_if_of blamed test f ≡ Ok found → IfSome found (IsRead test)
 addr_if_of-ok blamed test Absent found is = subst (λ o. IfSome o (IsRead test)) (ok_same is) tt
 addr_if_of-ok blamed test WrongKind found is = cc
 addr_if_of-ok blamed test (Here text) found is =
@@ -78,11 +79,13 @@ addr_if_of-ok blamed test (Here text) found is =
     let kept = passing-ok blamed test (addr_of_text text) read.value read.first in
     subst (λ o. IfSome o (IsRead test)) (ok_same read.rest) (read_is_addr text read.value kept.1, kept.0)
 
-pub addr_if_at-ok : (blamed key : List ℕ) (test : AddrValue → Bool) (d : Data) (found : Option AddrValue) → addr_if_at blamed key test d ≡ Ok found → IfSome found (IsRead test)
+pub addr_if_at-ok : (blamed key : List ℕ) (test : AddrValue → Bool) (d : Data) (found : Option AddrValue)
+    → addr_if_at blamed key test d ≡ Ok found → IfSome found (IsRead test)
 unfolding addr_if_at
 addr_if_at-ok blamed key test d found is = addr_if_of-ok blamed test _ found is
 
-addr_or_at-ok : (key : List ℕ) (default : AddrValue) (test : AddrValue → Bool) (d : Data) (a : AddrValue) → IsRead test default → addr_or_at key default test d ≡ Ok a → IsRead test a
+addr_or_at-ok : (key : List ℕ) (default : AddrValue) (test : AddrValue → Bool) (d : Data) (a : AddrValue)
+    → IsRead test default → addr_or_at key default test d ≡ Ok a → IsRead test a
 unfolding addr_or_at
 addr_or_at-ok key default test d a kept is =
     let given = goes (addr_if_at key key test d) _ a is in
@@ -121,7 +124,8 @@ range_at-ok d r is =
     })
 
 -- the parts of a range that are read have one family; the defaults are known by other names
-pub one_family : (d : Data) (c : CidrValue) (first last start end gateway : AddrValue) → first ≡ first_host c → last ≡ last_host c → subnet_at d ≡ Ok c
+pub one_family : (d : Data) (c : CidrValue) (first last start end gateway : AddrValue) → first ≡ first_host c
+    → last ≡ last_host c → subnet_at d ≡ Ok c
     → addr_or_at (codes "rangeStart") first (contains c) d ≡ Ok start → addr_or_at (codes "rangeEnd") last (contains c) d ≡ Ok end
     → addr_or_at (codes "gateway") first (is_address_of c.addr.family) d ≡ Ok gateway → IsOneFamily c start end gateway
 one_family d c first last start end gateway named_first named_last subnet_is start_is end_is gateway_is =

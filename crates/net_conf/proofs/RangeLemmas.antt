@@ -12,7 +12,8 @@ room V4 prefix low = let more : 2 ≤ 32 - prefix = omega arith in pow_mono more
 room V6 prefix low = let more : 2 ≤ 128 - prefix = omega arith in pow_mono more
 
 -- what the tests of a subnet say of its numbers
-tested : (f : Bool) (a b p q most : ℕ) → (((f && a == b) && p == q) && (nat_le 8 p && nat_le p most)) ≡ true → (a ≡ b) × (8 ≤ p) × (p ≤ most)
+tested : (f : Bool) (a b p q most : ℕ) → (((f && a == b) && p == q) && (nat_le 8 p && nat_le p most)) ≡ true
+    → (a ≡ b) × (8 ≤ p) × (p ≤ most)
 tested f a b p q most is = (grind (arith, nat_tests), grind (arith, nat_tests), grind (arith, nat_tests))
 
 -- what it is to be a subnet
@@ -41,7 +42,8 @@ subnet_room c is =
     omega arith
 
 -- the address after the subnet's, whose parts are known by other names: its family is that of the subnet's last address
-pub first_host-is : (c : CidrValue) (own last : AddrValue) → own ≡ c.addr → last ≡ last_of c → record { family = last.family; bits = own.bits + 1 } ≡ first_host c
+pub first_host-is : (c : CidrValue) (own last : AddrValue) → own ≡ c.addr → last ≡ last_of c
+    → record { family = last.family; bits = own.bits + 1 } ≡ first_host c
 unfolding first_host
 first_host-is c own last same is =
     let family : last.family ≡ c.addr.family = ap (λ (a : AddrValue). a.family) is ∙ sym (last_family c) in

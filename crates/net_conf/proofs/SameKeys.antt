@@ -26,7 +26,8 @@ object_or-is wrong (string s) = refl
 object_or-is wrong (array ds) = refl
 object_or-is wrong (object ms) = refl
 
-object_or-same : {E : Type 0} (wrong : Result ⊤ E) (d e : Data) → HaveSameKeys d e → object_or wrong d ≡ object_or wrong e
+object_or-same : {E : Type 0} (wrong : Result ⊤ E) (d e : Data) → HaveSameKeys d e
+    → object_or wrong d ≡ object_or wrong e
 object_or-same wrong d e same =
     object_or-is wrong d ∙ ap (λ (b : Bool). if b then Ok tt else wrong) same.object ∙ sym (object_or-is wrong e)
 
@@ -34,12 +35,14 @@ object_or-same wrong d e same =
 abbrev ArePluginKeys : List Row → Type 0
 ArePluginKeys rows = AllByRecursion (λ row. is_runtime_key row.0 ≡ false) rows
 
-all_supported-same : (rows : List Row) (d e : Data) → HaveSameKeys d e → ArePluginKeys rows → all_supported rows d ≡ all_supported rows e
+all_supported-same : (rows : List Row) (d e : Data) → HaveSameKeys d e → ArePluginKeys rows
+    → all_supported rows d ≡ all_supported rows e
 unfolding supported
 all_supported-same [] d e same own = refl
 all_supported-same (row ∷ rows) d e same own = rw (same.members row.0 own.0, all_supported-same rows d e same own.1) refl
 
-flag_at-same : (key : List ℕ) (default : Bool) (d e : Data) → HaveSameKeys d e → is_runtime_key key ≡ false → flag_at key default d ≡ flag_at key default e
+flag_at-same : (key : List ℕ) (default : Bool) (d e : Data) → HaveSameKeys d e → is_runtime_key key ≡ false
+    → flag_at key default d ≡ flag_at key default e
 unfolding flag_at
 flag_at-same key default d e same own = rw (same.members key own) refl
 
@@ -51,7 +54,8 @@ mtu_at-same : (d e : Data) → HaveSameKeys d e → mtu_at d ≡ mtu_at e
 unfolding mtu_at
 mtu_at-same d e same = rw (given_mtu_at-same d e same) refl
 
-dns_of_object-same : (d e : Data) → HaveSameKeys d e → dns_of_object (refusal.Invalid (codes "dns")) d ≡ dns_of_object (refusal.Invalid (codes "dns")) e
+dns_of_object-same : (d e : Data) → HaveSameKeys d e
+    → dns_of_object (refusal.Invalid (codes "dns")) d ≡ dns_of_object (refusal.Invalid (codes "dns")) e
 unfolding dns_of_object
 dns_of_object-same d e same = rw (same.members (codes "dns") refl) refl
 
@@ -169,7 +173,8 @@ later_of-same plugin.Firewall d e same = rw (firewall_at-same d e same) refl
 later_of-same plugin.Tuning d e same = rw (tuning_at-same d e same) refl
 
 -- a type, and what goes on from it
-by_type-same : {A : Type 0} (read : PluginType → Data → Result A ConfError) (d e : Data) → ((type : PluginType) → read type d ≡ read type e) → HaveSameKeys d e
+by_type-same : {A : Type 0} (read : PluginType → Data → Result A ConfError) (d e : Data)
+    → ((type : PluginType) → read type d ≡ read type e) → HaveSameKeys d e
     → (type_at d >>= λ type. read type d) ≡ (type_at e >>= λ type. read type e)
 by_type-same read d e each same = rw (type_at-same d e same) (after (type_at e))
   where

@@ -47,7 +47,8 @@ set_of-ok (array ds) set form is =
 -- ---- ranges that are apart
 
 -- where the sets are separate and each is filled, each is well formed
-all_sets : (sets : List RangeSet) → are_apart (ranges_of sets) ≡ true → list_all is_of_one_family sets ≡ true → All IsFilled sets → All IsWellFormedSet sets
+all_sets : (sets : List RangeSet) → are_apart (ranges_of sets) ≡ true → list_all is_of_one_family sets ≡ true
+    → All IsFilled sets → All IsWellFormedSet sets
 all_sets [] apart one filled = All-nil IsWellFormedSet
 all_sets (set ∷ sets) apart one filled =
     let first = all_pairs-left is_apart set.ranges (ranges_of sets) apart in
@@ -65,7 +66,8 @@ pub record AreWellFormedSets (sets : List RangeSet) : Type 0 where
   pub each_set : All IsWellFormedSet sets
   pub apart : are_apart (ranges_of sets) ≡ true
 
-own_sets_of-ok : (own : Bool) (d : Data) (sets : List RangeSet) → own_sets_of own d ≡ Ok sets → (length sets ≡ one_if own) × All IsFilled sets
+own_sets_of-ok : (own : Bool) (d : Data) (sets : List RangeSet) → own_sets_of own d ≡ Ok sets
+    → (length sets ≡ one_if own) × All IsFilled sets
 own_sets_of-ok false d sets is = subst (λ (found : List RangeSet). (length found ≡ 0) × All IsFilled found) (ok_same is) (refl, All-nil IsFilled)
 own_sets_of-ok true d sets is =
     let read = goes (range_at d) _ sets is in
@@ -103,7 +105,8 @@ sets_at-ok d sets is =
 
 -- ---- routes
 
-network_or-ok : (o : Option CidrValue) (e : ConfError) (c : CidrValue) → ((v : CidrValue) → o ≡ Some v → IsCidr v) → ok_or (option_map network_of o) e ≡ Ok c → IsCidr c × (network_of c ≡ c)
+network_or-ok : (o : Option CidrValue) (e : ConfError) (c : CidrValue) → ((v : CidrValue) → o ≡ Some v → IsCidr v)
+    → ok_or (option_map network_of o) e ≡ Ok c → IsCidr c × (network_of c ≡ c)
 network_or-ok None e c kept is = cc
 network_or-ok (Some v) e c kept is =
     subst (λ n. IsCidr n × (network_of n ≡ n)) (ok_same is) (IsCidr-network_of v (kept v refl), network_of_network v)
@@ -127,7 +130,8 @@ route_at-ok d route is =
     subst IsWellFormedRoute (ok_same gw.rest)
     (record { is_cidr = kept.0; no_host_bits = kept.1; hop_is_addr = IfSome_then gw.value hop (λ a kept. kept.0); hop_family = IfSome_then gw.value hop (λ a kept. family_eq-true a.family dst.value.addr.family kept.1) })
 
-read_routes_of-ok : (f : Field Items) (routes : List RouteEntry) → read_routes_of f ≡ Ok routes → All IsWellFormedRoute routes
+read_routes_of-ok : (f : Field Items) (routes : List RouteEntry) → read_routes_of f ≡ Ok routes
+    → All IsWellFormedRoute routes
 read_routes_of-ok Absent routes is = subst (All IsWellFormedRoute) (ok_same is) (All-nil IsWellFormedRoute)
 read_routes_of-ok WrongKind routes is = cc
 read_routes_of-ok (Here ds) routes is = each_all route_at IsWellFormedRoute route_at-ok ds routes is

@@ -27,16 +27,19 @@ abbrev IsSettingOf : List ℕ → Sysctl → Type 0
 IsSettingOf key setting = (setting.key ≡ key) × IsNetworkSetting setting
 
 -- a test's outcome is one of two
-pub by_outcome : {A P : Type 0} (b : Bool) (x y : Result A ConfError) (z : Result A ConfError) → (if b then x else y) ≡ z → (b ≡ true → x ≡ z → P) → (b ≡ false → y ≡ z → P) → P
+pub by_outcome : {A P : Type 0} (b : Bool) (x y : Result A ConfError) (z : Result A ConfError)
+    → (if b then x else y) ≡ z → (b ≡ true → x ≡ z → P) → (b ≡ false → y ≡ z → P) → P
 by_outcome {A = A} {P = P} b x y z is first second = by_test (λ (r : Result A ConfError). r ≡ z → P) b x y first second is
 
-setting_or_refused-ok : (key value : List ℕ) (setting : Sysctl) → setting_or_refused key value ≡ Ok setting → IsSettingOf key setting
+setting_or_refused-ok : (key value : List ℕ) (setting : Sysctl) → setting_or_refused key value ≡ Ok setting
+    → IsSettingOf key setting
 setting_or_refused-ok key value setting is =
     by_outcome (not (is_network_setting key)) _ _ _ is (λ other same. cc)
     (λ net same. by_outcome (has_part (codes "IFNAME") key) _ _ _ same (λ name refused. cc)
     (λ plain read. subst (IsSettingOf key) (ok_same read) (refl, not-false (is_network_setting key) net)))
 
-read_setting_of-ok : (key : List ℕ) (d : Data) (setting : Sysctl) → read_setting_of key d ≡ Ok setting → IsSettingOf key setting
+read_setting_of-ok : (key : List ℕ) (d : Data) (setting : Sysctl) → read_setting_of key d ≡ Ok setting
+    → IsSettingOf key setting
 read_setting_of-ok key null setting is = cc
 read_setting_of-ok key (boolean b) setting is = cc
 read_setting_of-ok key (number n) setting is = cc
@@ -59,7 +62,8 @@ below_differs : (k l : List ℕ) → slice_cmp nat_cmp k l ≡ Less → Differs 
 below_differs k l below = sym (is_eq-slice_cmp k l) ∙ ap is_eq below
 
 -- a key below all members differs from the key of each setting
-below_settings : (k : List ℕ) (ms : Members) (settings : List Sysctl) → IsBelow k (keys ms) → settings_of ms ≡ Ok settings → AllByRecursion (Differs k) (setting_keys settings)
+below_settings : (k : List ℕ) (ms : Members) (settings : List Sysctl) → IsBelow k (keys ms)
+    → settings_of ms ≡ Ok settings → AllByRecursion (Differs k) (setting_keys settings)
 below_settings k no_members settings below is = subst (λ found. AllByRecursion (Differs k) (setting_keys found)) (ok_same is) tt
 below_settings k (member l d ms) settings below is =
     by_outcome (is_null d) _ _ _ is (λ null same. below_settings k ms settings below.1 same) (λ there same.
@@ -69,7 +73,8 @@ below_settings k (member l d ms) settings below is =
     let here : Differs k one.value.key = subst (Differs k) (sym key) (below_differs k l below.0) in
     subst (λ found. AllByRecursion (Differs k) (setting_keys found)) (ok_same more.rest) (here, below_settings k ms more.value below.1 more.first))
 
-settings_of-ok : (ms : Members) (settings : List Sysctl) → AreAscending ms → settings_of ms ≡ Ok settings → AreSettings settings
+settings_of-ok : (ms : Members) (settings : List Sysctl) → AreAscending ms → settings_of ms ≡ Ok settings
+    → AreSettings settings
 unfolding IsDistinct IsStrictlySortedBy
 settings_of-ok no_members settings order is = subst AreSettings (ok_same is) (record { network = All-nil IsNetworkSetting; once = tt })
 settings_of-ok (member k d ms) settings order is =
@@ -84,7 +89,8 @@ settings_of-ok (member k d ms) settings order is =
       once = (differs, others.once);
     }))
 
-sysctl_of-ok : (o : Option Data) (settings : List Sysctl) → ((d : Data) → o ≡ Some d → KeysAscend d) → sysctl_of o ≡ Ok settings → AreSettings settings
+sysctl_of-ok : (o : Option Data) (settings : List Sysctl) → ((d : Data) → o ≡ Some d → KeysAscend d)
+    → sysctl_of o ≡ Ok settings → AreSettings settings
 unfolding IsStrictlySortedBy
 sysctl_of-ok None settings order is = settings_of-ok no_members settings tt is
 sysctl_of-ok (Some null) settings order is = cc
@@ -100,7 +106,8 @@ sysctl_at-ok d settings order is = sysctl_of-ok (member_at (codes "sysctl") d) s
 
 -- ---- numbers
 
-mac_or-ok : (o : Option Mac) (e : ConfError) (found : Option Mac) → ForSome o IsMac → ok_or (option_map Some o) e ≡ Ok found → IfSome found IsMac
+mac_or-ok : (o : Option Mac) (e : ConfError) (found : Option Mac) → ForSome o IsMac
+    → ok_or (option_map Some o) e ≡ Ok found → IfSome found IsMac
 mac_or-ok None e found kept is = cc
 mac_or-ok (Some v) e found kept is = subst (λ o. IfSome o IsMac) (ok_same is) (kept v refl)
 
@@ -131,7 +138,8 @@ given_mtu_at-ok d found is = given_mtu_of-ok (u64_field (codes "mtu") d) found i
 abbrev HasWord : ℕ → Type 0
 HasWord n = has_32_bits n ≡ true
 
-queue_length_of-ok : (f : Field ℕ) (found : Option ℕ) → ((n : ℕ) → f ≡ Here n → HasWord n) → queue_length_of f ≡ Ok found → IfSome found HasWord
+queue_length_of-ok : (f : Field ℕ) (found : Option ℕ) → ((n : ℕ) → f ≡ Here n → HasWord n)
+    → queue_length_of f ≡ Ok found → IfSome found HasWord
 queue_length_of-ok Absent found fits is = subst (λ o. IfSome o HasWord) (ok_same is) tt
 queue_length_of-ok WrongKind found fits is = cc
 queue_length_of-ok (Here n) found fits is = subst (λ o. IfSome o HasWord) (ok_same is) (fits n refl)

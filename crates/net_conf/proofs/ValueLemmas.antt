@@ -14,21 +14,25 @@ empty_items [] = refl
 empty_items (x ∷ xs) = grind (arith, common_steps)
 
 -- each item of the data passes the test where each value does
-pub all_items-items_view : (test : Data → Bool) (xs : List Value) → all_items test (items_view xs) ≡ list_all (λ x. test (view x)) xs
+pub all_items-items_view : (test : Data → Bool) (xs : List Value)
+    → all_items test (items_view xs) ≡ list_all (λ x. test (view x)) xs
 all_items-items_view test [] = refl
 all_items-items_view test (x ∷ xs) = ap (λ b. test (view x) && b) (all_items-items_view test xs)
 
 -- a list of values, by its length
-pub is_set-some : (xs : List Value) → 1 ≤ length xs → is_set (array (items_view xs)) ≡ list_all (λ x. is_object (view x)) xs
+pub is_set-some : (xs : List Value) → 1 ≤ length xs
+    → is_set (array (items_view xs)) ≡ list_all (λ x. is_object (view x)) xs
 is_set-some [] some = absurd (omega arith)
 is_set-some (x ∷ xs) some = all_items-items_view is_object (x ∷ xs)
 
-pub later_plugins-some : (xs : List Value) → 1 ≤ length xs → later_plugins (items_view xs) ≡ each_after later_at [] (items_view (drop 1 xs))
+pub later_plugins-some : (xs : List Value) → 1 ≤ length xs
+    → later_plugins (items_view xs) ≡ each_after later_at [] (items_view (drop 1 xs))
 later_plugins-some [] some = absurd (omega arith)
 later_plugins-some (x ∷ xs) some = refl
 
 -- what is left of whole numbers
-pub items_have_float-rest : (xs : List Value) → items_have_float (items_view xs) ≡ false → items_have_float (items_view (drop 1 xs)) ≡ false
+pub items_have_float-rest : (xs : List Value) → items_have_float (items_view xs) ≡ false
+    → items_have_float (items_view (drop 1 xs)) ≡ false
 items_have_float-rest [] whole = refl
 items_have_float-rest (x ∷ xs) whole = (or_parts (has_float (view x)) _ whole).1
 

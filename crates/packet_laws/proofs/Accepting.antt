@@ -24,16 +24,20 @@ use Rattle.packet_laws.proofs.Ways.{one-moved}
 
 -- ---- an accepted packet has an attachment that lets it through
 
-has-firewall : (p : Plan) (att : Att) (t : Tag) (list : NetList) → t ≡ Own att → list_named p.lists att.network ≡ Some list → list_any is_firewall list.chained ≡ true → has_firewall p t ≡ true
+has-firewall : (p : Plan) (att : Att) (t : Tag) (list : NetList) → t ≡ Own att
+    → list_named p.lists att.network ≡ Some list → list_any is_firewall list.chained ≡ true → has_firewall p t ≡ true
 has-firewall p att t list tag listed is =
     ap (has_firewall p) tag ∙ ap (λ o. option_map_or (λ (l : NetList). list_any is_firewall l.chained) o false) listed ∙ is
 
-has-address : (cached : Cached) (ip : IpEntry) (addr : Addr) → IsAmong ip cached.result.ips → ip.address.addr ≡ addr → has_address cached addr ≡ true
+has-address : (cached : Cached) (ip : IpEntry) (addr : Addr) → IsAmong ip cached.result.ips → ip.address.addr ≡ addr
+    → has_address cached addr ≡ true
 has-address cached ip addr at is =
     among-any (addr_eq addr) ip.address.addr (addresses_of_result cached.result) (map-among (λ (i : IpEntry). i.address.addr) ip cached.result.ips at) (equal-addr addr ip.address.addr (sym is))
 
 -- the address of the rule is the packet's source, or its destination where it is established
-matched-address : (att : Att) (ip : IpEntry) (packet q : Packet) (r : Rule) → IsPacket q → IsOnItsWay packet q → matches_in chains.Forward q r ≡ true → (r ≡ accept_replies_to att ip.address.addr) ⊎ (r ≡ accept_from att ip.address.addr)
+matched-address : (att : Att) (ip : IpEntry) (packet q : Packet) (r : Rule) → IsPacket q → IsOnItsWay packet q
+    → matches_in chains.Forward q r ≡ true
+    → (r ≡ accept_replies_to att ip.address.addr) ⊎ (r ≡ accept_from att ip.address.addr)
     → (ip.address.addr ≡ packet.src) ⊎ ((packet.established ≡ true) × (ip.address.addr ≡ packet.dst))
 matched-address att ip packet q r one way is (inl replies) =
     let by = and_parts (addr_eq ip.address.addr q.dst) q.established (sym (replies-matches att ip.address.addr q) ∙ subst (λ x. matches_in chains.Forward q x ≡ true) replies is) in
@@ -42,12 +46,14 @@ matched-address att ip packet q r one way is (inl replies) =
 matched-address att ip packet q r one way is (inr from) =
     inl (addr-same ip.address.addr q.src (sym (from-matches att ip.address.addr q one) ∙ subst (λ x. matches_in chains.Forward q x ≡ true) from is) ∙ way.src)
 
-lets-by : (cached : Cached) (ip : IpEntry) (packet : Packet) → IsAmong ip cached.result.ips → (ip.address.addr ≡ packet.src) ⊎ ((packet.established ≡ true) × (ip.address.addr ≡ packet.dst))
+lets-by : (cached : Cached) (ip : IpEntry) (packet : Packet) → IsAmong ip cached.result.ips
+    → (ip.address.addr ≡ packet.src) ⊎ ((packet.established ≡ true) × (ip.address.addr ≡ packet.dst))
     → (has_address cached packet.src || (packet.established && has_address cached packet.dst)) ≡ true
 lets-by cached ip packet at (inl src) = or_left (has_address cached packet.src) _ (has-address cached ip packet.src at src)
 lets-by cached ip packet at (inr dst) = or_right (has_address cached packet.src) _ (and_from packet.established (has_address cached packet.dst) dst.0 (has-address cached ip packet.dst at dst.1))
 
-accepted-let : (p : Plan) (host : Host) → IsSettled p host → (packet q : Packet) → IsPacket q → IsOnItsWay packet q → any_match chains.Forward host.rules q ≡ true → list_any (lets_through p packet) host.cached ≡ true
+accepted-let : (p : Plan) (host : Host) → IsSettled p host → (packet q : Packet) → IsPacket q → IsOnItsWay packet q
+    → any_match chains.Forward host.rules q ≡ true → list_any (lets_through p packet) host.cached ≡ true
 accepted-let p host s packet q one way is =
     let found = any-among (matches_in chains.Forward q) host.rules is in
     let r = found.0 in
@@ -70,7 +76,8 @@ record HasFirewall (p : Plan) (t : Tag) : Type 0 where
   listed : list_named p.lists att.network ≡ Some list
   is : list_any is_firewall list.chained ≡ true
 
-firewall-listed : (p : Plan) (att : Att) (o : Option NetList) → list_named p.lists att.network ≡ o → option_map_or (λ (l : NetList). list_any is_firewall l.chained) o false ≡ true → HasFirewall p (Own att)
+firewall-listed : (p : Plan) (att : Att) (o : Option NetList) → list_named p.lists att.network ≡ o
+    → option_map_or (λ (l : NetList). list_any is_firewall l.chained) o false ≡ true → HasFirewall p (Own att)
 firewall-listed p att None listed is = cc
 firewall-listed p att (Some list) listed is = record { att = att; list = list; tag = refl; listed = listed; is = is }
 
@@ -80,7 +87,8 @@ firewall-of p Base is = cc
 firewall-of p (Own att) is = firewall-listed p att (list_named p.lists att.network) refl is
 
 -- an address of the cached result is one of its entries
-ip-of : (cached : Cached) (addr : Addr) → has_address cached addr ≡ true → (ip : IpEntry) × IsAmong ip cached.result.ips × (ip.address.addr ≡ addr)
+ip-of : (cached : Cached) (addr : Addr) → has_address cached addr ≡ true
+    → (ip : IpEntry) × IsAmong ip cached.result.ips × (ip.address.addr ≡ addr)
 ip-of cached addr is =
     let found = any-among (addr_eq addr) (addresses_of_result cached.result) is in
     let of = among-map (λ (i : IpEntry). i.address.addr) found.0 cached.result.ips found.1 in
@@ -91,7 +99,9 @@ either-let true e d h = inl refl
 either-let false e d h = inr (and_parts e d h)
 
 -- its rule, which is in the host
-let-rule : (p : Plan) (host : Host) → IsSettled p host → (packet q : Packet) → IsPacket q → IsOnItsWay packet q → (att : Att) (list : NetList) (cached : Cached) → IsAttached p host att list cached → list_any is_firewall list.chained ≡ true
+let-rule : (p : Plan) (host : Host) → IsSettled p host → (packet q : Packet) → IsPacket q → IsOnItsWay packet q
+    → (att : Att) (list : NetList) (cached : Cached) → IsAttached p host att list cached
+    → list_any is_firewall list.chained ≡ true
     → (has_address cached packet.src || (packet.established && has_address cached packet.dst)) ≡ true → any_match chains.Forward host.rules q ≡ true
 let-rule p host s packet q one way att list cached attached is lets =
     let mine = s.settled att list cached attached in
@@ -111,7 +121,8 @@ let-rule p host s packet q one way att list cached attached is lets =
           (replies-matches att ip.0.address.addr q ∙ and_from (addr_eq ip.0.address.addr q.dst) q.established is_dst (way.established ∙ dst.0))
     ]
 
-let-accepted : (p : Plan) (host : Host) → IsSettled p host → (packet q : Packet) → IsPacket q → IsOnItsWay packet q → list_any (lets_through p packet) host.cached ≡ true → any_match chains.Forward host.rules q ≡ true
+let-accepted : (p : Plan) (host : Host) → IsSettled p host → (packet q : Packet) → IsPacket q → IsOnItsWay packet q
+    → list_any (lets_through p packet) host.cached ≡ true → any_match chains.Forward host.rules q ≡ true
 let-accepted p host s packet q one way is =
     let found = any-among (lets_through p packet) host.cached is in
     let c = found.0 in
@@ -125,7 +136,8 @@ let-accepted p host s packet q one way is =
 
 -- ---- both
 
-pub accepted-as_cached : (p : Plan) (host : Host) → IsSettled p host → (packet : Packet) → IsPacket packet → (fate_of host packet).accepted ≡ list_any (lets_through p packet) host.cached
+pub accepted-as_cached : (p : Plan) (host : Host) → IsSettled p host → (packet : Packet) → IsPacket packet
+    → (fate_of host packet).accepted ≡ list_any (lets_through p packet) host.cached
 accepted-as_cached p host s packet one =
     let q = moved host.rules packet in
     let way = on_its_way host.rules packet in

@@ -29,7 +29,8 @@ use Rattle.packet_laws.proofs.WantedRules.{rules_by}
 
 -- ---- what is asked for is what the cached result wants
 
-are_in-among : {X : Type 0} (same : X → X → Bool) → ((x y : X) → same x y ≡ true → x ≡ y) → (objects all : List X) → are_in same objects all ≡ true → (x : X) → IsAmong x objects → IsAmong x all
+are_in-among : {X : Type 0} (same : X → X → Bool) → ((x y : X) → same x y ≡ true → x ≡ y) → (objects all : List X)
+    → are_in same objects all ≡ true → (x : X) → IsAmong x objects → IsAmong x all
 are_in-among same equal objects all is x at =
     let found = any-among (λ y. same y x) all (all-among (λ z. list_any (λ y. same y z) all) x objects is at) in
     subst (λ y. IsAmong y all) (equal found.0 x found.2) found.1
@@ -38,12 +39,15 @@ all_chained-ips : (cs : List Chained) (r : AddResult) → (all_chained_results c
 all_chained-ips [] r = refl
 all_chained-ips (c ∷ cs) r = all_chained-ips cs (chained_result c r) ∙ chained-ips c r
 
-added-ips : (list : NetList) (att : Att) (netns : List ℕ) (addrs : List Addr) → (result_of_add list att netns addrs).ips ≡ (first_plugin_result list att netns addrs).ips
+added-ips : (list : NetList) (att : Att) (netns : List ℕ) (addrs : List Addr)
+    → (result_of_add list att netns addrs).ips ≡ (first_plugin_result list att netns addrs).ips
 unfolding result_of_add
 added-ips list att netns addrs = all_chained-ips list.chained (first_plugin_result list att netns addrs)
 
 -- the rules of a cached result are those of its addresses
-wanted-rules : (list : NetList) (att : Att) (cached : Cached) → cached ≡ cached_of list att cached.netns cached.mappings (addresses_of_result cached.result) → (wanted_of list att cached).rules ≡ rules_for list att cached
+wanted-rules : (list : NetList) (att : Att) (cached : Cached)
+    → cached ≡ cached_of list att cached.netns cached.mappings (addresses_of_result cached.result)
+    → (wanted_of list att cached).rules ≡ rules_for list att cached
 wanted-rules list att cached entry =
     let addrs = addresses_of_result cached.result in
     let ips : (first_plugin_result list att cached.netns addrs).ips ≡ cached.result.ips = sym (ap (λ (x : Cached). x.result.ips) entry ∙ added-ips list att cached.netns addrs) in
@@ -55,28 +59,35 @@ handed : (b : Bool) (ms : List PortMapping) (m : PortMapping) → IsAmong m (if 
 handed true ms m at = refl
 handed false ms m at = absurd at
 
-takes-handed : (list : NetList) (c : Command) (m : PortMapping) → IsAmong m (mappings_of list c) → list_any takes_mappings list.chained ≡ true
+takes-handed : (list : NetList) (c : Command) (m : PortMapping) → IsAmong m (mappings_of list c)
+    → list_any takes_mappings list.chained ≡ true
 unfolding mappings_of
 takes-handed list c m at = handed (list_any takes_mappings list.chained) _ m at
 
-listed-named : (p : Plan) (c : Command) (list : NetList) → list_for p c ≡ Some list → list_named p.lists c.network ≡ Some list
+listed-named : (p : Plan) (c : Command) (list : NetList) → list_for p c ≡ Some list
+    → list_named p.lists c.network ≡ Some list
 unfolding list_for
 listed-named p c list is = if-listed (is_of_network c.verb) (list_named p.lists c.network) list is
 
 -- the list of the ADD is that of the attachment's network
-add-listed : (p : Plan) (h : List Entry) (att : Att) (cached : Cached) (r : IsResultOfItsAdd p h att cached) → list_named p.lists att.network ≡ Some r.add.list
+add-listed : (p : Plan) (h : List Entry) (att : Att) (cached : Cached) (r : IsResultOfItsAdd p h att cached)
+    → list_named p.lists att.network ≡ Some r.add.list
 add-listed p h att cached r = ap (λ (a : Att). list_named p.lists a.network) (sym r.add.attachment) ∙ listed-named p r.add.by.command r.add.list r.add.listed
 
-same-cached : (l m : NetList) (att : Att) (n o : List ℕ) (ms ns : List PortMapping) (g h : List Addr) → l ≡ m → n ≡ o → ms ≡ ns → g ≡ h → cached_of l att n ms g ≡ cached_of m att o ns h
+same-cached : (l m : NetList) (att : Att) (n o : List ℕ) (ms ns : List PortMapping) (g h : List Addr) → l ≡ m → n ≡ o
+    → ms ≡ ns → g ≡ h → cached_of l att n ms g ≡ cached_of m att o ns h
 same-cached l m att n o ms ns g h el en em eg = λ i. cached_of (el i) att (en i) (em i) (eg i)
 
-same-wanted : (l m : NetList) (a b : Att) (n o : List ℕ) (ms ns : List PortMapping) (g h : List Addr) → l ≡ m → a ≡ b → n ≡ o → ms ≡ ns → g ≡ h → wanted l a n ms g ≡ wanted m b o ns h
+same-wanted : (l m : NetList) (a b : Att) (n o : List ℕ) (ms ns : List PortMapping) (g h : List Addr) → l ≡ m → a ≡ b
+    → n ≡ o → ms ≡ ns → g ≡ h → wanted l a n ms g ≡ wanted m b o ns h
 same-wanted l m a b n o ms ns g h el ea en em eg = λ i. wanted (el i) (ea i) (en i) (em i) (eg i)
 
 one-object : (c d : CachedObj) → IsAmong c (d ∷ []) → c ≡ d
 one-object c d at = elim at [ inl e ↦ e | inr none ↦ absurd none ]
 
-settled-by : (p : Plan) (h : List Entry) (att : Att) (list : NetList) (cached : Cached) → IsComplete p (after p.pods.opening h) → IsAttached p (after p.pods.opening h) att list cached → IsResultOfItsAdd p h att cached → IsSettledFor (after p.pods.opening h) att list cached
+settled-by : (p : Plan) (h : List Entry) (att : Att) (list : NetList) (cached : Cached)
+    → IsComplete p (after p.pods.opening h) → IsAttached p (after p.pods.opening h) att list cached
+    → IsResultOfItsAdd p h att cached → IsSettledFor (after p.pods.opening h) att list cached
 settled-by p h att list cached complete attached r =
     let host = after p.pods.opening h in
     let c = r.add.by.command in
@@ -108,7 +119,8 @@ some-of (Some cached) is = (cached, refl)
 
 -- ---- every legal history
 
-pub settled : EveryLegalHistoryIsGuaranteed → (w : World) → Legal w → IsComplete w.plan (host_of w) → IsSettled w.plan (host_of w)
+pub settled : EveryLegalHistoryIsGuaranteed → (w : World) → Legal w → IsComplete w.plan (host_of w)
+    → IsSettled w.plan (host_of w)
 settled law w legal complete =
     let now : IsWellKept w.plan w.history = (law w legal).moments w.history [] (sym (append-nil w.history)) in
     record {

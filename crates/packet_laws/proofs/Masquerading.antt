@@ -34,17 +34,23 @@ use Rattle.packet_laws.proofs.Ways.{masqueraded-moved, moved, on_its_way, one-mo
 abbrev given_for : NetList → Cached → List Given
 given_for list cached = given_by_list list (addresses_of_result cached.result)
 
-given-addresses : CandidatesAreGiven → (host : Host) (att : Att) (list : NetList) (cached : Cached) → IsSettledFor host att list cached → map (λ (g : Given). g.address.addr) (given_for list cached) ≡ addresses_of_result cached.result
+given-addresses : CandidatesAreGiven → (host : Host) (att : Att) (list : NetList) (cached : Cached)
+    → IsSettledFor host att list cached
+    → map (λ (g : Given). g.address.addr) (given_for list cached) ≡ addresses_of_result cached.result
 given-addresses law host att list cached mine = law (sets_of list) (addresses_of_result cached.result) mine.leased
 
 -- each of them is leased
-given-leased : CandidatesAreGiven → (host : Host) (att : Att) (list : NetList) (cached : Cached) → IsSettledFor host att list cached → (g : Given) → IsAmong g (given_for list cached) → IsAmong (lease_of att g.address.addr) host.leases
+given-leased : CandidatesAreGiven → (host : Host) (att : Att) (list : NetList) (cached : Cached)
+    → IsSettledFor host att list cached → (g : Given) → IsAmong g (given_for list cached)
+    → IsAmong (lease_of att g.address.addr) host.leases
 given-leased law host att list cached mine g at =
     let addr = subst (IsAmong g.address.addr) (given-addresses law host att list cached mine) (map-among (λ (x : Given). x.address.addr) g (given_for list cached) at) in
     mine.leases_there (lease_of att g.address.addr) (map-among (lease_of att) g.address.addr (addresses_of_result cached.result) addr)
 
 -- and what the attachment leases is one of them
-leased-given : CandidatesAreGiven → (host : Host) (att : Att) (list : NetList) (cached : Cached) → IsSettledFor host att list cached → (addr : Addr) → IsAmong (lease_of att addr) host.leases → (g : Given) × IsAmong g (given_for list cached) × (g.address.addr ≡ addr)
+leased-given : CandidatesAreGiven → (host : Host) (att : Att) (list : NetList) (cached : Cached)
+    → IsSettledFor host att list cached → (addr : Addr) → IsAmong (lease_of att addr) host.leases
+    → (g : Given) × IsAmong g (given_for list cached) × (g.address.addr ≡ addr)
 leased-given law host att list cached mine addr at =
     let own = filter-among (λ (l : Lease). is_own att l.tag) (lease_of att addr) host.leases at (own-own att (Own att) refl) in
     let of = among-map (lease_of att) (lease_of att addr) (addresses_of_result cached.result) (among-part (lease_of att addr) (share_of att host).leases (map (lease_of att) (addresses_of_result cached.result)) mine.leases own) in
@@ -53,10 +59,12 @@ leased-given law host att list cached mine addr at =
     (g.0, g.1, sym g.2 ∙ sym (ap (λ (l : Lease). l.addr) of.2))
 
 -- the only lessee leases the address, and whoever leases it is the only lessee
-only-leases : (host : Host) (att : Att) (addr : Addr) → IsOnlyLessee host att addr → IsAmong (lease_of att addr) host.leases
+only-leases : (host : Host) (att : Att) (addr : Addr) → IsOnlyLessee host att addr
+    → IsAmong (lease_of att addr) host.leases
 only-leases host att addr only = (among-filter (λ (l : Lease). addr_eq l.addr addr) (lease_of att addr) host.leases (subst (IsAmong (lease_of att addr)) (sym only) (inl refl))).0
 
-leases-only : (host : Host) (att other : Att) (addr : Addr) → IsOnlyLessee host att addr → IsAmong (lease_of other addr) host.leases → Own other ≡ Own att
+leases-only : (host : Host) (att other : Att) (addr : Addr) → IsOnlyLessee host att addr
+    → IsAmong (lease_of other addr) host.leases → Own other ≡ Own att
 leases-only host att other addr only at =
     let there = subst (IsAmong (lease_of other addr)) only (filter-among (λ (l : Lease). addr_eq l.addr addr) (lease_of other addr) host.leases at (addr-itself addr)) in
     elim there [ inl e ↦ ap (λ (l : Lease). l.tag) e | inr none ↦ absurd none ]
@@ -66,7 +74,8 @@ leases-only host att other addr only at =
 in-chain : (p : Plan) (r : Rule) (q : Packet) → matches_in chains.Masq q r ≡ true → is_in chains.Masq r ≡ true
 in-chain p r q is = (and_parts (chain_eq r.chain chains.Masq) (matches q r) is).0
 
-masq-of : (p : Plan) (host : Host) → IsSettled p host → (r : Rule) (of : IsRuleOf p host r) → is_in chains.Masq r ≡ true → IsMasqRule of.att (given_for of.attached.list of.attached.cached) r
+masq-of : (p : Plan) (host : Host) → IsSettled p host → (r : Rule) (of : IsRuleOf p host r) → is_in chains.Masq r ≡ true
+    → IsMasqRule of.att (given_for of.attached.list of.attached.cached) r
 masq-of p host s r of chain =
     let a = of.attached in
     let given = given_for a.list a.cached in
@@ -74,11 +83,15 @@ masq-of p host s r of chain =
     (subst (IsAmong r) (masq-wanted (has_ip_masq a.list.first) of.att given a.cached.mappings a.cached.result.ips a.list.chained)
     (filter-among (is_in chains.Masq) r (rules_for a.list of.att a.cached) of.wanted chain))
 
-masq-from : (att : Att) (g : Given) (q : Packet) (r : Rule) → IsPacket q → (r ≡ no_masquerade_in_subnet att g) ⊎ (r ≡ masquerade_out att g) → matches_in chains.Masq q r ≡ true → g.address.addr ≡ q.src
+masq-from : (att : Att) (g : Given) (q : Packet) (r : Rule) → IsPacket q
+    → (r ≡ no_masquerade_in_subnet att g) ⊎ (r ≡ masquerade_out att g) → matches_in chains.Masq q r ≡ true
+    → g.address.addr ≡ q.src
 masq-from att g q r one (inl inner) is = inner-from att g q one (subst (λ x. matches_in chains.Masq q x ≡ true) inner is)
 masq-from att g q r one (inr outer) is = outer-from att g q one (subst (λ x. matches_in chains.Masq q x ≡ true) outer is)
 
-masq-own : CandidatesAreGiven → (p : Plan) (host : Host) → IsSettled p host → (att : Att) (q : Packet) → IsPacket q → IsOnlyLessee host att q.src → (r : Rule) → IsAmong r host.rules → matches_in chains.Masq q r ≡ true → is_own att r.tag ≡ true
+masq-own : CandidatesAreGiven → (p : Plan) (host : Host) → IsSettled p host → (att : Att) (q : Packet) → IsPacket q
+    → IsOnlyLessee host att q.src → (r : Rule) → IsAmong r host.rules → matches_in chains.Masq q r ≡ true
+    → is_own att r.tag ≡ true
 masq-own law p host s att q one only r at is =
     let of = rule-of p host s r at in
     let a = of.attached in
@@ -90,7 +103,8 @@ masq-own law p host s att q one only r at is =
 
 -- ---- the rules of Masq of an attachment are those that are wanted, in order
 
-masq-tag : (att : Att) (g : Given) (r : Rule) → (r ≡ no_masquerade_in_subnet att g) ⊎ (r ≡ masquerade_out att g) → r.tag ≡ Own att
+masq-tag : (att : Att) (g : Given) (r : Rule) → (r ≡ no_masquerade_in_subnet att g) ⊎ (r ≡ masquerade_out att g)
+    → r.tag ≡ Own att
 masq-tag att g r (inl inner) = ap (λ (x : Rule). x.tag) inner
 masq-tag att g r (inr outer) = ap (λ (x : Rule). x.tag) outer
 
@@ -98,7 +112,8 @@ masq-apart : (ip_masq : Bool) (att : Att) (gs : List Given) → distinct rule_eq
 masq-apart true att gs = rules_once.apart (flat_map (masquerade_of att) gs)
 masq-apart false att gs = refl
 
-own-masq : (p : Plan) (host : Host) (att : Att) (list : NetList) (cached : Cached) → IsSettledFor host att list cached → filter (is_in chains.Masq) (share_of att host).rules ≡ masquerade_rules (has_ip_masq list.first) att (given_for list cached)
+own-masq : (p : Plan) (host : Host) (att : Att) (list : NetList) (cached : Cached) → IsSettledFor host att list cached
+    → filter (is_in chains.Masq) (share_of att host).rules ≡ masquerade_rules (has_ip_masq list.first) att (given_for list cached)
 own-masq p host att list cached mine =
     let gs = given_for list cached in
     let all = masquerade_rules (has_ip_masq list.first) att gs in
@@ -113,7 +128,9 @@ own-masq p host att list cached mine =
     (filter-among (λ (x : Rule). is_own att x.tag) r host.rules (mine.rules_there r wanted.0) (own-own att r.tag (masq-tag att by.one r by.is))) wanted.1)
 
 -- so the first that matches is found there
-found-masq : CandidatesAreGiven → (p : Plan) (host : Host) → IsSettled p host → (att : Att) (list : NetList) (cached : Cached) → IsAttached p host att list cached → (q : Packet) → IsPacket q → IsOnlyLessee host att q.src
+found-masq : CandidatesAreGiven → (p : Plan) (host : Host) → IsSettled p host
+    → (att : Att) (list : NetList) (cached : Cached) → IsAttached p host att list cached → (q : Packet) → IsPacket q
+    → IsOnlyLessee host att q.src
     → first_match chains.Masq host.rules q ≡ find (matches_in chains.Masq q) (masquerade_rules (has_ip_masq list.first) att (given_for list cached))
 found-masq law p host s att list cached attached q one only =
     let own = (share_of att host).rules in
@@ -128,12 +145,14 @@ masq-alone true h m new none = cc
 masq-alone false true m new none = cc
 masq-alone false false m new none = refl
 
-source-there : (q : Packet) (gs : List Given) (g : Given) → IsAmong g gs → g.address.addr ≡ q.src → (one : Given) × (source_in q gs ≡ Some one)
+source-there : (q : Packet) (gs : List Given) (g : Given) → IsAmong g gs → g.address.addr ≡ q.src
+    → (one : Given) × (source_in q gs ≡ Some one)
 source-there q gs g at is =
     any-found (λ (x : Given). addr_eq x.address.addr q.src) gs (among-any (λ (x : Given). addr_eq x.address.addr q.src) g gs at (ap (addr_eq g.address.addr) (sym is) ∙ addr-itself g.address.addr))
 
 -- of a packet that is this one on its way, and that no rule of a published port masquerades
-lessee-fate : CandidatesAreGiven → (p : Plan) (host : Host) → IsSettled p host → (packet q : Packet) (fate : Fate) → IsPacket q → IsOnItsWay packet q → q.established ≡ false → (att : Att) → IsOnlyLessee host att packet.src
+lessee-fate : CandidatesAreGiven → (p : Plan) (host : Host) → IsSettled p host → (packet q : Packet) (fate : Fate)
+    → IsPacket q → IsOnItsWay packet q → q.established ≡ false → (att : Att) → IsOnlyLessee host att packet.src
     → any_match chains.HostMasq host.rules q ≡ false → fate.masqueraded ≡ is_masqueraded host.rules q → fate.dst ≡ q.dst → IsMasqueradedAsListed p host att packet.src fate
 lessee-fate law p host s packet q fate one way new att lone none fate_is dst_is =
     let only : IsOnlyLessee host att q.src = subst (IsOnlyLessee host att) (sym way.src) lone in
@@ -156,7 +175,8 @@ lessee-fate law p host s packet q fate one way new att lone none fate_is dst_is 
       exactly = said ∙ listed ∙ ap (λ d. ip_masq && is_outward source.0 d) (sym dst_is);
     }
 
-pub masqueraded-as_listed : CandidatesAreGiven → (p : Plan) (host : Host) → IsSettled p host → (packet : Packet) → IsPacket packet → packet.established ≡ false → (att : Att) → IsOnlyLessee host att packet.src
+pub masqueraded-as_listed : CandidatesAreGiven → (p : Plan) (host : Host) → IsSettled p host → (packet : Packet)
+    → IsPacket packet → packet.established ≡ false → (att : Att) → IsOnlyLessee host att packet.src
     → any_match chains.HostMasq host.rules (moved host.rules packet) ≡ false → IsMasqueradedAsListed p host att packet.src (fate_of host packet)
 masqueraded-as_listed law p host s packet one new att lone none =
     let way = on_its_way host.rules packet in

@@ -49,7 +49,8 @@ to-host q (Some ip) l p n =
     published_alone (is_of_family q.dst.family (whole ip)) l (contains (whole ip) q.dst) p n ∙ ap (λ b. l && (b && (p && n))) (whole-part ip q.dst q.dst.family refl)
 
 -- the packets of the mapping, in the family of the address that it leads to
-pub dnat-matches : (att : Att) (m : PortMapping) (a : Addr) (q : Packet) → matches_in chains.Dnat q (dnat_of att m a) ≡ (family_eq a.family q.dst.family && is_for q m)
+pub dnat-matches : (att : Att) (m : PortMapping) (a : Addr) (q : Packet)
+    → matches_in chains.Dnat q (dnat_of att m a) ≡ (family_eq a.family q.dst.family && is_for q m)
 dnat-matches att m a q = to-host q m.host_ip (family_eq a.family q.dst.family) (proto_eq q.protocol m.protocol) (nat_eq q.dport m.host_port)
 
 -- ---- what is let through
@@ -60,7 +61,8 @@ from_alone true false = refl
 from_alone false c = refl
 
 -- what comes from the address
-pub from-matches : (att : Att) (a : Addr) (q : Packet) → IsPacket q → matches_in chains.Forward q (accept_from att a) ≡ addr_eq a q.src
+pub from-matches : (att : Att) (a : Addr) (q : Packet) → IsPacket q
+    → matches_in chains.Forward q (accept_from att a) ≡ addr_eq a q.src
 from-matches att a q one = from_alone (is_of_family q.dst.family (whole a)) (contains (whole a) q.src) ∙ whole-part a q.src q.dst.family one.family
 
 replies_alone : (f c e : Bool) → ((f && true) && (c && e)) ≡ ((f && c) && e)
@@ -68,7 +70,8 @@ replies_alone true c e = refl
 replies_alone false c e = refl
 
 -- what goes to it where its connection stands
-pub replies-matches : (att : Att) (a : Addr) (q : Packet) → matches_in chains.Forward q (accept_replies_to att a) ≡ (addr_eq a q.dst && q.established)
+pub replies-matches : (att : Att) (a : Addr) (q : Packet)
+    → matches_in chains.Forward q (accept_replies_to att a) ≡ (addr_eq a q.dst && q.established)
 replies-matches att a q =
     replies_alone (is_of_family q.dst.family (whole a)) (contains (whole a) q.dst) q.established ∙ ap (λ b. b && q.established) (whole-part a q.dst q.dst.family refl)
 
@@ -83,7 +86,8 @@ both_alone true false false d = refl
 both_alone false g c d = refl
 
 -- what comes from the address and goes into its subnet
-pub inner-matches : (att : Att) (g : Given) (q : Packet) → IsPacket q → matches_in chains.Masq q (no_masquerade_in_subnet att g) ≡ (addr_eq g.address.addr q.src && contains g.subnet q.dst)
+pub inner-matches : (att : Att) (g : Given) (q : Packet) → IsPacket q
+    → matches_in chains.Masq q (no_masquerade_in_subnet att g) ≡ (addr_eq g.address.addr q.src && contains g.subnet q.dst)
 inner-matches att g q one =
     both_alone (is_of_family q.dst.family (whole g.address.addr)) (is_of_family q.dst.family g.subnet) (contains (whole g.address.addr) q.src) (contains g.subnet q.dst)
     ∙ ap₂ (λ b c. b && c) (whole-part g.address.addr q.src q.dst.family one.family) (network-part g.subnet q.dst q.dst.family refl)
@@ -97,7 +101,8 @@ of_source : (s f d : Bool) → (s ≡ true → f ≡ true) → (s && (f && d)) �
 of_source true f d w = ap (λ b. b && d) (w refl)
 of_source false f d w = refl
 
-pub outer-matches : (att : Att) (g : Given) (q : Packet) → IsPacket q → matches_in chains.Masq q (masquerade_out att g) ≡ (addr_eq g.address.addr q.src && not (contains (multicast g.address.addr.family) q.dst))
+pub outer-matches : (att : Att) (g : Given) (q : Packet) → IsPacket q
+    → matches_in chains.Masq q (masquerade_out att g) ≡ (addr_eq g.address.addr q.src && not (contains (multicast g.address.addr.family) q.dst))
 outer-matches att g q one =
     let many = multicast g.address.addr.family in
     both_alone (is_of_family q.dst.family (whole g.address.addr)) (is_of_family q.dst.family many) (contains (whole g.address.addr) q.src) (not (contains many q.dst))

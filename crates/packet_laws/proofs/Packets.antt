@@ -8,7 +8,8 @@ use Rattle.packet_laws.specs.Packets.{EveryPacketGoesAsCached, GoesAsCached}
 use Rattle.packet_laws.proofs.{Accepting.accepted-as_cached, LegalHosts.settled, Masquerading.masqueraded-as_listed}
 use Rattle.packet_laws.proofs.{Rewriting.rewritten-as_published, Settled.IsSettled}
 
-goes : CandidatesAreGiven → (p : Plan) (host : Host) → IsSettled p host → (packet : Packet) → IsPacket packet → GoesAsCached p host packet
+goes : CandidatesAreGiven → (p : Plan) (host : Host) → IsSettled p host → (packet : Packet) → IsPacket packet
+    → GoesAsCached p host packet
 goes law p host s packet one = record {
   rewritten = rewritten-as_published p host s packet;
   masqueraded = masqueraded-as_listed law p host s packet one;

@@ -23,10 +23,12 @@ use Rattle.packet_laws.proofs.WantedRules.{dnat-wanted, wanted-dnat}
 -- ---- the first address of a family
 
 -- it is of the family
-first-family : (f : Family) (ips : List IpEntry) (ip : IpEntry) → first_of_family f ips ≡ Some ip → ip.address.addr.family ≡ f
+first-family : (f : Family) (ips : List IpEntry) (ip : IpEntry) → first_of_family f ips ≡ Some ip
+    → ip.address.addr.family ≡ f
 first-family f ips ip is = family_eq-true ip.address.addr.family f (first-found (λ (i : IpEntry). is_of_family f i.address) ips ip is).passes
 
-ip-at : (o : Option IpEntry) (addr : Addr) → option_map (λ (i : IpEntry). i.address.addr) o ≡ Some addr → (ip : IpEntry) × (o ≡ Some ip) × (ip.address.addr ≡ addr)
+ip-at : (o : Option IpEntry) (addr : Addr) → option_map (λ (i : IpEntry). i.address.addr) o ≡ Some addr
+    → (ip : IpEntry) × (o ≡ Some ip) × (ip.address.addr ≡ addr)
 ip-at None addr is = absurd (none-some addr is)
 ip-at (Some ip) addr is = (ip, refl, same_Some ip.address.addr addr is)
 
@@ -37,7 +39,8 @@ record HasPublished (p : Plan) (host : Host) (packet : Packet) (r : Rule) : Type
   published : IsPublished p host packet port
   rule : r ≡ rule_by port
 
-matched-published : (p : Plan) (host : Host) → IsSettled p host → (packet : Packet) (r : Rule) → IsAmong r host.rules → matches_in chains.Dnat packet r ≡ true → HasPublished p host packet r
+matched-published : (p : Plan) (host : Host) → IsSettled p host → (packet : Packet) (r : Rule) → IsAmong r host.rules
+    → matches_in chains.Dnat packet r ≡ true → HasPublished p host packet r
 matched-published p host s packet r at is =
     let of = rule-of p host s r at in
     let a = of.attached in
@@ -63,23 +66,27 @@ matched-published p host s packet r at is =
 -- ---- and the rule of a published port is there, and matches
 
 -- a mapping for the packet asks for no address of another family
-allowed-by : (packet : Packet) (o : Option Addr) (addr : Addr) → asks (λ ip. addr_eq ip packet.dst) o ≡ true → addr.family ≡ packet.dst.family → host_ip_allows o addr ≡ true
+allowed-by : (packet : Packet) (o : Option Addr) (addr : Addr) → asks (λ ip. addr_eq ip packet.dst) o ≡ true
+    → addr.family ≡ packet.dst.family → host_ip_allows o addr ≡ true
 allowed-by packet None addr fits family = refl
 allowed-by packet (Some ip) addr fits family =
     let same : ip.family ≡ addr.family = ap (λ (x : Addr). x.family) (addr-same ip packet.dst fits) ∙ sym family in
     ap (λ f. family_eq f addr.family) same ∙ family-itself addr.family
 
-published-family : (p : Plan) (host : Host) (packet : Packet) (port : PublishedPort) → IsPublished p host packet port → port.addr.family ≡ packet.dst.family
+published-family : (p : Plan) (host : Host) (packet : Packet) (port : PublishedPort) → IsPublished p host packet port
+    → port.addr.family ≡ packet.dst.family
 published-family p host packet port b =
     let ip = ip-at (first_of_family packet.dst.family b.cached.result.ips) port.addr b.first in
     ap (λ (x : Addr). x.family) (sym ip.2) ∙ first-family packet.dst.family b.cached.result.ips ip.0 ip.1
 
-published-matches : (p : Plan) (host : Host) (packet : Packet) (port : PublishedPort) → IsPublished p host packet port → matches_in chains.Dnat packet (rule_by port) ≡ true
+published-matches : (p : Plan) (host : Host) (packet : Packet) (port : PublishedPort) → IsPublished p host packet port
+    → matches_in chains.Dnat packet (rule_by port) ≡ true
 published-matches p host packet port b =
     let family : family_eq port.addr.family packet.dst.family ≡ true = ap (λ f. family_eq f packet.dst.family) (published-family p host packet port b) ∙ family-itself packet.dst.family in
     dnat-matches port.att port.mapping port.addr packet ∙ and_from (family_eq port.addr.family packet.dst.family) (is_for packet port.mapping) family b.fits
 
-published-there : (p : Plan) (host : Host) → IsSettled p host → (packet : Packet) (port : PublishedPort) → IsPublished p host packet port → IsAmong (rule_by port) host.rules
+published-there : (p : Plan) (host : Host) → IsSettled p host → (packet : Packet) (port : PublishedPort)
+    → IsPublished p host packet port → IsAmong (rule_by port) host.rules
 published-there p host s packet port b =
     let ip = ip-at (first_of_family packet.dst.family b.cached.result.ips) port.addr b.first in
     let family : ip.0.address.addr.family ≡ packet.dst.family = first-family packet.dst.family b.cached.result.ips ip.0 ip.1 in
@@ -90,7 +97,8 @@ published-there p host s packet port b =
 
 -- ---- the fate of a packet that isn't established
 
-fate-new : (rules : List Rule) (packet : Packet) (b : Bool) (o : Option Rule) → b ≡ false → option_map_or (fate_at rules true) (if b then None else option_and_then (sent_by packet) o) (fate_at rules false packet) ≡ option_map_or (fate_at rules true) (option_and_then (sent_by packet) o) (fate_at rules false packet)
+fate-new : (rules : List Rule) (packet : Packet) (b : Bool) (o : Option Rule) → b ≡ false
+    → option_map_or (fate_at rules true) (if b then None else option_and_then (sent_by packet) o) (fate_at rules false packet) ≡ option_map_or (fate_at rules true) (option_and_then (sent_by packet) o) (fate_at rules false packet)
 fate-new rules packet true o new = cc
 fate-new rules packet false o new = refl
 
@@ -98,10 +106,12 @@ fate-new rules packet false o new = refl
 abbrev fate_found : Host → Packet → Option Rule → Fate
 fate_found host packet o = option_map_or (fate_at host.rules true) (option_and_then (sent_by packet) o) (fate_at host.rules false packet)
 
-fate-found : (host : Host) (packet : Packet) → packet.established ≡ false → fate_of host packet ≡ fate_found host packet (first_match chains.Dnat host.rules packet)
+fate-found : (host : Host) (packet : Packet) → packet.established ≡ false
+    → fate_of host packet ≡ fate_found host packet (first_match chains.Dnat host.rules packet)
 fate-found host packet new = fate-new host.rules packet packet.established (first_match chains.Dnat host.rules packet) new
 
-rewritten-by : (p : Plan) (host : Host) → IsSettled p host → (packet : Packet) (o : Option Rule) → first_match chains.Dnat host.rules packet ≡ o → IsRewrittenAsPublished p host packet (fate_found host packet o)
+rewritten-by : (p : Plan) (host : Host) → IsSettled p host → (packet : Packet) (o : Option Rule)
+    → first_match chains.Dnat host.rules packet ≡ o → IsRewrittenAsPublished p host packet (fate_found host packet o)
 rewritten-by p host s packet None none =
     left (λ port b.
     let found = any-found (matches_in chains.Dnat packet) host.rules (among-any (matches_in chains.Dnat packet) (rule_by port) host.rules (published-there p host s packet port b) (published-matches p host packet port b)) in
@@ -119,6 +129,7 @@ rewritten-by p host s packet (Some r) is =
           both_ways (list_any (matches_in chains.Dnat packet) first.before) first.none_before (among-any (matches_in chains.Dnat packet) (rule_by other) first.before at (published-matches p host packet other b));
     }) refl refl refl)
 
-pub rewritten-as_published : (p : Plan) (host : Host) → IsSettled p host → (packet : Packet) → packet.established ≡ false → IsRewrittenAsPublished p host packet (fate_of host packet)
+pub rewritten-as_published : (p : Plan) (host : Host) → IsSettled p host → (packet : Packet)
+    → packet.established ≡ false → IsRewrittenAsPublished p host packet (fate_of host packet)
 rewritten-as_published p host s packet new =
     subst (IsRewrittenAsPublished p host packet) (sym (fate-found host packet new)) (rewritten-by p host s packet (first_match chains.Dnat host.rules packet) refl)

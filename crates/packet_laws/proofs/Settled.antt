@@ -66,13 +66,16 @@ pub record IsRuleOf (p : Plan) (host : Host) (r : Rule) : Type 0 where
   pub attached : Attached p host att
   pub wanted : IsAmong r (rules_for attached.list att attached.cached)
 
-some_rule-objects : (host : Host) (att : Att) → list_any (λ r. is_own att r.tag) host.rules ≡ true → has_objects host att ≡ true
+some_rule-objects : (host : Host) (att : Att) → list_any (λ r. is_own att r.tag) host.rules ≡ true
+    → has_objects host att ≡ true
 some_rule-objects host att is = grind (arith, is)
 
-some_lease-objects : (host : Host) (att : Att) → list_any (λ l. is_own att l.tag) host.leases ≡ true → has_objects host att ≡ true
+some_lease-objects : (host : Host) (att : Att) → list_any (λ l. is_own att l.tag) host.leases ≡ true
+    → has_objects host att ≡ true
 some_lease-objects host att is = grind (arith, is)
 
-some_cached-objects : (host : Host) (att : Att) → list_any (λ c. is_own att c.tag) host.cached ≡ true → has_objects host att ≡ true
+some_cached-objects : (host : Host) (att : Att) → list_any (λ c. is_own att c.tag) host.cached ≡ true
+    → has_objects host att ≡ true
 some_cached-objects host att is = grind (arith, is)
 
 pub rule-of : (p : Plan) (host : Host) → IsSettled p host → (r : Rule) → IsAmong r host.rules → IsRuleOf p host r
@@ -87,14 +90,18 @@ rule-of p host s r at =
       wanted = among-part r (share_of own.0 host).rules (rules_for a.list own.0 a.cached) (s.settled own.0 a.list a.cached a.is).rules (filter-among (λ (x : Rule). is_own own.0 x.tag) r host.rules at mine);
     }
 
-pub lessee : (p : Plan) (host : Host) → IsSettled p host → (att : Att) (l : Lease) → IsAmong l host.leases → l.tag ≡ Own att → Attached p host att
+pub lessee : (p : Plan) (host : Host) → IsSettled p host → (att : Att) (l : Lease) → IsAmong l host.leases
+    → l.tag ≡ Own att → Attached p host att
 lessee p host s att l at tag = s.attached att (some_lease-objects host att (among-any (λ (x : Lease). is_own att x.tag) l host.leases at (own-own att l.tag tag)))
 
-pub keeper : (p : Plan) (host : Host) → IsSettled p host → (att : Att) (c : CachedObj) → IsAmong c host.cached → c.tag ≡ Own att → Attached p host att
+pub keeper : (p : Plan) (host : Host) → IsSettled p host → (att : Att) (c : CachedObj) → IsAmong c host.cached
+    → c.tag ≡ Own att → Attached p host att
 keeper p host s att c at tag = s.attached att (some_cached-objects host att (among-any (λ (x : CachedObj). is_own att x.tag) c host.cached at (own-own att c.tag tag)))
 
 -- the cached object of an attachment
-found-object : (cs : List CachedObj) (p : CachedObj → Bool) (cached : Cached) → option_map (λ (c : CachedObj). c.cached) (find p cs) ≡ Some cached → (c : CachedObj) × IsAmong c cs × (p c ≡ true) × (c.cached ≡ cached)
+found-object : (cs : List CachedObj) (p : CachedObj → Bool) (cached : Cached)
+    → option_map (λ (c : CachedObj). c.cached) (find p cs) ≡ Some cached
+    → (c : CachedObj) × IsAmong c cs × (p c ≡ true) × (c.cached ≡ cached)
 found-object [] p cached is = absurd (none-some cached is)
 found-object (c ∷ cs) p cached is = found-step (p c) c cs p cached refl is (λ later. found-object cs p cached later)
   where
@@ -103,5 +110,6 @@ found-object (c ∷ cs) p cached is = found-step (p c) c cs p cached refl is (λ
     found-step true c cs p cached test is rest = (c, inl refl, test, same_Some c.cached cached is)
     found-step false c cs p cached test is rest = let r = rest is in (r.0, inr r.1, r.2, r.3)
 
-pub cached-object : (host : Host) (att : Att) (cached : Cached) → cached_in host att ≡ Some cached → (c : CachedObj) × IsAmong c host.cached × (c.tag ≡ Own att) × (c.cached ≡ cached)
+pub cached-object : (host : Host) (att : Att) (cached : Cached) → cached_in host att ≡ Some cached
+    → (c : CachedObj) × IsAmong c host.cached × (c.tag ≡ Own att) × (c.cached ≡ cached)
 cached-object host att cached is = let found = found-object host.cached (λ c. is_own att c.tag) cached is in (found.0, found.1, own-tag att found.0.tag found.2, found.3)

@@ -31,7 +31,8 @@ chained_rules att mappings ips chained = flat_map (λ c. rules_of c att mappings
 abbrev pub rules_by : Bool → Att → List Given → List PortMapping → List IpEntry → List Chained → List Rule
 rules_by ip_masq att given mappings ips chained = masquerade_rules ip_masq att given ++ chained_rules att mappings ips chained
 
-pub first-rules : (first : First) (att : Att) (given : List Given) → (plugin_of first).rules att given ≡ masquerade_rules (has_ip_masq first) att given
+pub first-rules : (first : First) (att : Att) (given : List Given)
+    → (plugin_of first).rules att given ≡ masquerade_rules (has_ip_masq first) att given
 unfolding plugin_of
 first-rules (Bridge conf) att given = refl
 first-rules (Ptp conf) att given = refl
@@ -43,14 +44,16 @@ apart chain other r is differ = ap (λ c. chain_eq c other) is ∙ differ
 
 -- ---- published ports
 
-dnat-of : (c : Chained) (att : Att) (mappings : List PortMapping) (ips : List IpEntry) (r : Rule) → IsAmong r (rules_of c att mappings ips) → r.chain ≡ chains.Dnat → IsDnatRule att mappings ips r
+dnat-of : (c : Chained) (att : Att) (mappings : List PortMapping) (ips : List IpEntry) (r : Rule)
+    → IsAmong r (rules_of c att mappings ips) → r.chain ≡ chains.Dnat → IsDnatRule att mappings ips r
 unfolding chained_plugin_of
 dnat-of (Portmap conf) att mappings ips r at chain = dnat-rule conf att mappings ips r at chain
 dnat-of (Firewall conf) att mappings ips r at chain =
     absurd (both_ways (is_in chains.Forward r) (apart chains.Dnat chains.Forward r chain refl) (all-among (is_in chains.Forward) r (firewall_rules att ips) (firewall-chains att ips) at))
 dnat-of (Tuning conf) att mappings ips r at chain = absurd at
 
-pub dnat-wanted : (ip_masq : Bool) (att : Att) (given : List Given) (mappings : List PortMapping) (ips : List IpEntry) (chained : List Chained) (r : Rule) → IsAmong r (rules_by ip_masq att given mappings ips chained) → r.chain ≡ chains.Dnat
+pub dnat-wanted : (ip_masq : Bool) (att : Att) (given : List Given) (mappings : List PortMapping) (ips : List IpEntry) (chained : List Chained) (r : Rule)
+    → IsAmong r (rules_by ip_masq att given mappings ips chained) → r.chain ≡ chains.Dnat
     → IsDnatRule att mappings ips r
 dnat-wanted ip_masq att given mappings ips chained r at chain = elim (among-either r (masquerade_rules ip_masq att given) (chained_rules att mappings ips chained) at) [
   | inl first ↦
@@ -58,14 +61,16 @@ dnat-wanted ip_masq att given mappings ips chained r at chain = elim (among-eith
   | inr later ↦ (let of = among-flat (λ c. rules_of c att mappings ips) r chained later in dnat-of of.0 att mappings ips r of.2 chain)
 ]
 
-portmap-there : (c : Chained) (att : Att) (mappings : List PortMapping) (ips : List IpEntry) (m : PortMapping) (f : Family) (ip : IpEntry) → takes_mappings c ≡ true → IsAmong m mappings → first_of_family f ips ≡ Some ip
+portmap-there : (c : Chained) (att : Att) (mappings : List PortMapping) (ips : List IpEntry) (m : PortMapping) (f : Family) (ip : IpEntry)
+    → takes_mappings c ≡ true → IsAmong m mappings → first_of_family f ips ≡ Some ip
     → host_ip_allows m.host_ip ip.address.addr ≡ true → IsAmong (dnat_of att m ip.address.addr) (rules_of c att mappings ips)
 unfolding chained_plugin_of
 portmap-there (Portmap conf) att mappings ips m f ip takes mapped first allows = dnat-there conf att mappings ips m f ip mapped first allows
 portmap-there (Firewall conf) att mappings ips m f ip takes mapped first allows = cc
 portmap-there (Tuning conf) att mappings ips m f ip takes mapped first allows = cc
 
-pub wanted-dnat : (ip_masq : Bool) (att : Att) (given : List Given) (mappings : List PortMapping) (ips : List IpEntry) (chained : List Chained) (m : PortMapping) (f : Family) (ip : IpEntry) → list_any takes_mappings chained ≡ true
+pub wanted-dnat : (ip_masq : Bool) (att : Att) (given : List Given) (mappings : List PortMapping) (ips : List IpEntry) (chained : List Chained) (m : PortMapping) (f : Family) (ip : IpEntry)
+    → list_any takes_mappings chained ≡ true
     → IsAmong m mappings → first_of_family f ips ≡ Some ip → host_ip_allows m.host_ip ip.address.addr ≡ true → IsAmong (dnat_of att m ip.address.addr) (rules_by ip_masq att given mappings ips chained)
 wanted-dnat ip_masq att given mappings ips chained m f ip takes mapped first allows =
     let by = any-among takes_mappings chained takes in
@@ -74,14 +79,17 @@ wanted-dnat ip_masq att given mappings ips chained m f ip takes mapped first all
 
 -- ---- what is let through
 
-forward-of : (c : Chained) (att : Att) (mappings : List PortMapping) (ips : List IpEntry) (r : Rule) → IsAmong r (rules_of c att mappings ips) → r.chain ≡ chains.Forward → (is_firewall c ≡ true) × IsForwardRule att ips r
+forward-of : (c : Chained) (att : Att) (mappings : List PortMapping) (ips : List IpEntry) (r : Rule)
+    → IsAmong r (rules_of c att mappings ips) → r.chain ≡ chains.Forward
+    → (is_firewall c ≡ true) × IsForwardRule att ips r
 unfolding chained_plugin_of
 forward-of (Portmap conf) att mappings ips r at chain =
     absurd (both_ways (is_of_port r) (ap₂ (λ x y. x || y) (apart chains.Forward chains.Dnat r chain refl) (apart chains.Forward chains.HostMasq r chain refl)) (all-among is_of_port r (portmap_rules conf att mappings ips) (portmap-chains conf att mappings ips) at))
 forward-of (Firewall conf) att mappings ips r at chain = (refl, forward-rule att ips r at)
 forward-of (Tuning conf) att mappings ips r at chain = absurd at
 
-pub forward-wanted : (ip_masq : Bool) (att : Att) (given : List Given) (mappings : List PortMapping) (ips : List IpEntry) (chained : List Chained) (r : Rule) → IsAmong r (rules_by ip_masq att given mappings ips chained) → r.chain ≡ chains.Forward
+pub forward-wanted : (ip_masq : Bool) (att : Att) (given : List Given) (mappings : List PortMapping) (ips : List IpEntry) (chained : List Chained) (r : Rule)
+    → IsAmong r (rules_by ip_masq att given mappings ips chained) → r.chain ≡ chains.Forward
     → (list_any is_firewall chained ≡ true) × IsForwardRule att ips r
 forward-wanted ip_masq att given mappings ips chained r at chain = elim (among-either r (masquerade_rules ip_masq att given) (chained_rules att mappings ips chained) at) [
   | inl first ↦
@@ -92,14 +100,16 @@ forward-wanted ip_masq att given mappings ips chained r at chain = elim (among-e
       (among-any is_firewall of.0 chained of.1 by.0, by.1))
 ]
 
-firewall-of : (c : Chained) (att : Att) (mappings : List PortMapping) (ips : List IpEntry) (ip : IpEntry) → is_firewall c ≡ true → IsAmong ip ips
+firewall-of : (c : Chained) (att : Att) (mappings : List PortMapping) (ips : List IpEntry) (ip : IpEntry)
+    → is_firewall c ≡ true → IsAmong ip ips
     → IsAmong (accept_from att ip.address.addr) (rules_of c att mappings ips) × IsAmong (accept_replies_to att ip.address.addr) (rules_of c att mappings ips)
 unfolding chained_plugin_of
 firewall-of (Portmap conf) att mappings ips ip is there = cc
 firewall-of (Firewall conf) att mappings ips ip is there = (from-there att ips ip there, replies-there att ips ip there)
 firewall-of (Tuning conf) att mappings ips ip is there = cc
 
-pub wanted-forward : (ip_masq : Bool) (att : Att) (given : List Given) (mappings : List PortMapping) (ips : List IpEntry) (chained : List Chained) (ip : IpEntry) → list_any is_firewall chained ≡ true → IsAmong ip ips
+pub wanted-forward : (ip_masq : Bool) (att : Att) (given : List Given) (mappings : List PortMapping) (ips : List IpEntry) (chained : List Chained) (ip : IpEntry)
+    → list_any is_firewall chained ≡ true → IsAmong ip ips
     → IsAmong (accept_from att ip.address.addr) (rules_by ip_masq att given mappings ips chained) × IsAmong (accept_replies_to att ip.address.addr) (rules_by ip_masq att given mappings ips chained)
 wanted-forward ip_masq att given mappings ips chained ip is there =
     let by = any-among is_firewall chained is in
@@ -114,13 +124,16 @@ wanted-forward ip_masq att given mappings ips chained ip is there =
 abbrev is_chained_rule : Rule → Bool
 is_chained_rule r = is_of_port r || is_in chains.Forward r
 
-chained-chains : (c : Chained) (att : Att) (mappings : List PortMapping) (ips : List IpEntry) → list_all is_chained_rule (rules_of c att mappings ips) ≡ true
+chained-chains : (c : Chained) (att : Att) (mappings : List PortMapping) (ips : List IpEntry)
+    → list_all is_chained_rule (rules_of c att mappings ips) ≡ true
 unfolding chained_plugin_of
 chained-chains (Portmap conf) att mappings ips = list_all-weaker is_of_port is_chained_rule (λ r h. grind (arith, h)) (portmap_rules conf att mappings ips) (portmap-chains conf att mappings ips)
 chained-chains (Firewall conf) att mappings ips = list_all-weaker (is_in chains.Forward) is_chained_rule (λ r h. grind (arith, h)) (firewall_rules att ips) (firewall-chains att ips)
 chained-chains (Tuning conf) att mappings ips = refl
 
-in-chain : (chain : Chain) → ((chain_eq chain chains.Dnat || chain_eq chain chains.HostMasq) || chain_eq chain chains.Forward) ≡ true → chain_eq chain chains.Masq ≡ false
+in-chain : (chain : Chain)
+    → ((chain_eq chain chains.Dnat || chain_eq chain chains.HostMasq) || chain_eq chain chains.Forward) ≡ true
+    → chain_eq chain chains.Masq ≡ false
 in-chain chains.Dnat h = refl
 in-chain chains.HostMasq h = refl
 in-chain chains.Masq h = cc

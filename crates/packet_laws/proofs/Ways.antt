@@ -23,16 +23,21 @@ pub record IsOnItsWay (p q : Packet) : Type 0 where
 unmoved : (p : Packet) → IsOnItsWay p p
 unmoved p = record { src = refl; established = refl; family = refl; stands = λ established. refl }
 
-sent-way : (p : Packet) (t : Target) → p.established ≡ false → leads_into p.dst.family t ≡ true → IsOnItsWay p (unwrap_or (sent_to p t) p)
+sent-way : (p : Packet) (t : Target) → p.established ≡ false → leads_into p.dst.family t ≡ true
+    → IsOnItsWay p (unwrap_or (sent_to p t) p)
 sent-way p targets.Accept new leads = unmoved p
 sent-way p targets.Masquerade new leads = unmoved p
 sent-way p (targets.Dnat addr port) new leads = record { src = refl; established = refl; family = family_eq-true addr.family p.dst.family leads; stands = λ established. cc }
 
-found-way : (p : Packet) (o : Option Rule) → p.established ≡ false → ((r : Rule) → o ≡ Some r → leads_into p.dst.family r.target ≡ true) → IsOnItsWay p (unwrap_or (option_and_then (sent_by p) o) p)
+found-way : (p : Packet) (o : Option Rule) → p.established ≡ false
+    → ((r : Rule) → o ≡ Some r → leads_into p.dst.family r.target ≡ true)
+    → IsOnItsWay p (unwrap_or (option_and_then (sent_by p) o) p)
 found-way p None new leads = unmoved p
 found-way p (Some r) new leads = sent-way p r.target new (leads r refl)
 
-way-by : (b : Bool) (p : Packet) (o : Option Rule) → p.established ≡ b → ((r : Rule) → o ≡ Some r → leads_into p.dst.family r.target ≡ true) → IsOnItsWay p (unwrap_or (if b then None else option_and_then (sent_by p) o) p)
+way-by : (b : Bool) (p : Packet) (o : Option Rule) → p.established ≡ b
+    → ((r : Rule) → o ≡ Some r → leads_into p.dst.family r.target ≡ true)
+    → IsOnItsWay p (unwrap_or (if b then None else option_and_then (sent_by p) o) p)
 way-by true p o is leads = unmoved p
 way-by false p o is leads = found-way p o is leads
 
@@ -53,21 +58,26 @@ one-moved p q one way = record { family = ap (λ (a : Addr). a.family) way.src �
 
 -- ---- its fate
 
-accepted-by : (rules : List Rule) (p : Packet) (o : Option Packet) → (option_map_or (fate_at rules true) o (fate_at rules false p)).accepted ≡ any_match chains.Forward rules (unwrap_or o p)
+accepted-by : (rules : List Rule) (p : Packet) (o : Option Packet)
+    → (option_map_or (fate_at rules true) o (fate_at rules false p)).accepted ≡ any_match chains.Forward rules (unwrap_or o p)
 accepted-by rules p None = refl
 accepted-by rules p (Some q) = refl
 
-pub accepted-moved : (rules : List Rule) (p : Packet) → (fate_by rules p).accepted ≡ any_match chains.Forward rules (moved rules p)
+pub accepted-moved : (rules : List Rule) (p : Packet)
+    → (fate_by rules p).accepted ≡ any_match chains.Forward rules (moved rules p)
 accepted-moved rules p = accepted-by rules p (rewriting rules p)
 
-masqueraded-by : (rules : List Rule) (p : Packet) (o : Option Packet) → (option_map_or (fate_at rules true) o (fate_at rules false p)).masqueraded ≡ is_masqueraded rules (unwrap_or o p)
+masqueraded-by : (rules : List Rule) (p : Packet) (o : Option Packet)
+    → (option_map_or (fate_at rules true) o (fate_at rules false p)).masqueraded ≡ is_masqueraded rules (unwrap_or o p)
 masqueraded-by rules p None = refl
 masqueraded-by rules p (Some q) = refl
 
-pub masqueraded-moved : (rules : List Rule) (p : Packet) → (fate_by rules p).masqueraded ≡ is_masqueraded rules (moved rules p)
+pub masqueraded-moved : (rules : List Rule) (p : Packet)
+    → (fate_by rules p).masqueraded ≡ is_masqueraded rules (moved rules p)
 masqueraded-moved rules p = masqueraded-by rules p (rewriting rules p)
 
-dst-by : (rules : List Rule) (p : Packet) (o : Option Packet) → (option_map_or (fate_at rules true) o (fate_at rules false p)).dst ≡ (unwrap_or o p).dst
+dst-by : (rules : List Rule) (p : Packet) (o : Option Packet)
+    → (option_map_or (fate_at rules true) o (fate_at rules false p)).dst ≡ (unwrap_or o p).dst
 dst-by rules p None = refl
 dst-by rules p (Some q) = refl
 

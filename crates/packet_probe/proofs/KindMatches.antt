@@ -48,7 +48,8 @@ by_network true true true false d rest = refl
 by_network true true true true d rest = refl
 
 -- what the kind tests first, and then the values
-by_kind : (ch f g l w e s d q u : Bool) → (ch && ((f && s) && (((g && w) && d) && (l && (u && (q && e)))))) ≡ ((ch && ((f && (g && l)) && (w && e))) && (s && (d && (q && u))))
+by_kind : (ch f g l w e s d q u : Bool)
+    → (ch && ((f && s) && (((g && w) && d) && (l && (u && (q && e)))))) ≡ ((ch && ((f && (g && l)) && (w && e))) && (s && (d && (q && u))))
 by_kind false f g l w e s d q u = refl
 by_kind true false g l w e s d q u = refl
 by_kind true true g l w e s d q u = within g l w e s d q u
@@ -100,22 +101,26 @@ dst-part true (Some c) a =
 
 -- ---- the rest
 
-target-part : (f : Family) (target : Target) → leads_into f target ≡ asks (λ (led : ℕ). led == family_code f) (target_family target)
+target-part : (f : Family) (target : Target)
+    → leads_into f target ≡ asks (λ (led : ℕ). led == family_code f) (target_family target)
 target-part f targets.Accept = refl
 target-part f targets.Masquerade = refl
 target-part f (targets.Dnat addr port) = refl
 
-protocol-part : (q : Proto) (protocol : Option Proto) → asks (proto_eq q) protocol ≡ (option_map_or proto_code protocol 0 == (if is_some protocol then proto_code q else 0))
+protocol-part : (q : Proto) (protocol : Option Proto)
+    → asks (proto_eq q) protocol ≡ (option_map_or proto_code protocol 0 == (if is_some protocol then proto_code q else 0))
 protocol-part q None = refl
 protocol-part q (Some r) = nat_eq_equiv.symm (proto_code q) (proto_code r)
 
-port-part : (n : ℕ) (port : Option ℕ) → asks (λ (m : ℕ). n == m) port ≡ (unwrap_or port 0 == (if is_some port then n else 0))
+port-part : (n : ℕ) (port : Option ℕ)
+    → asks (λ (m : ℕ). n == m) port ≡ (unwrap_or port 0 == (if is_some port then n else 0))
 port-part n None = refl
 port-part n (Some m) = nat_eq_equiv.symm n m
 
 -- ---- the whole
 
-pub matches_in-kind : (chain : Chain) (p : Packet) (r : Rule) → p.src.family ≡ p.dst.family → matches_in chain p r ≡ (admits chain (kind_of r) p && is_eq (values_cmp (values_of r) (values_at (kind_of r) p)))
+pub matches_in-kind : (chain : Chain) (p : Packet) (r : Rule) → p.src.family ≡ p.dst.family
+    → matches_in chain p r ≡ (admits chain (kind_of r) p && is_eq (values_cmp (values_of r) (values_at (kind_of r) p)))
 matches_in-kind chain p r same =
     let family = p.dst.family in
     let ch = chain_code r.chain == chain_code chain in

@@ -98,7 +98,8 @@ bool-itself : (b : Bool) → bool_cmp b b ≡ Equal
 bool-itself false = refl
 bool-itself true = refl
 
-option-itself : {K : Type 0} (R : K → K → Ordering) → ((k : K) → R k k ≡ Equal) → (o : Option K) → option_cmp R o o ≡ Equal
+option-itself : {K : Type 0} (R : K → K → Ordering) → ((k : K) → R k k ≡ Equal) → (o : Option K)
+    → option_cmp R o o ≡ Equal
 option-itself R itself None = refl
 option-itself R itself (Some k) = itself k
 
@@ -120,7 +121,8 @@ kind-itself k =
 
 -- ---- values that are equal
 
-pub values-tied : (x y : Values) → (x.src == y.src && (x.dst == y.dst && (x.dport == y.dport && x.protocol == y.protocol))) ≡ is_eq (values_cmp x y)
+pub values-tied : (x y : Values)
+    → (x.src == y.src && (x.dst == y.dst && (x.dport == y.dport && x.protocol == y.protocol))) ≡ is_eq (values_cmp x y)
 values-tied x y =
     both_tied (x.src == y.src) (x.dst == y.dst && (x.dport == y.dport && x.protocol == y.protocol)) (nat_cmp x.src y.src) _ (unsigned_ties x.src y.src)
     (both_tied (x.dst == y.dst) (x.dport == y.dport && x.protocol == y.protocol) (nat_cmp x.dst y.dst) _ (unsigned_ties x.dst y.dst)

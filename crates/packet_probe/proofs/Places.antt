@@ -16,13 +16,15 @@ pub place-bound : {X : Type 0} (p : X → Bool) (xs : List X) → position_or_le
 place-bound p [] = omega arith
 place-bound p (x ∷ xs) = bound-step (not (p x)) (position_or_len p xs) (length xs) (place-bound p xs)
 
-either-step : (a b : Bool) (m n k : ℕ) → k ≡ min m n → cond (not (a || b)) (1 + k) 0 ≡ min (cond (not a) (1 + m) 0) (cond (not b) (1 + n) 0)
+either-step : (a b : Bool) (m n k : ℕ) → k ≡ min m n
+    → cond (not (a || b)) (1 + k) 0 ≡ min (cond (not a) (1 + m) 0) (cond (not b) (1 + n) 0)
 either-step true b m n k least = omega arith
 either-step false true m n k least = omega arith
 either-step false false m n k least = omega arith
 
 -- of those that pass either test the first is the first of the one or of the other
-pub place-either : {X : Type 0} (p q : X → Bool) (xs : List X) → position_or_len (λ x. p x || q x) xs ≡ min (position_or_len p xs) (position_or_len q xs)
+pub place-either : {X : Type 0} (p q : X → Bool) (xs : List X)
+    → position_or_len (λ x. p x || q x) xs ≡ min (position_or_len p xs) (position_or_len q xs)
 place-either p q [] = refl
 place-either p q (x ∷ xs) = either-step (p x) (q x) (position_or_len p xs) (position_or_len q xs) (position_or_len (λ y. p y || q y) xs) (place-either p q xs)
 
@@ -30,11 +32,13 @@ pub place-none : {X : Type 0} (xs : List X) → position_or_len (λ (x : X). fal
 place-none [] = refl
 place-none (x ∷ xs) = let rest = place-none xs in omega arith
 
-pub place-alike : {X : Type 0} (p q : X → Bool) → ((x : X) → p x ≡ q x) → (xs : List X) → position_or_len p xs ≡ position_or_len q xs
+pub place-alike : {X : Type 0} (p q : X → Bool) → ((x : X) → p x ≡ q x) → (xs : List X)
+    → position_or_len p xs ≡ position_or_len q xs
 place-alike p q same xs = ap (λ (t : _ → Bool). position_or_len t xs) (λ i x. same x i)
 
 -- tests that agree on these elements
-pub place-among : {X : Type 0} (p q among : X → Bool) → ((x : X) → among x ≡ true → p x ≡ q x) → (xs : List X) → list_all among xs ≡ true → position_or_len p xs ≡ position_or_len q xs
+pub place-among : {X : Type 0} (p q among : X → Bool) → ((x : X) → among x ≡ true → p x ≡ q x) → (xs : List X)
+    → list_all among xs ≡ true → position_or_len p xs ≡ position_or_len q xs
 place-among p q among same [] all = refl
 place-among p q among same (x ∷ xs) all =
     let parts = and_parts (among x) (list_all among xs) all in
@@ -46,14 +50,17 @@ unwrapped : (b : Bool) (n l : ℕ) → nat_lt n l ≡ b → n ≤ l → unwrap_o
 unwrapped true n l is within = refl
 unwrapped false n l is within = let past : l ≤ n = ltb-false n l is in omega arith
 
-pub unwrap_or-position : {X : Type 0} (p : X → Bool) (xs : List X) → unwrap_or (position p xs) (length xs) ≡ position_or_len p xs
+pub unwrap_or-position : {X : Type 0} (p : X → Bool) (xs : List X)
+    → unwrap_or (position p xs) (length xs) ≡ position_or_len p xs
 unwrap_or-position p xs = unwrapped (nat_lt (position_or_len p xs) (length xs)) (position_or_len p xs) (length xs) refl (place-bound p xs)
 
-push-step : (b : Bool) (i : ℕ) (more o w : Option ℕ) → more ≡ (if is_some o then o else w) → cond b (Some i) more ≡ (if is_some (cond b (Some i) o) then cond b (Some i) o else w)
+push-step : (b : Bool) (i : ℕ) (more o w : Option ℕ) → more ≡ (if is_some o then o else w)
+    → cond b (Some i) more ≡ (if is_some (cond b (Some i) o) then cond b (Some i) o else w)
 push-step true i more o w is = refl
 push-step false i more o w is = is
 
-from-push : {X : Type 0} (p : X → Bool) (i : ℕ) (xs : List X) (y : X) → position_from p i (xs ++ y ∷ []) ≡ (if is_some (position_from p i xs) then position_from p i xs else if p y then Some (i + length xs) else None)
+from-push : {X : Type 0} (p : X → Bool) (i : ℕ) (xs : List X) (y : X)
+    → position_from p i (xs ++ y ∷ []) ≡ (if is_some (position_from p i xs) then position_from p i xs else if p y then Some (i + length xs) else None)
 from-push p i [] y = let start : i ≡ i + 0 = omega arith in ap (λ (k : ℕ). if p y then Some k else None) start
 from-push p i (x ∷ xs) y =
     let on : (i + 1) + length xs ≡ i + suc (length xs) = omega arith in
@@ -62,7 +69,8 @@ from-push p i (x ∷ xs) y =
     ∙ ap (λ (k : ℕ). if is_some (position_from p (i + 1) xs) then position_from p (i + 1) xs else if p y then Some k else None) on)
 
 -- one more at the end is the first where none passed
-pub position-push : {X : Type 0} (p : X → Bool) (xs : List X) (y : X) → position p (xs ++ y ∷ []) ≡ (if is_some (position p xs) then position p xs else if p y then Some (length xs) else None)
+pub position-push : {X : Type 0} (p : X → Bool) (xs : List X) (y : X)
+    → position p (xs ++ y ∷ []) ≡ (if is_some (position p xs) then position p xs else if p y then Some (length xs) else None)
 position-push p xs y =
     let start : 0 + length xs ≡ length xs = omega arith in
     position_from-zero p (xs ++ y ∷ []) ∙ from-push p 0 xs y
@@ -71,7 +79,8 @@ position-push p xs y =
 -- ---- the least of several places
 
 -- one more is taken
-pub take-least : (first here rest whole next all most : ℕ) → first ≤ most → next ≡ min first here → whole ≡ min here rest → min first whole ≡ all → (next ≤ most) × (min next rest ≡ all)
+pub take-least : (first here rest whole next all most : ℕ) → first ≤ most → next ≡ min first here
+    → whole ≡ min here rest → min first whole ≡ all → (next ≤ most) × (min next rest ≡ all)
 take-least first here rest whole next all most within taken parts least = (omega arith, omega arith)
 
 -- none is left
@@ -80,6 +89,7 @@ last-least first whole all most within none least = omega arith
 
 -- ---- what stands at a place
 
-pub option_copied-item : {X : Type 0} (xs : List X) (i : ℕ) (r : Option (Bor X)) → IsItemAt xs i r → option_copied r ≡ slice_get xs i
+pub option_copied-item : {X : Type 0} (xs : List X) (i : ℕ) (r : Option (Bor X)) → IsItemAt xs i r
+    → option_copied r ≡ slice_get xs i
 option_copied-item xs i None item = sym (slice_get_past xs i item.3)
 option_copied-item xs i (Some x) item = sym (slice_get_read xs (length xs) i x.now refl item.3.0 item.1)

@@ -16,20 +16,23 @@ use Rattle.plugin_base.proofs.{KeyLists.list_all-each_key_once, OwnCalls.share-o
 -- ---- from the calls to the host
 
 -- what calls of the attachment that are all done make of its share
-share-applied : (att : Att) (host : Host) (calls : List Call) → list_all (is_plugin_call_of att) calls ≡ true → AllDone host calls → share_of att (applied host calls) ≡ share_after_calls (share_of att host) calls
+share-applied : (att : Att) (host : Host) (calls : List Call) → list_all (is_plugin_call_of att) calls ≡ true
+    → AllDone host calls → share_of att (applied host calls) ≡ share_after_calls (share_of att host) calls
 share-applied att host [] own done = refl
 share-applied att host (c ∷ cs) own done =
     let both = and_parts (is_plugin_call_of att c) (list_all (is_plugin_call_of att) cs) own in
     share-applied att (apply host c).0 cs both.1 done.1 ∙ ap (λ s. share_after_calls s cs) (share-own att host c both.0 done.0)
 
 -- calls of the attachment that add this share to every share append it in every host
-pub appends-share : (att : Att) (calls : List Call) (share : Share) → list_all (is_plugin_call_of att) calls ≡ true → ((s : Share) → share_after_calls s calls ≡ share_plus s share) → AppendsShare att calls share
+pub appends-share : (att : Att) (calls : List Call) (share : Share) → list_all (is_plugin_call_of att) calls ≡ true
+    → ((s : Share) → share_after_calls s calls ≡ share_plus s share) → AppendsShare att calls share
 appends-share att calls share own adds = λ host sound done. share-applied att host calls own done ∙ adds (share_of att host)
 
 -- ---- rules
 
 -- each rule is the attachment's own
-pub own-masquerades : (ip_masq : Bool) (att : Att) (given : List Given) → list_all (λ x. is_own att x.tag) (masquerade_rules ip_masq att given) ≡ true
+pub own-masquerades : (ip_masq : Bool) (att : Att) (given : List Given)
+    → list_all (λ x. is_own att x.tag) (masquerade_rules ip_masq att given) ≡ true
 own-masquerades ip_masq att given =
     list_all-if (λ x. is_own att x.tag) ip_masq _
     (list_all-each_key_once (λ x. is_own att x.tag) rule_eq (flat_map (masquerade_of att) given)
@@ -48,7 +51,8 @@ chained_change p laws att netns mappings ips host sound done =
     share-applied att host (p.calls att netns mappings ips) (laws.calls att netns mappings ips).own done ∙ laws.adds att netns mappings ips (share_of att host)
 
 -- addresses, routes, calls that add nothing, and rules
-pub share-laid_on : (s : Share) (addresses : List AddrObj) (routes : List RouteObj) (shared : List Call) (rules : List Rule) → ((t : Share) → share_after_calls t shared ≡ t)
+pub share-laid_on : (s : Share) (addresses : List AddrObj) (routes : List RouteObj) (shared : List Call) (rules : List Rule)
+    → ((t : Share) → share_after_calls t shared ≡ t)
     → share_after_calls s (map AddrAdd addresses ++ (map RouteAdd routes ++ (shared ++ map RuleAppend rules)))
     ≡ record s { addresses = s.addresses ++ addresses; routes = s.routes ++ routes; rules = s.rules ++ rules }
 share-laid_on s addresses routes shared rules adds_none =

@@ -12,7 +12,8 @@ use Rattle.plugin_base.specs.Shapes.{masquerade_of, masquerade_rules, route_on, 
 use Rattle.plugin_base.proofs.KeyLists.{length-each_key_once}
 
 -- so many for each
-pub length-each : {X Y : Type 0} (most : ℕ) (f : X → List Y) → ((x : X) → length (f x) ≤ most) → (xs : List X) → length (flat_map f xs) ≤ most * length xs
+pub length-each : {X Y : Type 0} (most : ℕ) (f : X → List Y) → ((x : X) → length (f x) ≤ most) → (xs : List X)
+    → length (flat_map f xs) ≤ most * length xs
 length-each most f few [] = omega arith
 length-each most f few (x ∷ xs) =
     let rest = length-each most f few xs in
@@ -21,25 +22,29 @@ length-each most f few (x ∷ xs) =
     let step = mul-suc most (length xs) in
     omega arith
 
-pub length-if : {X : Type 0} (b : Bool) (xs : List X) (most : ℕ) → length xs ≤ most → length (if b then xs else []) ≤ most
+pub length-if : {X : Type 0} (b : Bool) (xs : List X) (most : ℕ) → length xs ≤ most
+    → length (if b then xs else []) ≤ most
 length-if true xs most h = h
 length-if false xs most h = omega arith
 
-pub length-addresses : (att : Att) (netns : List ℕ) (gs : List Given) → length (map AddrAdd (addresses_on att netns gs)) ≤ length gs
+pub length-addresses : (att : Att) (netns : List ℕ) (gs : List Given)
+    → length (map AddrAdd (addresses_on att netns gs)) ≤ length gs
 length-addresses att netns gs =
     let a = length-map (addresses_on att netns gs) AddrAdd in
     let b = length-each_key_once is_same_addr (map (address_on att netns) gs) in
     let c = length-map gs (address_on att netns) in
     omega arith
 
-pub length-routes : (att : Att) (netns : List ℕ) (gs : List Given) (entries : List RouteEntry) → length (map RouteAdd (routes_on att netns gs entries)) ≤ length entries
+pub length-routes : (att : Att) (netns : List ℕ) (gs : List Given) (entries : List RouteEntry)
+    → length (map RouteAdd (routes_on att netns gs entries)) ≤ length entries
 length-routes att netns gs entries =
     let a = length-map (routes_on att netns gs entries) RouteAdd in
     let b = length-each_key_once is_same_route (map (route_on att netns gs) entries) in
     let c = length-map entries (route_on att netns gs) in
     omega arith
 
-pub length-masquerades : (ip_masq : Bool) (att : Att) (gs : List Given) → length (map RuleAppend (masquerade_rules ip_masq att gs)) ≤ 2 * length gs
+pub length-masquerades : (ip_masq : Bool) (att : Att) (gs : List Given)
+    → length (map RuleAppend (masquerade_rules ip_masq att gs)) ≤ 2 * length gs
 length-masquerades ip_masq att gs =
     let a = length-map (masquerade_rules ip_masq att gs) RuleAppend in
     let b = length-each_key_once rule_eq (flat_map (masquerade_of att) gs) in

@@ -22,7 +22,8 @@ pub record IsApart (other : Att) (call : Call) : Type 0 where
 apart_att : (att other own : Att) → att_eq att other ≡ false → att_eq own att ≡ true → att_eq own other ≡ false
 apart_att att other own differ is = ap (λ a. att_eq a other) (att_eq-same own att is) ∙ differ
 
-pub call-apart : (att other : Att) (call : Call) → att_eq att other ≡ false → is_call_of att call ≡ true → IsApart other call
+pub call-apart : (att other : Att) (call : Call) → att_eq att other ≡ false → is_call_of att call ≡ true
+    → IsApart other call
 call-apart att other (Begin a netns) differ is = record { inside = refl; unnamed = apart_att att other a differ is }
 call-apart att other (BridgeEnsure name mtu promisc) differ is = record { inside = refl; unnamed = refl }
 call-apart att other (GatewayEnsure bridge cidr) differ is = record { inside = refl; unnamed = refl }
@@ -45,7 +46,8 @@ call-apart att other (CacheGet a) differ is = record { inside = refl; unnamed = 
 call-apart att other _ differ is = cc
 
 -- a call of one attachment that may be made leaves the share of every other
-pub share-other : (att other : Att) (host : Host) (call : Call) → att_eq att other ≡ false → IsSound host → IsAllowed host call → is_call_of att call ≡ true → share_of other (apply host call).0 ≡ share_of other host
+pub share-other : (att other : Att) (host : Host) (call : Call) → att_eq att other ≡ false → IsSound host
+    → IsAllowed host call → is_call_of att call ≡ true → share_of other (apply host call).0 ≡ share_of other host
 share-other att other host call differ sound allowed is =
     let apart = call-apart att other call differ is in
     share-KeepsPart other host (apply host call).0 (KeepsPart-Touches call other host (apply host call).0 allowed apart.inside apart.unnamed (Touches-apply host call sound allowed))

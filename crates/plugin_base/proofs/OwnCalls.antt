@@ -32,7 +32,8 @@ use Rattle.plugin_base.proofs.KeyLists.{filter-map_kept}
 abbrev pub Grows : Att → Share → Host × Reply → Type 0
 Grows att next step = step.1 ≡ Done → share_of att step.0 ≡ next
 
-own-bridge_or_new : (att : Att) (host : Host) (o : Option Link) (bridge : Link) → bridge.tag ≡ Base → Grows att (share_of att host) (bridge_or_new host o bridge)
+own-bridge_or_new : (att : Att) (host : Host) (o : Option Link) (bridge : Link) → bridge.tag ≡ Base
+    → Grows att (share_of att host) (bridge_or_new host o bridge)
 own-bridge_or_new att host (Some link) bridge base = λ done. refl
 own-bridge_or_new att host None bridge base = λ done. ap (λ l. record (share_of att host) { links = l }) (filter-push_dropped (λ l. is_own att l.tag) host.links bridge (ap (is_own att) base))
 
@@ -50,55 +51,64 @@ module _ (att : Att) (next : Share) where
   grows-there true reply host more there h = there
   grows-there false reply host more there h = λ done. h
 
-own-gateway : (att : Att) (host : Host) (bridge : List ℕ) (cidr : Cidr) → Grows att (share_of att host) (gateway_ensure_of host bridge cidr)
+own-gateway : (att : Att) (host : Host) (bridge : List ℕ) (cidr : Cidr)
+    → Grows att (share_of att host) (gateway_ensure_of host bridge cidr)
 own-gateway att host bridge cidr =
     grows-if att (share_of att host) (has_host_bridge host bridge) host _ _ (λ e. cc)
     (grows-there att (share_of att host) (list_any _ host.addresses) Done host _ (λ _. refl)
     (ap (λ l. record (share_of att host) { addresses = l }) (filter-push_dropped (λ a. is_own att a.tag) host.addresses _ refl)))
 
-own-forward : (att : Att) (host : Host) (family : Family) → Grows att (share_of att host) (forward_ensure_of host family)
+own-forward : (att : Att) (host : Host) (family : Family)
+    → Grows att (share_of att host) (forward_ensure_of host family)
 own-forward att host family =
     grows-there att (share_of att host) (list_any _ host.settings) Done host _ (λ _. refl)
     (ap (λ l. record (share_of att host) { settings = l }) (filter-push_dropped (λ s. is_own att s.tag) host.settings _ refl))
 
-own-veth : (att : Att) (host : Host) (h i : Link) → is_own att h.tag ≡ true → is_own att i.tag ≡ true → Grows att (share_after_call (share_of att host) (VethAdd h i)) (veth_add_of host h i)
+own-veth : (att : Att) (host : Host) (h i : Link) → is_own att h.tag ≡ true → is_own att i.tag ≡ true
+    → Grows att (share_after_call (share_of att host) (VethAdd h i)) (veth_add_of host h i)
 own-veth att host h i own_h own_i =
     grows-if att _ (has_named_ns host i.ns) host _ _ (λ e. cc)
     (grows-if att _ (master_is_bridge_or_none host h.master) host _ _ (λ e. cc)
     (grows-appended att _ (option_map (λ l. l.tag) (option_or (link_at host i.ns i.name) (link_at host h.ns h.name))) host _
     (ap (λ l. record (share_of att host) { links = l }) (filter-two_kept (λ l. is_own att l.tag) host.links h i own_h own_i))))
 
-own-macvlan : (att : Att) (host : Host) (link : Link) → is_own att link.tag ≡ true → Grows att (share_after_call (share_of att host) (MacvlanAdd link)) (macvlan_add_of host link)
+own-macvlan : (att : Att) (host : Host) (link : Link) → is_own att link.tag ≡ true
+    → Grows att (share_after_call (share_of att host) (MacvlanAdd link)) (macvlan_add_of host link)
 own-macvlan att host link own =
     grows-if att _ (has_named_ns host link.ns) host _ _ (λ e. cc)
     (grows-if att _ (has_master host link.master) host _ _ (λ e. cc)
     (grows-appended att _ (option_map (λ l. l.tag) (link_at host link.ns link.name)) host _
     (ap (λ l. record (share_of att host) { links = l }) (filter-push_kept (λ l. is_own att l.tag) host.links link own))))
 
-own-addr : (att : Att) (host : Host) (obj : AddrObj) → is_own att obj.tag ≡ true → Grows att (share_after_call (share_of att host) (AddrAdd obj)) (addr_add_of host obj)
+own-addr : (att : Att) (host : Host) (obj : AddrObj) → is_own att obj.tag ≡ true
+    → Grows att (share_after_call (share_of att host) (AddrAdd obj)) (addr_add_of host obj)
 own-addr att host obj own =
     grows-if att _ (has_link_of host obj.ns obj.link obj.tag) host _ _ (λ e. cc)
     (grows-appended att _ (option_map (λ a. a.tag) (find (is_same_addr obj) host.addresses)) host _
     (ap (λ l. record (share_of att host) { addresses = l }) (filter-push_kept (λ a. is_own att a.tag) host.addresses obj own)))
 
-own-route : (att : Att) (host : Host) (obj : RouteObj) → is_own att obj.tag ≡ true → Grows att (share_after_call (share_of att host) (RouteAdd obj)) (route_add_of host obj)
+own-route : (att : Att) (host : Host) (obj : RouteObj) → is_own att obj.tag ≡ true
+    → Grows att (share_after_call (share_of att host) (RouteAdd obj)) (route_add_of host obj)
 own-route att host obj own =
     grows-if att _ (has_link_of host obj.ns obj.link obj.tag) host _ _ (λ e. cc)
     (grows-appended att _ (option_map (λ r. r.tag) (find (is_same_route obj) host.routes)) host _
     (ap (λ l. record (share_of att host) { routes = l }) (filter-push_kept (λ r. is_own att r.tag) host.routes obj own)))
 
-own-rule : (att : Att) (host : Host) (rule : Rule) → is_own att rule.tag ≡ true → Grows att (share_after_call (share_of att host) (RuleAppend rule)) (rule_append_of host rule)
+own-rule : (att : Att) (host : Host) (rule : Rule) → is_own att rule.tag ≡ true
+    → Grows att (share_after_call (share_of att host) (RuleAppend rule)) (rule_append_of host rule)
 own-rule att host rule own =
     grows-there att _ (list_any (λ r. rule_eq r rule) host.rules) _ host _ (λ done. cc)
     (ap (λ l. record (share_of att host) { rules = l }) (filter-push_kept (λ r. is_own att r.tag) host.rules rule own))
 
-own-setting : (att : Att) (host : Host) (s : Setting) → is_own att s.tag ≡ true → Grows att (share_after_call (share_of att host) (SettingSet s)) (setting_set_of host s)
+own-setting : (att : Att) (host : Host) (s : Setting) → is_own att s.tag ≡ true
+    → Grows att (share_after_call (share_of att host) (SettingSet s)) (setting_set_of host s)
 own-setting att host s own =
     grows-if att _ (has_named_ns host s.ns) host _ _ (λ e. cc)
     (grows-appended att _ (option_map (λ x. x.tag) (find (is_same_setting s) host.settings)) host _
     (ap (λ l. record (share_of att host) { settings = l }) (filter-push_kept (λ x. is_own att x.tag) host.settings s own)))
 
-own-cached : (att own : Att) (host : Host) (cached : Cached) → att_eq own att ≡ true → Grows att (share_after_call (share_of att host) (CachePut own cached)) (cache_put_of host own cached)
+own-cached : (att own : Att) (host : Host) (cached : Cached) → att_eq own att ≡ true
+    → Grows att (share_after_call (share_of att host) (CachePut own cached)) (cache_put_of host own cached)
 own-cached att own host cached is =
     grows-there att _ (list_any (λ c. is_own own c.tag) host.cached) _ host _ (λ done. cc)
     (ap (λ l. record (share_of att host) { cached = l }) (filter-push_kept (λ c. is_own att c.tag) host.cached _ is))
@@ -137,7 +147,8 @@ abbrev BeginsAt : Att → Host → Reply → Type 0
 BeginsAt att host reply = reply ≡ Done → share_of att host ≡ no_objects
 
 -- an attachment whose Begin was done has no_objects
-pub share-begin : (att : Att) (host : Host) (netns : List ℕ) → (begin_of host att netns).1 ≡ Done → share_of att host ≡ no_objects
+pub share-begin : (att : Att) (host : Host) (netns : List ℕ) → (begin_of host att netns).1 ≡ Done
+    → share_of att host ≡ no_objects
 share-begin att host netns =
     by_test (BeginsAt att host) (is_host_or_ns host.namespaces netns) _ _
     (λ _. by_test (BeginsAt att host) (has_objects host att) _ _ (λ _ done. cc) (λ none _. begins-none att host none))
@@ -148,10 +159,12 @@ share-begin att host netns =
 abbrev pub Leases : Att → Host → Addr → Host × Reply → Type 0
 Leases att host addr step = step.1 ≡ Leased addr → share_of att step.0 ≡ record (share_of att host) { leases = (share_of att host).leases ++ lease_of att addr ∷ [] }
 
-with_last-share_of : (att : Att) (host : Host) (network : List ℕ) (number : ℕ) (addr : Addr) → share_of att (with_last host network number addr) ≡ share_of att host
+with_last-share_of : (att : Att) (host : Host) (network : List ℕ) (number : ℕ) (addr : Addr)
+    → share_of att (with_last host network number addr) ≡ share_of att host
 with_last-share_of att host network number addr = by_test (λ (next : Host). share_of att next ≡ share_of att host) (list_any (is_of_pool network number) host.lasts) _ _ (λ _. refl) (λ _. refl)
 
-own-lease_taken : (att : Att) (host : Host) (number : ℕ) (o : Option Addr) (addr : Addr) → Leases att host addr (lease_taken host att number o)
+own-lease_taken : (att : Att) (host : Host) (number : ℕ) (o : Option Addr) (addr : Addr)
+    → Leases att host addr (lease_taken host att number o)
 own-lease_taken att host number None addr = λ done. cc
 own-lease_taken att host number (Some a) addr = λ done.
     let same : a ≡ addr = same_leased a addr done in
@@ -159,13 +172,15 @@ own-lease_taken att host number (Some a) addr = λ done.
     ∙ ap (λ l. record (share_of att host) { leases = l }) (filter-push_kept (λ l. is_own att l.tag) host.leases (lease_of att a) (att_eq-refl att))
     ∙ ap (λ x. record (share_of att host) { leases = (share_of att host).leases ++ lease_of att x ∷ [] }) same
 
-pub share-lease : (att : Att) (host : Host) (number : ℕ) (set : RangeSet) (addr : Addr) → Leases att host addr (lease_next_of host att number set)
+pub share-lease : (att : Att) (host : Host) (number : ℕ) (set : RangeSet) (addr : Addr)
+    → Leases att host addr (lease_next_of host att number set)
 share-lease att host number set addr = own-lease_taken att host number (pick_of set (last_leased host att.network number) (leased_addresses host att.network)) addr
 
 -- ---- all calls of a plugin
 
 -- an attachment's own call that was done makes of its share what `share_after_call` says
-pub share-own : (att : Att) (host : Host) (call : Call) → is_plugin_call_of att call ≡ true → Grows att (share_after_call (share_of att host) call) (apply host call)
+pub share-own : (att : Att) (host : Host) (call : Call) → is_plugin_call_of att call ≡ true
+    → Grows att (share_after_call (share_of att host) call) (apply host call)
 share-own att host (BridgeEnsure name mtu promisc) is = own-bridge_or_new att host (find (is_host_link name) host.links) (new_bridge name mtu promisc) refl
 share-own att host (GatewayEnsure bridge cidr) is = own-gateway att host bridge cidr
 share-own att host (ForwardEnsure family) is = own-forward att host family

@@ -31,18 +31,22 @@ abbrev pub fits : List Kind → List Link → Option (List ℕ) → Att → List
 fits ks links bridge att netns call =
     is_plugin_call_of att call && (is_later_call netns call && (is_of_kinds ks call && (stands_on links bridge call && not (changes_links call))))
 
-five : (a b c d e : Bool) → (a && (b && (c && (d && e)))) ≡ true → (a ≡ true) × ((b ≡ true) × ((c ≡ true) × ((d ≡ true) × (e ≡ true))))
+five : (a b c d e : Bool) → (a && (b && (c && (d && e)))) ≡ true
+    → (a ≡ true) × ((b ≡ true) × ((c ≡ true) × ((d ≡ true) × (e ≡ true))))
 five a b c d e h =
     let on_a = and_parts a (b && (c && (d && e))) h in
     let on_b = and_parts b (c && (d && e)) on_a.1 in
     let on_c = and_parts c (d && e) on_b.1 in
     (on_a.0, (on_b.0, (on_c.0, and_parts d e on_c.1)))
 
-parts : (ks : List Kind) (links : List Link) (bridge : Option (List ℕ)) (att : Att) (netns : List ℕ) (call : Call) → fits ks links bridge att netns call ≡ true
+parts : (ks : List Kind) (links : List Link) (bridge : Option (List ℕ)) (att : Att) (netns : List ℕ) (call : Call)
+    → fits ks links bridge att netns call ≡ true
     → (is_plugin_call_of att call ≡ true) × ((is_later_call netns call ≡ true) × ((is_of_kinds ks call ≡ true) × ((stands_on links bridge call ≡ true) × (not (changes_links call) ≡ true))))
 parts ks links bridge att netns call h = five (is_plugin_call_of att call) (is_later_call netns call) (is_of_kinds ks call) (stands_on links bridge call) (not (changes_links call)) h
 
-pub calls-after : (p : FirstPlugin) (att : Att) (netns : List ℕ) (given : List Given) → list_all (fits p.kinds (p.links att netns) p.bridge att netns) (p.calls_after att netns given) ≡ true → AreCallsAfter p att netns given
+pub calls-after : (p : FirstPlugin) (att : Att) (netns : List ℕ) (given : List Given)
+    → list_all (fits p.kinds (p.links att netns) p.bridge att netns) (p.calls_after att netns given) ≡ true
+    → AreCallsAfter p att netns given
 calls-after p att netns given h =
     let calls = p.calls_after att netns given in
     let ks = p.kinds in
@@ -58,54 +62,67 @@ calls-after p att netns given h =
 
 -- ---- one call
 
-pub fits-address : (ks : List Kind) (links : List Link) (bridge : Option (List ℕ)) (att : Att) (netns : List ℕ) (key : LinkKey) → has_kind kinds.Links ks ≡ true → list_any (is_link_of key.ns key.name (Own att)) links ≡ true
+pub fits-address : (ks : List Kind) (links : List Link) (bridge : Option (List ℕ)) (att : Att) (netns : List ℕ) (key : LinkKey)
+    → has_kind kinds.Links ks ≡ true → list_any (is_link_of key.ns key.name (Own att)) links ≡ true
     → (cidr : Cidr) → fits ks links bridge att netns (AddrAdd (address_at att key cidr)) ≡ true
 fits-address ks links bridge att netns key kind there cidr = grind (arith, att_eq-refl att, kind, there)
 
-pub fits-route : (ks : List Kind) (links : List Link) (bridge : Option (List ℕ)) (att : Att) (netns : List ℕ) (key : LinkKey) → has_kind kinds.Links ks ≡ true → list_any (is_link_of key.ns key.name (Own att)) links ≡ true
+pub fits-route : (ks : List Kind) (links : List Link) (bridge : Option (List ℕ)) (att : Att) (netns : List ℕ) (key : LinkKey)
+    → has_kind kinds.Links ks ≡ true → list_any (is_link_of key.ns key.name (Own att)) links ≡ true
     → (dst : Cidr) (gw : Option Addr) → fits ks links bridge att netns (RouteAdd (route_at att key dst gw)) ≡ true
 fits-route ks links bridge att netns key kind there dst gw = grind (arith, att_eq-refl att, kind, there)
 
-fits-rule : (ks : List Kind) (links : List Link) (bridge : Option (List ℕ)) (att : Att) (netns : List ℕ) → has_kind kinds.Rules ks ≡ true → (rule : Rule) → is_own att rule.tag ≡ true → fits ks links bridge att netns (RuleAppend rule) ≡ true
+fits-rule : (ks : List Kind) (links : List Link) (bridge : Option (List ℕ)) (att : Att) (netns : List ℕ)
+    → has_kind kinds.Rules ks ≡ true → (rule : Rule) → is_own att rule.tag ≡ true
+    → fits ks links bridge att netns (RuleAppend rule) ≡ true
 fits-rule ks links bridge att netns kind rule own = grind (arith, kind, own)
 
-pub fits-gateway : (ks : List Kind) (links : List Link) (bridge : Option (List ℕ)) (att : Att) (netns name : List ℕ) → is_none_or (Some name) bridge ≡ true → (cidr : Cidr) → fits ks links bridge att netns (GatewayEnsure name cidr) ≡ true
+pub fits-gateway : (ks : List Kind) (links : List Link) (bridge : Option (List ℕ)) (att : Att) (netns name : List ℕ)
+    → is_none_or (Some name) bridge ≡ true → (cidr : Cidr)
+    → fits ks links bridge att netns (GatewayEnsure name cidr) ≡ true
 fits-gateway ks links bridge att netns name is cidr = grind (arith, is)
 
 -- ---- lists of calls
 
 -- one call for each key
-pub passes-once : {X Y : Type 0} (p : Call → Bool) (call : Y → Call) (same : Y → Y → Bool) (f : X → Y) → ((x : X) → p (call (f x)) ≡ true) → (xs : List X) → list_all p (map call (each_key_once same (map f xs))) ≡ true
+pub passes-once : {X Y : Type 0} (p : Call → Bool) (call : Y → Call) (same : Y → Y → Bool) (f : X → Y)
+    → ((x : X) → p (call (f x)) ≡ true) → (xs : List X) → list_all p (map call (each_key_once same (map f xs))) ≡ true
 passes-once p call same f w xs =
     list_all-mapped p call (λ y. p (call y)) (λ y h. h) (each_key_once same (map f xs)) (list_all-each_key_once (λ y. p (call y)) same (map f xs) (list_all-every (λ y. p (call y)) f w xs))
 
-pub fit-addresses : (ks : List Kind) (links : List Link) (bridge : Option (List ℕ)) (att : Att) (netns : List ℕ) (given : List Given) → has_kind kinds.Links ks ≡ true → has_inner att netns links ≡ true
+pub fit-addresses : (ks : List Kind) (links : List Link) (bridge : Option (List ℕ)) (att : Att) (netns : List ℕ) (given : List Given)
+    → has_kind kinds.Links ks ≡ true → has_inner att netns links ≡ true
     → list_all (fits ks links bridge att netns) (map AddrAdd (addresses_on att netns given)) ≡ true
 fit-addresses ks links bridge att netns given kind there =
     passes-once (fits ks links bridge att netns) AddrAdd is_same_addr (address_on att netns) (λ g. fits-address ks links bridge att netns (inner_key att netns) kind there g.address) given
 
-pub fit-routes : (ks : List Kind) (links : List Link) (bridge : Option (List ℕ)) (att : Att) (netns : List ℕ) (given : List Given) (entries : List RouteEntry) → has_kind kinds.Links ks ≡ true → has_inner att netns links ≡ true
+pub fit-routes : (ks : List Kind) (links : List Link) (bridge : Option (List ℕ)) (att : Att) (netns : List ℕ) (given : List Given) (entries : List RouteEntry)
+    → has_kind kinds.Links ks ≡ true → has_inner att netns links ≡ true
     → list_all (fits ks links bridge att netns) (map RouteAdd (routes_on att netns given entries)) ≡ true
 fit-routes ks links bridge att netns given entries kind there =
     passes-once (fits ks links bridge att netns) RouteAdd is_same_route (route_on att netns given) (λ r. fits-route ks links bridge att netns (inner_key att netns) kind there r.dst (gateway_for given r)) entries
 
-pub fit-forward : (ks : List Kind) (links : List Link) (bridge : Option (List ℕ)) (att : Att) (netns : List ℕ) (given : List Given) → list_all (fits ks links bridge att netns) (forward_calls given) ≡ true
+pub fit-forward : (ks : List Kind) (links : List Link) (bridge : Option (List ℕ)) (att : Att) (netns : List ℕ) (given : List Given)
+    → list_all (fits ks links bridge att netns) (forward_calls given) ≡ true
 fit-forward ks links bridge att netns given =
     let p = fits ks links bridge att netns in
     list_all-append p (forward_for V4 given) (forward_for V6 given) (list_all-if p (has_family V4 given) (ForwardEnsure V4 ∷ []) refl) (list_all-if p (has_family V6 given) (ForwardEnsure V6 ∷ []) refl)
 
-fit-rules : (ks : List Kind) (links : List Link) (bridge : Option (List ℕ)) (att : Att) (netns : List ℕ) (rules : List Rule) → has_kind kinds.Rules ks ≡ true → list_all (λ x. is_own att x.tag) rules ≡ true
+fit-rules : (ks : List Kind) (links : List Link) (bridge : Option (List ℕ)) (att : Att) (netns : List ℕ) (rules : List Rule)
+    → has_kind kinds.Rules ks ≡ true → list_all (λ x. is_own att x.tag) rules ≡ true
     → list_all (fits ks links bridge att netns) (map RuleAppend rules) ≡ true
 fit-rules ks links bridge att netns rules kind own = list_all-mapped (fits ks links bridge att netns) RuleAppend (λ x. is_own att x.tag) (fits-rule ks links bridge att netns kind) rules own
 
-pub fit-masquerades : (ks : List Kind) (links : List Link) (bridge : Option (List ℕ)) (att : Att) (netns : List ℕ) (given : List Given) (ip_masq : Bool) → (ip_masq ≡ true → has_kind kinds.Rules ks ≡ true)
+pub fit-masquerades : (ks : List Kind) (links : List Link) (bridge : Option (List ℕ)) (att : Att) (netns : List ℕ) (given : List Given) (ip_masq : Bool)
+    → (ip_masq ≡ true → has_kind kinds.Rules ks ≡ true)
     → list_all (fits ks links bridge att netns) (map RuleAppend (masquerade_rules ip_masq att given)) ≡ true
 fit-masquerades ks links bridge att netns given true kind = fit-rules ks links bridge att netns (masquerade_rules true att given) (kind refl) (own-masquerades true att given)
 fit-masquerades ks links bridge att netns given false kind = refl
 
 -- ---- a chained plugin
 
-at_most-one_step : (b : Bool) (calls : List Call) → b ≡ false → at_most_one changes_links calls ≡ true → (if b then not (list_any changes_links calls) else at_most_one changes_links calls) ≡ true
+at_most-one_step : (b : Bool) (calls : List Call) → b ≡ false → at_most_one changes_links calls ≡ true
+    → (if b then not (list_any changes_links calls) else at_most_one changes_links calls) ≡ true
 at_most-one_step b calls h g = rw h g
 
 pub at_most-none : (calls : List Call) → list_any changes_links calls ≡ false → at_most_one changes_links calls ≡ true
@@ -117,12 +134,14 @@ set-never : (sets : Bool) (calls : List Call) → list_any changes_links calls �
 set-never true calls h = at_most-none calls h
 set-never false calls h = grind (arith, h)
 
-pub none-every : {X : Type 0} (f : X → Call) → ((x : X) → changes_links (f x) ≡ false) → (xs : List X) → list_any changes_links (map f xs) ≡ false
+pub none-every : {X : Type 0} (f : X → Call) → ((x : X) → changes_links (f x) ≡ false) → (xs : List X)
+    → list_any changes_links (map f xs) ≡ false
 none-every f w [] = refl
 none-every f w (x ∷ xs) = grind (arith, w x, none-every f w xs)
 
 -- one that appends rules alone
-pub rule-calls : (p : ChainedPlugin) (att : Att) (netns : List ℕ) (mappings : List PortMapping) (ips : List IpEntry) (rules : List Rule) → p.calls att netns mappings ips ≡ map RuleAppend rules → has_kind kinds.Rules p.kinds ≡ true
+pub rule-calls : (p : ChainedPlugin) (att : Att) (netns : List ℕ) (mappings : List PortMapping) (ips : List IpEntry) (rules : List Rule)
+    → p.calls att netns mappings ips ≡ map RuleAppend rules → has_kind kinds.Rules p.kinds ≡ true
     → list_all (λ x. is_own att x.tag) rules ≡ true → AreChainedCalls p att netns mappings ips
 rule-calls p att netns mappings ips rules is kind own =
     let passes : (q : Call → Bool) → list_all q (map RuleAppend rules) ≡ true → list_all q (p.calls att netns mappings ips) ≡ true = λ q h. subst (λ calls. list_all q calls ≡ true) (sym is) h in
@@ -137,24 +156,28 @@ rule-calls p att netns mappings ips rules is kind own =
 
 -- ---- links
 
-pub link-there : (ns name : List ℕ) (tag : Tag) (l : Link) → l.ns ≡ ns → l.name ≡ name → l.tag ≡ tag → is_link_of ns name tag l ≡ true
+pub link-there : (ns name : List ℕ) (tag : Tag) (l : Link) → l.ns ≡ ns → l.name ≡ name → l.tag ≡ tag
+    → is_link_of ns name tag l ≡ true
 link-there ns name tag l a b t =
     rw (a, b, t) (grind (arith, nat_list_eq_equiv.refl ns, nat_list_eq_equiv.refl name, tag_eq-refl tag))
 
 -- the attachment has a link at a place where a link there has its tag
-pub own-at : (att : Att) (ns name : List ℕ) (links : List Link) → list_any (is_link_of ns name (Own att)) links ≡ true → list_any (is_own_at att (record { ns = ns; name = name })) links ≡ true
+pub own-at : (att : Att) (ns name : List ℕ) (links : List Link) → list_any (is_link_of ns name (Own att)) links ≡ true
+    → list_any (is_own_at att (record { ns = ns; name = name })) links ≡ true
 own-at att ns name links h = list_any-weaker (is_link_of ns name (Own att)) (is_own_at att (record { ns = ns; name = name })) (λ l t. let e = tag_eq-own att l.tag in grind (arith, t, e)) links h
 
 -- ---- what follows: before the leases
 
 -- no call that makes the interface lies on a link, and what it makes is a link
-pub interface-lies : (links : List Link) (bridge : Option (List ℕ)) (call : Call) → makes_interface bridge call ≡ true → lies_on links call ≡ true
+pub interface-lies : (links : List Link) (bridge : Option (List ℕ)) (call : Call) → makes_interface bridge call ≡ true
+    → lies_on links call ≡ true
 interface-lies links bridge (BridgeEnsure name mtu promisc) h = refl
 interface-lies links bridge (VethAdd host_end inner_end) h = refl
 interface-lies links bridge (MacvlanAdd link) h = refl
 interface-lies links bridge _ h = cc
 
-pub interface-kinds : (ks : List Kind) → has_kind kinds.Links ks ≡ true → (bridge : Option (List ℕ)) (call : Call) → makes_interface bridge call ≡ true → is_of_kinds ks call ≡ true
+pub interface-kinds : (ks : List Kind) → has_kind kinds.Links ks ≡ true → (bridge : Option (List ℕ)) (call : Call)
+    → makes_interface bridge call ≡ true → is_of_kinds ks call ≡ true
 interface-kinds ks there bridge (BridgeEnsure name mtu promisc) h = refl
 interface-kinds ks there bridge (VethAdd host_end inner_end) h = there
 interface-kinds ks there bridge (MacvlanAdd link) h = there
@@ -162,14 +185,16 @@ interface-kinds ks there bridge _ h = cc
 
 -- ---- what follows: after them
 
-one-as_many : (netns : List ℕ) (s : Share) (call : Call) → is_later_call netns call ≡ true → length (share_after_call s call).links ≡ length s.links
+one-as_many : (netns : List ℕ) (s : Share) (call : Call) → is_later_call netns call ≡ true
+    → length (share_after_call s call).links ≡ length s.links
 one-as_many netns s (VethAdd host_end inner_end) h = cc
 one-as_many netns s (MacvlanAdd link) h = cc
 one-as_many netns s (LinkSet att key mac mtu tx_qlen promisc allmulti) h = length-map s.links (set_link att key mac mtu tx_qlen promisc allmulti)
 one-as_many netns s _ h = refl
 
 -- they leave the number of links
-pub later-as_many : (netns : List ℕ) (s : Share) (calls : List Call) → list_all (is_later_call netns) calls ≡ true → length (share_after_calls s calls).links ≡ length s.links
+pub later-as_many : (netns : List ℕ) (s : Share) (calls : List Call) → list_all (is_later_call netns) calls ≡ true
+    → length (share_after_calls s calls).links ≡ length s.links
 later-as_many netns s [] h = refl
 later-as_many netns s (x ∷ xs) h =
     let both = and_parts (is_later_call netns x) (list_all (is_later_call netns) xs) h in

@@ -24,7 +24,8 @@ same-bridge_or_new host (Some link) bridge = λ no. refl
 same-bridge_or_new host None bridge = λ no. absurd (no refl)
 
 -- a step that is not done leaves the host, by the ways in which a call goes
-same-if : (b : Bool) (host : Host) (step : Host × Reply) (reply : Reply) → Same host step → Same host (if b then step else (host, reply))
+same-if : (b : Bool) (host : Host) (step : Host × Reply) (reply : Reply) → Same host step
+    → Same host (if b then step else (host, reply))
 same-if true host step reply h = h
 same-if false host step reply h = λ no. refl
 
@@ -37,7 +38,8 @@ same-there true reply host next = λ no. refl
 same-there false reply host next = λ no. absurd (no refl)
 
 -- a plugin's call that was not done leaves the host
-pub refused-same : (att : Att) (host : Host) (call : Call) → is_plugin_call_of att call ≡ true → Same host (apply host call)
+pub refused-same : (att : Att) (host : Host) (call : Call) → is_plugin_call_of att call ≡ true
+    → Same host (apply host call)
 refused-same att host (BridgeEnsure name mtu promisc) is = same-bridge_or_new host (find (is_host_link name) host.links) (new_bridge name mtu promisc)
 refused-same att host (GatewayEnsure bridge cidr) is =
     same-if (has_host_bridge host bridge) host _ _ (same-there (list_any (is_same_addr (new_gateway bridge cidr)) host.addresses) Done host _)
@@ -60,9 +62,11 @@ refused-same att host (SettingSet s) is =
 refused-same att host (CachePut own cached) is = same-there (list_any (λ c. is_own own c.tag) host.cached) _ host _
 refused-same att host _ is = cc
 
-same-lease_taken : (host : Host) (att : Att) (number : ℕ) (o : Option Addr) → ((a : Addr) → (lease_taken host att number o).1 ≡ Leased a → ⊥) → (lease_taken host att number o).0 ≡ host
+same-lease_taken : (host : Host) (att : Att) (number : ℕ) (o : Option Addr)
+    → ((a : Addr) → (lease_taken host att number o).1 ≡ Leased a → ⊥) → (lease_taken host att number o).0 ≡ host
 same-lease_taken host att number None h = refl
 same-lease_taken host att number (Some a) h = absurd (h a refl)
 
-pub refused-lease : (host : Host) (att : Att) (number : ℕ) (set : RangeSet) → ((a : Addr) → (lease_next_of host att number set).1 ≡ Leased a → ⊥) → (lease_next_of host att number set).0 ≡ host
+pub refused-lease : (host : Host) (att : Att) (number : ℕ) (set : RangeSet)
+    → ((a : Addr) → (lease_next_of host att number set).1 ≡ Leased a → ⊥) → (lease_next_of host att number set).0 ≡ host
 refused-lease host att number set h = same-lease_taken host att number (pick_of set (last_leased host att.network number) (leased_addresses host att.network)) h

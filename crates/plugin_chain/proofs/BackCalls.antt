@@ -14,7 +14,9 @@ use Rattle.plugin_chain.specs.Wanted.{chained_result, first_plugin_result, given
 abbrev pub PassesChained : (Call → Bool) → Att → List ℕ → List PortMapping → Chained → Type 0
 PassesChained p att netns mappings c = (ips : List IpEntry) → list_all p (chained_calls c att netns mappings ips) ≡ true
 
-passes-all_chained : (p : Call → Bool) (cs : List Chained) (att : Att) (netns : List ℕ) (mappings : List PortMapping) (prev : AddResult) → AllByRecursion (PassesChained p att netns mappings) cs → list_all p (all_chained_calls cs att netns mappings prev) ≡ true
+passes-all_chained : (p : Call → Bool) (cs : List Chained) (att : Att) (netns : List ℕ) (mappings : List PortMapping) (prev : AddResult)
+    → AllByRecursion (PassesChained p att netns mappings) cs
+    → list_all p (all_chained_calls cs att netns mappings prev) ≡ true
 passes-all_chained p [] att netns mappings prev w = refl
 passes-all_chained p (c ∷ cs) att netns mappings prev w =
     list_all-append p (chained_calls c att netns mappings prev.ips) (all_chained_calls cs att netns mappings (chained_result c prev)) (w.0 prev.ips) (passes-all_chained p cs att netns mappings (chained_result c prev) w.1)

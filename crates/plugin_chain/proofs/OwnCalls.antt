@@ -11,10 +11,12 @@ use Rattle.plugin_base.specs.Calls.{is_plugin_call_of}
 use Rattle.plugin_chain.specs.Wanted.{back_calls, calls_before}
 use Rattle.plugin_chain.proofs.{BackCalls.{PassesChained, passes-back}, PluginLaws.{chained_laws, first_laws}}
 
-pub own-before : (first : First) (att : Att) (netns : List ℕ) → list_all (is_plugin_call_of att) (calls_before first att netns) ≡ true
+pub own-before : (first : First) (att : Att) (netns : List ℕ)
+    → list_all (is_plugin_call_of att) (calls_before first att netns) ≡ true
 own-before first att netns = ((first_laws first).before att netns).own
 
-pub own-back : (list : NetList) (att : Att) (netns : List ℕ) (mappings : List PortMapping) (addrs : List Addr) → list_all (is_plugin_call_of att) (back_calls list att netns mappings addrs) ≡ true
+pub own-back : (list : NetList) (att : Att) (netns : List ℕ) (mappings : List PortMapping) (addrs : List Addr)
+    → list_all (is_plugin_call_of att) (back_calls list att netns mappings addrs) ≡ true
 own-back list att netns mappings addrs =
     passes-back (is_plugin_call_of att) list att netns mappings addrs (λ given. ((first_laws list.first).after att netns given).own)
     (each_of (PassesChained (is_plugin_call_of att) att netns mappings) list.chained (λ c ips. ((chained_laws c).calls att netns mappings ips).own)) (λ cached. att_eq-refl att)

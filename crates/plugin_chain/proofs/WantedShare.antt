@@ -19,7 +19,8 @@ use Rattle.plugin_chain.proofs.{GivenAddresses.chained-ips, PluginLaws.{chained_
 -- ---- the first plugin
 
 -- its calls before the leases add its links alone
-pub adds-links : (first : First) (att : Att) (netns : List ℕ) (s : Share) → share_after_calls s (calls_before first att netns) ≡ record s { links = s.links ++ (plugin_of first).links att netns }
+pub adds-links : (first : First) (att : Att) (netns : List ℕ) (s : Share)
+    → share_after_calls s (calls_before first att netns) ≡ record s { links = s.links ++ (plugin_of first).links att netns }
 adds-links first att netns s = (first_laws first).adds_before att netns s ∙ share_plus-links s ((plugin_of first).links att netns)
 
 made-after : (first : First) (att : Att) (netns : List ℕ) (given : List Given) (s : Share)
@@ -33,7 +34,8 @@ made-chained : (c : Chained) (att : Att) (netns : List ℕ) (mappings : List Por
     → share_after_calls s (chained_calls c att netns mappings ips) ≡ changed_by (chained_plugin_of c) att netns mappings ips s
 made-chained c att netns mappings ips s = (chained_laws c).adds att netns mappings ips s
 
-made-all_chained : (cs : List Chained) (att : Att) (netns : List ℕ) (mappings : List PortMapping) (prev : AddResult) (ips : List IpEntry) (s : Share) → prev.ips ≡ ips
+made-all_chained : (cs : List Chained) (att : Att) (netns : List ℕ) (mappings : List PortMapping) (prev : AddResult) (ips : List IpEntry) (s : Share)
+    → prev.ips ≡ ips
     → share_after_calls s (all_chained_calls cs att netns mappings prev)
     ≡ record s { links = all_links_after cs att netns s.links; rules = s.rules ++ flat_map (λ c. rules_of c att mappings ips) cs; settings = s.settings ++ flat_map (λ c. settings_of c att netns) cs }
 made-all_chained [] att netns mappings prev ips s is = rw (append-nil s.rules, append-nil s.settings) refl

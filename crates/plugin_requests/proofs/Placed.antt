@@ -16,7 +16,8 @@ use Rattle.plugin_requests.specs.{Adding.{chain_request, chain_requests}, Raw.{I
 
 -- ---- objects
 
-length-each : {A E : Type 0} (read : Data → Result A E) (ds : List Data) (xs : List A) → each read (items_of ds) ≡ Ok xs → length ds ≡ length xs
+length-each : {A E : Type 0} (read : Data → Result A E) (ds : List Data) (xs : List A) → each read (items_of ds) ≡ Ok xs
+    → length ds ≡ length xs
 length-each read [] xs is = ap length (ok_same is)
 length-each read (d ∷ ds) xs is =
     let first = goes (read d) _ xs is in
@@ -37,7 +38,8 @@ take-whole [] = refl
 take-whole (x ∷ xs) = ap (λ l. x ∷ l) (take-whole xs)
 
 -- a list with its first member apart
-pub first-and-rest : {A : Type 0} (xs : List A) (x : A) (rest : List A) → 1 ≤ length xs → x ≡ slice_index_or xs 0 x → rest ≡ slice_range xs 1 (length xs) → xs ≡ x ∷ rest
+pub first-and-rest : {A : Type 0} (xs : List A) (x : A) (rest : List A) → 1 ≤ length xs → x ≡ slice_index_or xs 0 x
+    → rest ≡ slice_range xs 1 (length xs) → xs ≡ x ∷ rest
 first-and-rest [] x rest some first others = absurd (omega (arith, some))
 first-and-rest (y ∷ ys) x rest some first others =
     let left : length (y ∷ ys) - 1 ≡ length ys = omega arith in
@@ -70,12 +72,14 @@ requests_left-placed list mappings first before (c ∷ cs) (d ∷ ds) k all even
     ∙ ap (λ r. r ∷ scan (λ n x. n + 1) (chain_request list mappings first) (k + 1) ds) (sym here)
 
 -- the first request, and those that are left
-pub requests-begin : (list : NetList) (mappings : List PortMapping) (first : AddResult) (d : Data) (ds : List Data) → length ds ≡ length list.chained
+pub requests-begin : (list : NetList) (mappings : List PortMapping) (first : AddResult) (d : Data) (ds : List Data)
+    → length ds ≡ length list.chained
     → request_data list d None mappings None ∷ requests_left list mappings list.chained ds first ≡ scan (λ n d. n + 1) (chain_request list mappings first) 0 (d ∷ ds)
 requests-begin list mappings first d ds even =
     ap (λ l. request_data list d None mappings None ∷ l) (requests_left-placed list mappings first [] list.chained ds 1 refl even refl)
 
-map-push : {A B : Type 0} (f : A → B) (xs : List A) (x : A) (ys : List B) → map f (xs ++ x ∷ []) ++ ys ≡ map f xs ++ f x ∷ ys
+map-push : {A B : Type 0} (f : A → B) (xs : List A) (x : A) (ys : List B)
+    → map f (xs ++ x ∷ []) ++ ys ≡ map f xs ++ f x ∷ ys
 map-push f [] x ys = refl
 map-push f (w ∷ xs) x ys = ap (λ l. f w ∷ l) (map-push f xs x ys)
 

@@ -38,7 +38,8 @@ plugins_at-found : (d : Data) (ds : Items) → plugins_at d ≡ Ok ds → get (c
 unfolding plugins_at
 plugins_at-found d ds is = plugins_of-found (get (codes "plugins") d) ds is
 
-all_objects : (ds : List Data) → items_have_float (items_of ds) ≡ false → items_depth (items_of ds) + 2 ≤ max_depth → All IsPluginObject ds
+all_objects : (ds : List Data) → items_have_float (items_of ds) ≡ false → items_depth (items_of ds) + 2 ≤ max_depth
+    → All IsPluginObject ds
 all_objects [] whole shallow = All-nil IsPluginObject
 all_objects (d ∷ ds) whole shallow =
     let parts = or_parts (has_float d) _ whole in
@@ -46,7 +47,8 @@ all_objects (d ∷ ds) whole shallow =
 
 -- ---- a list that is read
 
-pub raw_is : (bytes : List ℕ) (d : Data) (list : NetList) (ds : List Data) → ((bytes : List ℕ) (list : NetList) → list_of bytes ≡ Ok list → IsWellFormedList list)
+pub raw_is : (bytes : List ℕ) (d : Data) (list : NetList) (ds : List Data)
+    → ((bytes : List ℕ) (list : NetList) → list_of bytes ≡ Ok list → IsWellFormedList list)
     → read_or_refused (json_of bytes) ≡ Ok d → network_list_at d ≡ Ok list → plugins_at d ≡ Ok (items_of ds) → has_float d ≡ false → depth d ≤ max_depth → IsRaw (record { list = list; objects = ds })
 unfolding list_of each_plugin_at
 raw_is bytes d list ds well_formed json is plugins whole shallow =
@@ -58,14 +60,16 @@ raw_is bytes d list ds well_formed json is plugins whole shallow =
       objects = all_objects ds (get-whole (codes "plugins") d (array (items_of ds)) whole there) (omega (arith, deeper, shallow));
     }
 
-pub raw_of-ok : (bytes : List ℕ) (d : Data) (list : NetList) (ds : List Data) → read_or_refused (json_of bytes) ≡ Ok d → network_list_at d ≡ Ok list → plugins_at d ≡ Ok (items_of ds)
+pub raw_of-ok : (bytes : List ℕ) (d : Data) (list : NetList) (ds : List Data) → read_or_refused (json_of bytes) ≡ Ok d
+    → network_list_at d ≡ Ok list → plugins_at d ≡ Ok (items_of ds)
     → raw_of bytes ≡ Ok (record { list = list; objects = ds })
 unfolding raw_of raw_at
 raw_of-ok bytes d list ds json is plugins = rw (json, is, plugins) (ap (λ es. Ok (record { list = list; objects = es })) (objects_of-items_of ds))
 
 -- ---- its refusals
 
-by_list : (list : Result NetList ConfError) (plugins : Result Items ConfError) → ((l : NetList) → list ≡ Ok l → (ds : Items) × (plugins ≡ Ok ds))
+by_list : (list : Result NetList ConfError) (plugins : Result Items ConfError)
+    → ((l : NetList) → list ≡ Ok l → (ds : Items) × (plugins ≡ Ok ds))
     → list ≡ ok_map (λ (raw : RawView). raw.list) (list >>= λ l. plugins >>= λ ds. Ok (record { list = l; objects = objects_of ds }))
 by_list (Ok l) plugins there = let found = there l refl in rw (found.1) refl
 by_list (Err e) plugins there = refl
@@ -79,7 +83,8 @@ raw_at-list d = by_list (network_list_at d) (plugins_at d) found
         let objects = goes (plugins_at d) (each plugin_by_type_at) (plugins_in list.first list.chained) (network_list_at-each d list is) in
         (objects.value, objects.first)
 
-after_json : (json : Result Data ConfError) → (json >>= network_list_at) ≡ ok_map (λ (raw : RawView). raw.list) (json >>= raw_at)
+after_json : (json : Result Data ConfError)
+    → (json >>= network_list_at) ≡ ok_map (λ (raw : RawView). raw.list) (json >>= raw_at)
 after_json (Ok d) = raw_at-list d
 after_json (Err e) = refl
 

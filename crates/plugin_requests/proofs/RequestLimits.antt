@@ -43,7 +43,8 @@ valid_is_whole att = search puts_are_whole depth 8
 runtime_is_whole : (mappings : List PortMapping) → members_have_float (runtime_members mappings) ≡ false
 runtime_is_whole mappings = put_list_is_whole mapping_data (codes "portMappings") mappings no_members mapping_is_whole refl
 
-pub request_is_whole : (list : NetList) (d : Data) (prev : Option AddResult) (mappings : List PortMapping) (valid : Option (List ValidAtt)) → IsPluginObject d
+pub request_is_whole : (list : NetList) (d : Data) (prev : Option AddResult) (mappings : List PortMapping) (valid : Option (List ValidAtt))
+    → IsPluginObject d
     → members_have_float (request_members list d prev mappings valid) ≡ false
 unfolding request_members
 request_is_whole list d prev mappings valid object =
@@ -83,7 +84,8 @@ prev_depth : (r : AddResult) → depth (result_data r) ≤ 125
 prev_depth r = let result = result_depth r in omega (arith, result)
 
 -- a line may have the request in an object
-pub request_depth : (list : NetList) (d : Data) (prev : Option AddResult) (mappings : List PortMapping) (valid : Option (List ValidAtt)) → IsPluginObject d
+pub request_depth : (list : NetList) (d : Data) (prev : Option AddResult) (mappings : List PortMapping) (valid : Option (List ValidAtt))
+    → IsPluginObject d
     → members_depth (request_members list d prev mappings valid) + 2 ≤ max_depth
 unfolding request_members
 request_depth list d prev mappings valid object =

@@ -25,24 +25,29 @@ use Rattle.pod_file.specs.declared.place.Place.TheVariants.{InRound}
 abbrev HasTable : Verb → Option Table → Type 0
 HasTable verb table = needs_table verb ≡ true → is_some table ≡ true
 
-table_or-ok : (named : Option Table) (e : PodError) (verb : Verb) (table : Option Table) → ok_or (option_map Some named) e ≡ Ok table → HasTable verb table
+table_or-ok : (named : Option Table) (e : PodError) (verb : Verb) (table : Option Table)
+    → ok_or (option_map Some named) e ≡ Ok table → HasTable verb table
 table_or-ok None e verb table is = cc
 table_or-ok (Some named) e verb table is = subst (HasTable verb) (ok_same is) (λ flush. refl)
 
-no_table-ok : (needed : Bool) (e : PodError) (table : Option Table) → (if needed then Err e else Ok None) ≡ Ok table → needed ≡ true → is_some table ≡ true
+no_table-ok : (needed : Bool) (e : PodError) (table : Option Table) → (if needed then Err e else Ok None) ≡ Ok table
+    → needed ≡ true → is_some table ≡ true
 no_table-ok true e table is holds = cc
 no_table-ok false e table is holds = cc
 
-table_of-ok : (place : Place) (verb : Verb) (f : Field (List ℕ)) (table : Option Table) → table_of place verb f ≡ Ok table → HasTable verb table
+table_of-ok : (place : Place) (verb : Verb) (f : Field (List ℕ)) (table : Option Table)
+    → table_of place verb f ≡ Ok table → HasTable verb table
 table_of-ok place verb Absent table is = no_table-ok (needs_table verb) _ table is
 table_of-ok place verb WrongKind table is = cc
 table_of-ok place verb (Here text) table is = table_or-ok (table_named text) _ verb table is
 
-table_at-ok : (place : Place) (verb : Verb) (d : Data) (table : Option Table) → table_at place verb d ≡ Ok table → HasTable verb table
+table_at-ok : (place : Place) (verb : Verb) (d : Data) (table : Option Table) → table_at place verb d ≡ Ok table
+    → HasTable verb table
 unfolding table_at
 table_at-ok place verb d table is = table_of-ok place verb (text_field (codes "table") d) table is
 
-stop_of-ok : (place : Place) (f : Field ℕ) (stop : Option ℕ) → ((n : ℕ) → f ≡ Here n → has_32_bits n ≡ true) → stop_of place f ≡ Ok stop → IsStop stop
+stop_of-ok : (place : Place) (f : Field ℕ) (stop : Option ℕ) → ((n : ℕ) → f ≡ Here n → has_32_bits n ≡ true)
+    → stop_of place f ≡ Ok stop → IsStop stop
 stop_of-ok place Absent stop fits is = subst IsStop (ok_same is) tt
 stop_of-ok place WrongKind stop fits is = cc
 stop_of-ok place (Here n) stop fits is = subst IsStop (ok_same is) (fits n refl)
@@ -55,16 +60,19 @@ fault_of-ok : (place : Place) (o : Option ℕ) (n : ℕ) → fault_of place o �
 fault_of-ok place None n is = cc
 fault_of-ok place (Some m) n is = let test = passed (is_call_number m) m n _ is in subst IsCallNumber test.1 test.0
 
-faults_of-ok : (place : Place) (f : Field Items) (faults : List ℕ) → list_or (wrong_key place (codes "faults")) (fault_at place) f ≡ Ok faults → All IsCallNumber faults
+faults_of-ok : (place : Place) (f : Field Items) (faults : List ℕ)
+    → list_or (wrong_key place (codes "faults")) (fault_at place) f ≡ Ok faults → All IsCallNumber faults
 faults_of-ok place Absent faults is = subst (All IsCallNumber) (ok_same is) (All-nil IsCallNumber)
 faults_of-ok place WrongKind faults is = cc
 faults_of-ok place (Here ds) faults is = each_all (fault_at place) IsCallNumber (λ d n read. fault_of-ok place (u32_of d) n read) ds faults is
 
-pub faults_at-ok : (place : Place) (d : Data) (faults : List ℕ) → faults_at place d ≡ Ok faults → All IsCallNumber faults
+pub faults_at-ok : (place : Place) (d : Data) (faults : List ℕ) → faults_at place d ≡ Ok faults
+    → All IsCallNumber faults
 unfolding faults_at list_at
 faults_at-ok place d faults is = faults_of-ok place (list_field (codes "faults") d) faults is
 
-command_at-ok : (place : Place) (d : Data) (command : Command) → command_at place d ≡ Ok command → IsWellFormedCommand command
+command_at-ok : (place : Place) (d : Data) (command : Command) → command_at place d ≡ Ok command
+    → IsWellFormedCommand command
 unfolding command_at
 command_at-ok place d command is =
     let form = goes (object_or (wrong (command_path place)) d) _ command is in
@@ -106,18 +114,21 @@ rounds_at-ok d rounds is = rounds_of-ok (list_field (codes "rounds") d) rounds i
 
 -- ---- numbers change nothing else
 
-pub length-scan : {S X Y : Type 0} (next : S → X → S) (out : S → X → Y) (s : S) (xs : List X) → length (scan next out s xs) ≡ length xs
+pub length-scan : {S X Y : Type 0} (next : S → X → S) (out : S → X → Y) (s : S) (xs : List X)
+    → length (scan next out s xs) ≡ length xs
 length-scan next out s [] = refl
 length-scan next out s (x ∷ xs) = ap suc (length-scan next out (next s x) xs)
 
 length-round_numbered : (first : ℕ) (commands : List Command) → length (round_numbered first commands) ≡ length commands
 length-round_numbered first commands = length-scan (λ (n : ℕ) (c : Command). n + 1) numbered first commands
 
-exclusive-round_numbered : (first : ℕ) (commands : List Command) → list_any is_exclusive (round_numbered first commands) ≡ list_any is_exclusive commands
+exclusive-round_numbered : (first : ℕ) (commands : List Command)
+    → list_any is_exclusive (round_numbered first commands) ≡ list_any is_exclusive commands
 exclusive-round_numbered first [] = refl
 exclusive-round_numbered first (c ∷ cs) = ap (λ more. is_exclusive c || more) (exclusive-round_numbered (first + 1) cs)
 
-commands-round_numbered : (first : ℕ) (commands : List Command) → AreCommands commands → AreCommands (round_numbered first commands)
+commands-round_numbered : (first : ℕ) (commands : List Command) → AreCommands commands
+    → AreCommands (round_numbered first commands)
 commands-round_numbered first [] good = All-nil IsWellFormedCommand
 commands-round_numbered first (c ∷ cs) good =
     let one = All-head IsWellFormedCommand c cs good in
@@ -131,19 +142,22 @@ short_by false true either is = cc
 short_by false false either is = cc
 
 -- an exclusive command that is alone is the only one
-pub one_alone : (commands : List Command) → is_alone commands ≡ true → list_any is_exclusive commands ≡ true → length commands ≡ 1
+pub one_alone : (commands : List Command) → is_alone commands ≡ true → list_any is_exclusive commands ≡ true
+    → length commands ≡ 1
 one_alone [] alone some = cc
 one_alone (c ∷ cs) alone some =
     let short : suc (length cs) ≤ 1 = grind (arith, nat_tests, short_by (nat_le (suc (length cs)) 1) (list_any is_exclusive (c ∷ cs)) alone some) in
     omega arith
 
-pub round_numbered-ok : (first : ℕ) (commands : List Command) → AreCommands commands → is_alone commands ≡ true → IsWellFormedRound (round_numbered first commands)
+pub round_numbered-ok : (first : ℕ) (commands : List Command) → AreCommands commands → is_alone commands ≡ true
+    → IsWellFormedRound (round_numbered first commands)
 round_numbered-ok first commands good alone = record {
   each = commands-round_numbered first commands good;
   alone = ap₂ (λ n some. nat_le n 1 || not some) (length-round_numbered first commands) (exclusive-round_numbered first commands) ∙ alone;
 }
 
-pub all_numbered-ok : (first place : ℕ) (rounds : List (List Command)) → All AreCommands rounds → each_alone place rounds ≡ Ok tt → All IsWellFormedRound (all_numbered first rounds)
+pub all_numbered-ok : (first place : ℕ) (rounds : List (List Command)) → All AreCommands rounds
+    → each_alone place rounds ≡ Ok tt → All IsWellFormedRound (all_numbered first rounds)
 all_numbered-ok first place [] good alone = All-nil IsWellFormedRound
 all_numbered-ok first place (r ∷ rs) good alone =
     let here = went_on (is_alone r) (each_alone (place + 1) rs) tt _ alone in
@@ -151,10 +165,12 @@ all_numbered-ok first place (r ∷ rs) good alone =
     (round_numbered-ok first r (All-head AreCommands r rs good) here.0)
     (all_numbered-ok (first + length r) (place + 1) rs (All-tail AreCommands r rs good) here.1)
 
-pub length-all_numbered : (first : ℕ) (rounds : List (List Command)) → length (all_numbered first rounds) ≡ length rounds
+pub length-all_numbered : (first : ℕ) (rounds : List (List Command))
+    → length (all_numbered first rounds) ≡ length rounds
 length-all_numbered first rounds = length-scan (λ (n : ℕ) (commands : List Command). n + length commands) round_numbered first rounds
 
-pub count-all_numbered : (first : ℕ) (rounds : List (List Command)) → length (in_file_order (all_numbered first rounds)) ≡ length (in_file_order rounds)
+pub count-all_numbered : (first : ℕ) (rounds : List (List Command))
+    → length (in_file_order (all_numbered first rounds)) ≡ length (in_file_order rounds)
 count-all_numbered first [] = refl
 count-all_numbered first (r ∷ rs) =
     length-append (round_numbered first r) (in_file_order (all_numbered (first + length r) rs))
@@ -167,7 +183,8 @@ count-all_numbered first (r ∷ rs) =
 abbrev pub AreFrom : ℕ → List Command → Type 0
 AreFrom first commands = (n : ℕ) (command : Command) → slice_get commands n ≡ Some command → command.number ≡ first + n
 
-round-from : (first : ℕ) (commands more : List Command) → AreFrom (first + length commands) more → AreFrom first (round_numbered first commands ++ more)
+round-from : (first : ℕ) (commands more : List Command) → AreFrom (first + length commands) more
+    → AreFrom first (round_numbered first commands ++ more)
 round-from first [] more rest n command is = let here = rest n command is in omega arith
 round-from first (c ∷ cs) more rest zero command is =
     let same : numbered first c ≡ command = cc in

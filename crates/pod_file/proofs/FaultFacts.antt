@@ -26,7 +26,8 @@ or_none : (before : Bool) → before ≡ (before || (false || false))
 or_none true = refl
 or_none false = refl
 
-pub before-more : (old new numbers : List ℕ) (number : ℕ) → 0 < number → AreBefore old numbers → HasOneMore nat_cmp (has old) (has new) (number - 1) → AreBefore new (numbers ++ number ∷ [])
+pub before-more : (old new numbers : List ℕ) (number : ℕ) → 0 < number → AreBefore old numbers
+    → HasOneMore nat_cmp (has old) (has new) (number - 1) → AreBefore new (numbers ++ number ∷ [])
 before-more old new numbers number from_1 before more made =
     are_after-has made new
     ∙ more made
@@ -35,7 +36,8 @@ before-more old new numbers number from_1 before more made =
     ∙ sym (list_any-append (λ k. k == made + 1) numbers (number ∷ []))
 
 -- no call has the number 0
-pub before-zero : (old numbers : List ℕ) (number : ℕ) → number ≤ 0 → AreBefore old numbers → AreBefore old (numbers ++ number ∷ [])
+pub before-zero : (old numbers : List ℕ) (number : ℕ) → number ≤ 0 → AreBefore old numbers
+    → AreBefore old (numbers ++ number ∷ [])
 before-zero old numbers number zero before made =
     before made
     ∙ or_none (list_any (λ k. k == made + 1) numbers)

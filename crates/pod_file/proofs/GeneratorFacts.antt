@@ -24,7 +24,8 @@ use Rattle.pod_file.specs.declared.{error.PodError.PodError, generator.Container
 -- ---- containers
 
 -- one more container
-pub containers-more : (n : ℕ) → map container_of (range_with_len 1 (n + 1)) ≡ map container_of (range_with_len 1 n) ++ container_of (n + 1) ∷ []
+pub containers-more : (n : ℕ)
+    → map container_of (range_with_len 1 (n + 1)) ≡ map container_of (range_with_len 1 n) ++ container_of (n + 1) ∷ []
 containers-more n = map-range_with_len_more container_of 1 n (n + 1) (omega arith)
 
 pub length-containers : (n : ℕ) → length (containers n) ≡ n
@@ -33,7 +34,8 @@ length-containers n = length-map-range_with_len container_of 1 n
 
 -- ---- few commands
 
-filter_step : {X : Type 0} (b : Bool) (x : X) (kept xs : List X) → length kept ≤ length xs → length (cond b (x ∷ kept) kept) ≤ suc (length xs)
+filter_step : {X : Type 0} (b : Bool) (x : X) (kept xs : List X) → length kept ≤ length xs
+    → length (cond b (x ∷ kept) kept) ≤ suc (length xs)
 filter_step true x kept xs h = omega arith
 filter_step false x kept xs h = omega arith
 
@@ -41,11 +43,13 @@ length-filter-le : {X : Type 0} (p : X → Bool) (xs : List X) → length (filte
 length-filter-le p [] = omega arith
 length-filter-le p (x ∷ xs) = filter_step (p x) x (filter p xs) xs (length-filter-le p xs)
 
-count_of_five : (a b d g k : List Command) → length (in_file_order (a ∷ b ∷ d ∷ g ∷ k ∷ [])) ≡ length a + length b + length d + length g + length k
+count_of_five : (a b d g k : List Command)
+    → length (in_file_order (a ∷ b ∷ d ∷ g ∷ k ∷ [])) ≡ length a + length b + length d + length g + length k
 count_of_five a b d g k =
     omega (arith, length-append a (in_file_order (b ∷ d ∷ g ∷ k ∷ [])), length-append b (in_file_order (d ∷ g ∷ k ∷ [])), length-append d (in_file_order (g ∷ k ∷ [])), length-append g (in_file_order (k ∷ [])), length-append k [])
 
-pub count-rounds_for : (cs : List Container) → length (in_file_order (rounds_for cs)) ≡ length cs + length cs + length (deleted_of cs) + 1 + length (kept_of cs)
+pub count-rounds_for : (cs : List Container)
+    → length (in_file_order (rounds_for cs)) ≡ length cs + length cs + length (deleted_of cs) + 1 + length (kept_of cs)
 count-rounds_for cs =
     let all = count_of_five (map (command_of Add) cs) (map (command_of Check) cs) (map (command_of Del) (deleted_of cs)) (collection_of (kept_of cs) ∷ []) (map (command_of Check) (kept_of cs)) in
     omega (arith, all, length-map cs (command_of Add), length-map cs (command_of Check), length-map (deleted_of cs) (command_of Del), length-map (kept_of cs) (command_of Check))
@@ -68,7 +72,8 @@ commands_of-ok verb (c ∷ cs) none = All-cons IsWellFormedCommand (command_of v
 collection_of-ok : (kept : List Container) → AreCommands (collection_of kept ∷ [])
 collection_of-ok kept = All-cons IsWellFormedCommand (collection_of kept) [] (record { table = λ needs. cc; stop = tt; faults = All-nil IsCallNumber }) (All-nil IsWellFormedCommand)
 
-five-ok : (a b d g k : List Command) → AreCommands a → AreCommands b → AreCommands d → AreCommands g → AreCommands k → All AreCommands (a ∷ b ∷ d ∷ g ∷ k ∷ [])
+five-ok : (a b d g k : List Command) → AreCommands a → AreCommands b → AreCommands d → AreCommands g → AreCommands k
+    → All AreCommands (a ∷ b ∷ d ∷ g ∷ k ∷ [])
 five-ok a b d g k first second third fourth fifth =
     All-cons AreCommands a (b ∷ d ∷ g ∷ k ∷ []) first
     (All-cons AreCommands b (d ∷ g ∷ k ∷ []) second
@@ -83,21 +88,24 @@ rounds_for-commands cs =
 
 -- ---- the collection stands alone
 
-none_exclusive : (verb : Verb) (cs : List Container) → is_exclusive_verb verb ≡ false → list_any is_exclusive (map (command_of verb) cs) ≡ false
+none_exclusive : (verb : Verb) (cs : List Container) → is_exclusive_verb verb ≡ false
+    → list_any is_exclusive (map (command_of verb) cs) ≡ false
 none_exclusive verb [] shares = refl
 none_exclusive verb (c ∷ cs) shares = rw shares (none_exclusive verb cs shares)
 
 alone_by : (commands : List Command) → list_any is_exclusive commands ≡ false → is_alone commands ≡ true
 alone_by commands none = or_right (nat_le (length commands) 1) (not (list_any is_exclusive commands)) (rw none refl)
 
-commands_of-alone : (verb : Verb) (cs : List Container) → is_exclusive_verb verb ≡ false → is_alone (map (command_of verb) cs) ≡ true
+commands_of-alone : (verb : Verb) (cs : List Container) → is_exclusive_verb verb ≡ false
+    → is_alone (map (command_of verb) cs) ≡ true
 commands_of-alone verb cs shares = alone_by (map (command_of verb) cs) (none_exclusive verb cs shares)
 
 goes_on : (alone : Bool) (more wrong : Result ⊤ PodError) → alone ≡ true → (if alone then more else wrong) ≡ more
 goes_on true more wrong h = refl
 goes_on false more wrong h = cc
 
-five_alone : (a b d g k : List Command) → is_alone a ≡ true → is_alone b ≡ true → is_alone d ≡ true → is_alone g ≡ true → is_alone k ≡ true → each_alone 0 (a ∷ b ∷ d ∷ g ∷ k ∷ []) ≡ Ok tt
+five_alone : (a b d g k : List Command) → is_alone a ≡ true → is_alone b ≡ true → is_alone d ≡ true → is_alone g ≡ true
+    → is_alone k ≡ true → each_alone 0 (a ∷ b ∷ d ∷ g ∷ k ∷ []) ≡ Ok tt
 five_alone a b d g k first second third fourth fifth =
     goes_on (is_alone a) _ _ first ∙ goes_on (is_alone b) _ _ second ∙ goes_on (is_alone d) _ _ third ∙ goes_on (is_alone g) _ _ fourth ∙ goes_on (is_alone k) _ _ fifth
 
@@ -106,7 +114,8 @@ rounds_for-alone cs =
     five_alone (map (command_of Add) cs) (map (command_of Check) cs) (map (command_of Del) (deleted_of cs)) (collection_of (kept_of cs) ∷ []) (map (command_of Check) (kept_of cs))
     (commands_of-alone Add cs refl) (commands_of-alone Check cs refl) (commands_of-alone Del (deleted_of cs) refl) refl (commands_of-alone Check (kept_of cs) refl)
 
-pub rounds_for-ok : (cs : List Container) → length cs ≤ most_containers → AreWellFormedRounds (all_numbered 1 (rounds_for cs))
+pub rounds_for-ok : (cs : List Container) → length cs ≤ most_containers
+    → AreWellFormedRounds (all_numbered 1 (rounds_for cs))
 rounds_for-ok cs few = numbered_by-ok (rounds_for cs) (rounds_for-commands cs) (rounds_for-few cs few) (rounds_for-alone cs)
 
 -- ---- the namespaces have names, each of its own
@@ -126,7 +135,8 @@ netns_of-differ m k below small =
     let numbers : m ≡ k = decimal_injective m k (omega arith) small decimals in
     omega arith)
 
-none_later : (m a n : ℕ) → m < a → a + n ≤ 2 ^ 64 → list_any (bytes_eq (netns_of m)) (map netns_of (range_with_len a n)) ≡ false
+none_later : (m a n : ℕ) → m < a → a + n ≤ 2 ^ 64
+    → list_any (bytes_eq (netns_of m)) (map netns_of (range_with_len a n)) ≡ false
 none_later m a zero below small = refl
 none_later m a (suc n) below small =
     rw (netns_of-differ m a below (omega arith)) (none_later m (a + 1) n (omega arith) (omega arith))
@@ -140,7 +150,8 @@ netns_of-named : (a n : ℕ) → list_all (λ name. not (is_host_ns name)) (map 
 netns_of-named a zero = refl
 netns_of-named a (suc n) = grind (arith, nat_tests, netns_of-named (a + 1) n)
 
-namespaces_of-containers : (a n : ℕ) → namespaces_of (map container_of (range_with_len a n)) ≡ map netns_of (range_with_len a n)
+namespaces_of-containers : (a n : ℕ)
+    → namespaces_of (map container_of (range_with_len a n)) ≡ map netns_of (range_with_len a n)
 namespaces_of-containers a zero = refl
 namespaces_of-containers a (suc n) = ap (λ more. netns_of a ∷ more) (namespaces_of-containers (a + 1) n)
 
@@ -203,7 +214,8 @@ length-kept_of (suc n) =
     let all : length (kept_of (map container_of (range_with_len 1 (n + 1)))) ≡ (n + 1 + 3) / 4 = omega (arith, more, step, before) in
     subst (λ m. length (kept_of (map container_of (range_with_len 1 m))) ≡ (m + 3) / 4) (add-one n) all
 
-pub generated-count : (n : ℕ) → length (in_file_order (pods_for (containers n)).rounds) ≡ n + n + n / 2 + 1 + (n + 3) / 4
+pub generated-count : (n : ℕ)
+    → length (in_file_order (pods_for (containers n)).rounds) ≡ n + n + n / 2 + 1 + (n + 3) / 4
 unfolding containers
 generated-count n =
     let cs = map container_of (range_with_len 1 n) in
@@ -218,7 +230,9 @@ commands_of-named : (verb : Verb) (cs : List Container) → list_all is_named (m
 commands_of-named verb [] = refl
 commands_of-named verb (c ∷ cs) = commands_of-named verb cs
 
-five-named : (a b d g k : List Command) → list_all is_named a ≡ true → list_all is_named b ≡ true → list_all is_named d ≡ true → list_all is_named g ≡ true → list_all is_named k ≡ true → list_all is_named (in_file_order (a ∷ b ∷ d ∷ g ∷ k ∷ [])) ≡ true
+five-named : (a b d g k : List Command) → list_all is_named a ≡ true → list_all is_named b ≡ true
+    → list_all is_named d ≡ true → list_all is_named g ≡ true → list_all is_named k ≡ true
+    → list_all is_named (in_file_order (a ∷ b ∷ d ∷ g ∷ k ∷ [])) ≡ true
 five-named a b d g k first second third fourth fifth =
     list_all-append is_named a (in_file_order (b ∷ d ∷ g ∷ k ∷ [])) first
     (list_all-append is_named b (in_file_order (d ∷ g ∷ k ∷ [])) second
@@ -226,11 +240,13 @@ five-named a b d g k first second third fourth fifth =
     (list_all-append is_named g (in_file_order (k ∷ [])) fourth
     (list_all-append is_named k [] fifth refl))))
 
-named-round_numbered : (first : ℕ) (commands : List Command) → list_all is_named (round_numbered first commands) ≡ list_all is_named commands
+named-round_numbered : (first : ℕ) (commands : List Command)
+    → list_all is_named (round_numbered first commands) ≡ list_all is_named commands
 named-round_numbered first [] = refl
 named-round_numbered first (c ∷ cs) = ap (λ more. is_named c && more) (named-round_numbered (first + 1) cs)
 
-named-all_numbered : (first : ℕ) (rounds : List (List Command)) → list_all is_named (in_file_order (all_numbered first rounds)) ≡ list_all is_named (in_file_order rounds)
+named-all_numbered : (first : ℕ) (rounds : List (List Command))
+    → list_all is_named (in_file_order (all_numbered first rounds)) ≡ list_all is_named (in_file_order rounds)
 named-all_numbered first [] = refl
 named-all_numbered first (r ∷ rs) =
     folds.list_all-append is_named (round_numbered first r) (in_file_order (all_numbered (first + length r) rs))

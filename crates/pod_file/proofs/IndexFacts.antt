@@ -34,14 +34,16 @@ names_tie s t = sym (texts_ties s t)
 places_tie : (p q : LinkPlace) → is_eq (link_place_cmp p q) ≡ (bytes_eq p.0 q.0 && bytes_eq p.1 q.1)
 places_tie p q = sym (both_tied _ _ (name_cmp p.0 q.0) (name_cmp p.1 q.1) (texts_ties p.0 q.0) (texts_ties p.1 q.1))
 
-pub names-more : (has more : List ℕ → Bool) (names : List (List ℕ)) (name : List ℕ) → HasNames has names → HasOneMore name_cmp has more name → HasNames more (names ++ name ∷ [])
+pub names-more : (has more : List ℕ → Bool) (names : List (List ℕ)) (name : List ℕ) → HasNames has names
+    → HasOneMore name_cmp has more name → HasNames more (names ++ name ∷ [])
 names-more has more names name old new q =
     new q
     ∙ ap₂ (λ here before. cond here true before) (names_tie name q ∙ bytes_eq-flip name q) (old q)
     ∙ at_end (bytes_eq q name) (list_any (bytes_eq q) names)
     ∙ sym (list_any-append (bytes_eq q) names (name ∷ []))
 
-pub places-more : (has more : LinkPlace → Bool) (links : List Link) (link : Link) → HasPlaces has links → HasOneMore link_place_cmp has more (link.ns, link.name) → HasPlaces more (links ++ link ∷ [])
+pub places-more : (has more : LinkPlace → Bool) (links : List Link) (link : Link) → HasPlaces has links
+    → HasOneMore link_place_cmp has more (link.ns, link.name) → HasPlaces more (links ++ link ∷ [])
 places-more has more links link old new ns name =
     new (ns, name)
     ∙ ap₂ (λ here before. cond here true before) (places_tie (link.ns, link.name) (ns, name)) (old ns name)

@@ -13,7 +13,8 @@ scan_next next out [] d s i within = absurd (omega arith)
 scan_next next out (x ∷ xs) d s zero within = refl
 scan_next next out (x ∷ xs) d s (suc i) within = ap (λ more. x ∷ more) (scan_next next out xs d s i (omega arith))
 
-pub scan-next : {S X : Type 0} (next : S → X → S) (out : S → X → X) (xs : List X) (d : X) (s : S) (i : ℕ) → i < length xs
+pub scan-next : {S X : Type 0} (next : S → X → S) (out : S → X → X) (xs : List X) (d : X) (s : S) (i : ℕ)
+    → i < length xs
     → take (i + 1) (slice_set xs i (out s (slice_index_or xs i d))) ++ scan next out (next s (slice_index_or xs i d)) (drop (i + 1) (slice_set xs i (out s (slice_index_or xs i d))))
     ≡ take i xs ++ scan next out s (drop i xs)
 scan-next next out xs d s i within = rw add-one (scan_next next out xs d s i within)

@@ -19,7 +19,8 @@ use Rattle.pod_file.specs.Opening.{is_refused_name, namespace_at, next_namespace
 use Rattle.pod_file.specs.{Opening.{opening_of, opening_at}, WellFormed.IsOpening, declared.error.PodError.PodError}
 
 -- what the empty list keeps, and each list with one more that is read, is kept by the whole
-listed_of-ok : {A : Type 0} (P : List A → Type 0) (path : List ℕ) (read : List A → Data → Result A PodError) → P [] → ((before : List A) (d : Data) (x : A) → P before → read before d ≡ Ok x → P (before ++ x ∷ []))
+listed_of-ok : {A : Type 0} (P : List A → Type 0) (path : List ℕ) (read : List A → Data → Result A PodError) → P []
+    → ((before : List A) (d : Data) (x : A) → P before → read before d ≡ Ok x → P (before ++ x ∷ []))
     → (f : Field Items) (xs : List A) → listed_of path read f ≡ Ok xs → P xs
 listed_of-ok P path read none step Absent xs is = subst P (ok_same is) none
 listed_of-ok P path read none step WrongKind xs is = cc
@@ -27,7 +28,8 @@ listed_of-ok P path read none step (Here ds) xs is = each_after_keeps read (λ b
 
 -- ---- namespaces
 
-namespace_at-ok : (before : List (List ℕ)) (index : ℕ) (d : Data) (name : List ℕ) → namespace_at before index d ≡ Ok name → is_refused_name before name ≡ false
+namespace_at-ok : (before : List (List ℕ)) (index : ℕ) (d : Data) (name : List ℕ)
+    → namespace_at before index d ≡ Ok name → is_refused_name before name ≡ false
 namespace_at-ok before index null name is = cc
 namespace_at-ok before index (boolean b) name is = cc
 namespace_at-ok before index (number n) name is = cc
@@ -40,7 +42,8 @@ namespace_at-ok before index (object ms) name is = cc
 no_host : AreNamespaceNames []
 no_host = record { named = refl; distinct = refl }
 
-names-push : (before : List (List ℕ)) (name : List ℕ) → AreNamespaceNames before → is_refused_name before name ≡ false → AreNamespaceNames (before ++ name ∷ [])
+names-push : (before : List (List ℕ)) (name : List ℕ) → AreNamespaceNames before → is_refused_name before name ≡ false
+    → AreNamespaceNames (before ++ name ∷ [])
 names-push before name good can =
     let parts = or_parts (is_host_ns name) (list_any (bytes_eq name) before) can in
     let inner : not (is_host_ns name) ≡ true = rw parts.0 refl in
@@ -59,7 +62,8 @@ namespaces_at-ok d names is =
 abbrev IsShared : LinkKind → Type 0
 IsShared kind = is_unowned_kind kind ≡ true
 
-kind_by-ok : (device bridge : Bool) (e : PodError) (kind : LinkKind) → ok_or (if device then Some Device else if bridge then Some Bridge else None) e ≡ Ok kind → IsShared kind
+kind_by-ok : (device bridge : Bool) (e : PodError) (kind : LinkKind)
+    → ok_or (if device then Some Device else if bridge then Some Bridge else None) e ≡ Ok kind → IsShared kind
 kind_by-ok true bridge e kind is = subst IsShared (ok_same is) refl
 kind_by-ok false true e kind is = subst IsShared (ok_same is) refl
 kind_by-ok false false e kind is = cc
@@ -83,7 +87,8 @@ place-ok names ns is =
     (λ named. list_any-map (λ n. bytes_eq n.name ns) outside_namespace names
     ∙ list_any-weaker (bytes_eq ns) (λ name. bytes_eq name ns) (λ name same. bytes_eq-swap ns name same) names named)
 
-ns_of-ok : (names : List (List ℕ)) (index : ℕ) (f : Field (List ℕ)) (ns : List ℕ) → ns_of names index f ≡ Ok ns → IsPlace names ns
+ns_of-ok : (names : List (List ℕ)) (index : ℕ) (f : Field (List ℕ)) (ns : List ℕ) → ns_of names index f ≡ Ok ns
+    → IsPlace names ns
 ns_of-ok names index Absent ns is = subst (IsPlace names) (ok_same is) refl
 ns_of-ok names index WrongKind ns is = cc
 ns_of-ok names index (Here text) ns is =
@@ -100,10 +105,12 @@ record IsNewLink (names : List (List ℕ)) (before : List Link) (link : Link) : 
   place : IsPlace names link.ns
   new : list_any (is_at link.ns link.name) before ≡ false
 
-shared-outside : (ns name : List ℕ) (kind : LinkKind) (mtu : ℕ) → IsShared kind → is_outside_link (outside_link ns name kind mtu) ≡ true
+shared-outside : (ns name : List ℕ) (kind : LinkKind) (mtu : ℕ) → IsShared kind
+    → is_outside_link (outside_link ns name kind mtu) ≡ true
 shared-outside ns name kind mtu shared = rw shared refl
 
-link_at-ok : (names : List (List ℕ)) (before : List Link) (index : ℕ) (d : Data) (link : Link) → link_at names before index d ≡ Ok link → IsNewLink names before link
+link_at-ok : (names : List (List ℕ)) (before : List Link) (index : ℕ) (d : Data) (link : Link)
+    → link_at names before index d ≡ Ok link → IsNewLink names before link
 unfolding link_at not_taken
 link_at-ok names before index d link is =
     let form = goes (object_or (wrong_link index) d) _ link is in
@@ -121,14 +128,16 @@ link_at-ok names before index d link is =
 pub no_links : (names : List (List ℕ)) → AreOutsideLinks names []
 no_links names = record { outside = refl; places = refl; keys = refl }
 
-links-push : (names : List (List ℕ)) (before : List Link) (link : Link) → AreOutsideLinks names before → IsNewLink names before link → AreOutsideLinks names (before ++ link ∷ [])
+links-push : (names : List (List ℕ)) (before : List Link) (link : Link) → AreOutsideLinks names before
+    → IsNewLink names before link → AreOutsideLinks names (before ++ link ∷ [])
 links-push names before link good next = record {
   outside = list_all-push is_outside_link before link good.outside next.outside;
   places = list_all-push (λ l. is_host_or_ns (map outside_namespace names) l.ns) before link good.places next.place;
   keys = distinct-push (λ a b. is_at b.ns b.name a) before link good.keys next.new;
 }
 
-links_at-ok : (names : List (List ℕ)) (d : Data) (links : List Link) → links_at names d ≡ Ok links → AreOutsideLinks names links
+links_at-ok : (names : List (List ℕ)) (d : Data) (links : List Link) → links_at names d ≡ Ok links
+    → AreOutsideLinks names links
 unfolding links_at listed_at
 links_at-ok names d links is =
     listed_of-ok (AreOutsideLinks names) _ (next_link names) (no_links names) (λ before d link good is. links-push names before link good (link_at-ok names before (length before) d link is)) (list_field (codes "links") d) links is
@@ -141,7 +150,8 @@ outside-tag true true false is = cc
 outside-tag true false outside is = cc
 outside-tag false alone outside is = cc
 
-pub opening_with-ok : (names : List (List ℕ)) (links : List Link) → AreNamespaceNames names → AreOutsideLinks names links → IsOpening (opening_with names links)
+pub opening_with-ok : (names : List (List ℕ)) (links : List Link) → AreNamespaceNames names
+    → AreOutsideLinks names links → IsOpening (opening_with names links)
 opening_with-ok names links good outside = record {
   sound = IsSound-opening_with names links good outside;
   links = list_all-weaker is_outside_link (λ l. tag_eq l.tag Outside) (λ l h. outside-tag (is_unowned_kind l.kind) (is_none l.peer) (tag_eq l.tag Outside) h) links outside.outside;

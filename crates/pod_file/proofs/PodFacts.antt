@@ -13,7 +13,8 @@ use Rattle.pod_file.specs.{WellFormed.{AreWellFormedRounds, IsWellFormedPods}, d
 use Rattle.pod_file.specs.declared.pods.Pods.{Pods}
 
 -- rounds of well-formed commands that pass each test are well formed once they are numbered
-pub numbered_by-ok : (rounds : List (List Command)) → All AreCommands rounds → are_few rounds ≡ true → each_alone 0 rounds ≡ Ok tt → AreWellFormedRounds (all_numbered 1 rounds)
+pub numbered_by-ok : (rounds : List (List Command)) → All AreCommands rounds → are_few rounds ≡ true
+    → each_alone 0 rounds ≡ Ok tt → AreWellFormedRounds (all_numbered 1 rounds)
 unfolding are_few
 numbered_by-ok rounds commands are_few alone =
     let both = and_parts (nat_le (length rounds) file_limit) (nat_le (length (in_file_order rounds)) file_limit) are_few in
@@ -26,7 +27,8 @@ numbered_by-ok rounds commands are_few alone =
       numbers = λ n command at. let number = all-from 1 rounds n command at in omega arith;
     }
 
-pub numbered-ok : (d : Data) (rounds : List (List Command)) → rounds_at d ≡ Ok rounds → are_few rounds ≡ true → each_alone 0 rounds ≡ Ok tt → AreWellFormedRounds (all_numbered 1 rounds)
+pub numbered-ok : (d : Data) (rounds : List (List Command)) → rounds_at d ≡ Ok rounds → are_few rounds ≡ true
+    → each_alone 0 rounds ≡ Ok tt → AreWellFormedRounds (all_numbered 1 rounds)
 numbered-ok d rounds read are_few alone = numbered_by-ok rounds (rounds_at-ok d rounds read) are_few alone
 
 pods_at-ok : (d : Data) (pods : Pods) → pods_at d ≡ Ok pods → IsWellFormedPods pods

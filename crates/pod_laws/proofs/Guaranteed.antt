@@ -31,7 +31,8 @@ well_kept results w legal = record {
   lasts = each_last_is_candidate w legal;
 }
 
-always_well_kept : EachCachedResultIsItsAdds → (w : World) → Legal w → (before rest : List Entry) → w.history ≡ before ++ rest → IsWellKept w.plan before
+always_well_kept : EachCachedResultIsItsAdds → (w : World) → Legal w → (before rest : List Entry)
+    → w.history ≡ before ++ rest → IsWellKept w.plan before
 always_well_kept results w legal before rest at =
     let f = each_prefix w legal before rest at in
     subst (λ (p : Plan). IsWellKept p before) f.plan_is (subst (IsWellKept f.world.plan) f.history_is (well_kept results f.world f.legal))
@@ -45,13 +46,15 @@ record IsAnswered (w : World) (verb : Verb) (n : ℕ) (c : Placed) (list : NetLi
   of_verb : c.command.verb ≡ verb
   answer : slice_get w.answers n ≡ Some (Some a)
 
-are_answers : (w : World) → Legal w → (verb : Verb) → is_of_network verb ≡ true → (Is : ℕ → Command → NetList → Answer → Type 0)
+are_answers : (w : World) → Legal w → (verb : Verb) → is_of_network verb ≡ true
+    → (Is : ℕ → Command → NetList → Answer → Type 0)
     → ((n : ℕ) (c : Placed) (list : NetList) (a : Answer) → IsAnswered w verb n c list a → Is n c.command list a) → AreAnswers w verb Is
 are_answers w legal verb network Is each n c a at of_verb is =
     let found = listed_network w legal n c at (ap is_of_network of_verb ∙ network) in
     (found.0, found.1, each n c found.0 a (record { there = at; listed = found.1; of_verb = of_verb; answer = is }))
 
-answer_of_add : (w : World) → Legal w → (n : ℕ) (c : Placed) (list : NetList) (a : Answer) → IsAnswered w verbs.Add n c list a → IsAnswerOfAdd w n c.command list a
+answer_of_add : (w : World) → Legal w → (n : ℕ) (c : Placed) (list : NetList) (a : Answer)
+    → IsAnswered w verbs.Add n c list a → IsAnswerOfAdd w n c.command list a
 answer_of_add w legal n c list (answers.Added result) i = was_added w legal n c list result i.there i.listed i.answer
 answer_of_add w legal n c list (answers.Refused error) i = was_refused w legal n c (answers.Refused error) i.there i.of_verb i.answer list i.listed error refl
 answer_of_add w legal n c list a i = elim (answers_of_add w legal n c a i.there i.of_verb i.answer) [
@@ -60,7 +63,8 @@ answer_of_add w legal n c list a i = elim (answers_of_add w legal n c a i.there 
   | inr refused ↦ let is = refused.1 in cc
 ]
 
-answer_of_del : (w : World) → Legal w → (n : ℕ) (c : Placed) (list : NetList) (a : Answer) → IsAnswered w verbs.Del n c list a → IsAnswerOfDel w n c.command list a
+answer_of_del : (w : World) → Legal w → (n : ℕ) (c : Placed) (list : NetList) (a : Answer)
+    → IsAnswered w verbs.Del n c list a → IsAnswerOfDel w n c.command list a
 answer_of_del w legal n c list answers.Yes i = was_deleted w legal n c answers.Yes i.there i.of_verb i.answer refl
 answer_of_del w legal n c list (answers.Refused error) i = was_not_deleted w legal n c (answers.Refused error) i.there i.of_verb i.answer list i.listed error refl
 answer_of_del w legal n c list a i = elim (answers_of_del w legal n c a i.there i.of_verb i.answer) [
@@ -69,13 +73,15 @@ answer_of_del w legal n c list a i = elim (answers_of_del w legal n c a i.there 
   | inr refused ↦ let is = refused.1 in cc
 ]
 
-answer_of_check : (w : World) → Legal w → (n : ℕ) (c : Placed) (list : NetList) (a : Answer) → IsAnswered w verbs.Check n c list a → IsAnswerOfCheck w n c.command list a
+answer_of_check : (w : World) → Legal w → (n : ℕ) (c : Placed) (list : NetList) (a : Answer)
+    → IsAnswered w verbs.Check n c list a → IsAnswerOfCheck w n c.command list a
 answer_of_check w legal n c list a i = elim (cases_Bool (is_cut_off a)) [
   | inl cut ↦ inr cut
   | inr whole ↦ inl (was_checked w legal n c a i.there i.of_verb i.answer list i.listed whole)
 ]
 
-answer_of_gc : (w : World) → Legal w → (n : ℕ) (c : Placed) (list : NetList) (a : Answer) → IsAnswered w verbs.Gc n c list a → IsAnswerOfGc w n c.command list a
+answer_of_gc : (w : World) → Legal w → (n : ℕ) (c : Placed) (list : NetList) (a : Answer)
+    → IsAnswered w verbs.Gc n c list a → IsAnswerOfGc w n c.command list a
 answer_of_gc w legal n c list a i = collections_are_answered w legal n c a i.there i.of_verb i.answer list i.listed
 
 -- ---- the guarantee

@@ -21,16 +21,19 @@ part-prefix long short h = subst (IsPart short) (sym h.1) (part-append short h.0
 
 -- ---- what is left of a list has a part of what it had
 
-part-keep : {X : Type 0} (b : Bool) (x : X) (part all : List X) → IsPart part all → IsPart (if b then x ∷ part else part) (if b then x ∷ all else all)
+part-keep : {X : Type 0} (b : Bool) (x : X) (part all : List X) → IsPart part all
+    → IsPart (if b then x ∷ part else part) (if b then x ∷ all else all)
 part-keep true x part all h = inl (refl, h)
 part-keep false x part all h = h
 
-part-skip : {X : Type 0} (b : Bool) (x : X) (part all : List X) → IsPart part all → IsPart part (if b then x ∷ all else all)
+part-skip : {X : Type 0} (b : Bool) (x : X) (part all : List X) → IsPart part all
+    → IsPart part (if b then x ∷ all else all)
 part-skip true x [] all h = (refl, h)
 part-skip true x (y ∷ part) all h = inr (refl, h)
 part-skip false x part all h = h
 
-pub part-drops : {X : Type 0} (p gone : X → Bool) (old new : List X) → DropsOnly gone old new → IsPart (filter p new) (filter p old)
+pub part-drops : {X : Type 0} (p gone : X → Bool) (old new : List X) → DropsOnly gone old new
+    → IsPart (filter p new) (filter p old)
 part-drops p gone [] new d = ap (filter p) d
 part-drops p gone (x ∷ old) [] d = part-none (filter p (x ∷ old))
 part-drops p gone (x ∷ old) (y ∷ new) d = elim d [
@@ -39,7 +42,8 @@ part-drops p gone (x ∷ old) (y ∷ new) d = elim d [
 ]
 
 -- so it is a part of what that was a part of
-pub part-left : {X : Type 0} (p gone : X → Bool) (all old new : List X) → DropsOnly gone old new → IsPart (filter p old) all → IsPart (filter p new) all
+pub part-left : {X : Type 0} (p gone : X → Bool) (all old new : List X) → DropsOnly gone old new
+    → IsPart (filter p old) all → IsPart (filter p new) all
 part-left p gone all old new d h = drops-trans (λ x. true) all (filter p old) (filter p new) h (part-drops p gone old new d)
 
 -- ---- what is in a part is in the whole

@@ -35,7 +35,8 @@ use Rattle.pod_workers.proofs.Each.{each-append, each-at}
 abbrev IsServiceQuestion : Question → Type 0
 IsServiceQuestion q = (tells q.call ≡ true) × IsUnavailable q.lack
 
-service-pools : (network : List ℕ) (number : ℕ) (sets : List RangeSet) → AllByRecursion IsServiceQuestion (pool_questions network number sets)
+service-pools : (network : List ℕ) (number : ℕ) (sets : List RangeSet)
+    → AllByRecursion IsServiceQuestion (pool_questions network number sets)
 service-pools network number [] = tt
 service-pools network number (s ∷ ss) = ((refl, refl), service-pools network (number + 1) ss)
 
@@ -48,15 +49,18 @@ unfolding status_questions
 service-questions list c = each-append IsServiceQuestion (pool_questions c.network 0 (sets_of list)) (master_questions (master_of list.first)) (service-pools c.network 0 (sets_of list)) (service-master (master_of list.first))
 
 -- all are granted where the network is available
-granted-pools : (host : Host) (network : List ℕ) (number : ℕ) (sets : List RangeSet) → list_all (grants host) (pool_questions network number sets) ≡ list_all (λ set. has_free_of set (leased_addresses host network)) sets
+granted-pools : (host : Host) (network : List ℕ) (number : ℕ) (sets : List RangeSet)
+    → list_all (grants host) (pool_questions network number sets) ≡ list_all (λ set. has_free_of set (leased_addresses host network)) sets
 granted-pools host network number [] = refl
 granted-pools host network number (s ∷ ss) = ap (λ b. has_free_of s (leased_addresses host network) && b) (granted-pools host network (number + 1) ss)
 
-granted-master : (host : Host) (master : Option (List ℕ)) → list_all (grants host) (master_questions master) ≡ has_master host master
+granted-master : (host : Host) (master : Option (List ℕ))
+    → list_all (grants host) (master_questions master) ≡ has_master host master
 granted-master host None = refl
 granted-master host (Some master) = and-true _
 
-granted-status : (list : NetList) (c : Command) (host : Host) → list_all (grants host) (status_questions list c) ≡ is_available list c host
+granted-status : (list : NetList) (c : Command) (host : Host)
+    → list_all (grants host) (status_questions list c) ≡ is_available list c host
 unfolding status_questions
 granted-status list c host =
     list_all-append (grants host) (pool_questions c.network 0 (sets_of list)) (master_questions (master_of list.first))
@@ -80,10 +84,13 @@ StatusAt list c es _ host = ⊥
 abbrev AnswersStatus : NetList → Command → List Entry → Host → Ending → Type 0
 AnswersStatus list c es host ending = EndsByFault es (has_fault es) ending (EndsByTest (is_available list c host) ending (LacksService list c host ending))
 
-since_1_1 : (list : NetList) (c : Command) (es : List Entry) (host : Host) (ending : Ending) → is_before_1_1 list.version ≡ false → AnswersStatus list c es host ending → EndsStatus list c es host ending
+since_1_1 : (list : NetList) (c : Command) (es : List Entry) (host : Host) (ending : Ending)
+    → is_before_1_1 list.version ≡ false → AnswersStatus list c es host ending → EndsStatus list c es host ending
 since_1_1 list c es host ending version ends = subst (λ b. MatchBool b ((es ≡ []) × (ending ≡ Refused (causes.TooOld list.version))) (AnswersStatus list c es host ending)) (sym version) ends
 
-status-ends : (list : NetList) (c : Command) (es : List Entry) (host : Host) (ending : Ending) → is_before_1_1 list.version ≡ false → has_fault es ≡ false → EndsAsked host (status_questions list c) ending → EndsStatus list c es host ending
+status-ends : (list : NetList) (c : Command) (es : List Entry) (host : Host) (ending : Ending)
+    → is_before_1_1 list.version ≡ false → has_fault es ≡ false → EndsAsked host (status_questions list c) ending
+    → EndsStatus list c es host ending
 status-ends list c es host ending version no_fault ends =
     let tested : EndsByTest (is_available list c host) ending (LacksService list c host ending) =
     by-asked host (status_questions list c) IsUnavailable (is_available list c host) ending (granted-status list c host)
@@ -91,29 +98,36 @@ status-ends list c es host ending version no_fault ends =
     since_1_1 list c es host ending version
     (subst (λ b. EndsByFault es b ending (EndsByTest (is_available list c host) ending (LacksService list c host ending))) (sym no_fault) tested)
 
-status-asked : (list : NetList) (c : Command) (es : List Entry) (host : Host) (st : State) → is_before_1_1 list.version ≡ false → has_fault es ≡ false → IsAsking host (status_questions list c) st → StatusAt list c es st host
+status-asked : (list : NetList) (c : Command) (es : List Entry) (host : Host) (st : State)
+    → is_before_1_1 list.version ≡ false → has_fault es ≡ false → IsAsking host (status_questions list c) st
+    → StatusAt list c es st host
 status-asked list c es host (Asking q qs) version no_fault a = record { version = version; no_fault = no_fault; asked = a }
 status-asked list c es host (Over ending given) version no_fault a = (a.0, status-ends list c es host ending version no_fault a.1)
 status-asked list c es host _ version no_fault a = absurd a
 
-status-fault : (list : NetList) (c : Command) (es : List Entry) (host : Host) (number : ℕ) → is_before_1_1 list.version ≡ false → has_fault es ≡ true → number ≡ length es → EndsStatus list c es host (Refused (causes.Fault number))
+status-fault : (list : NetList) (c : Command) (es : List Entry) (host : Host) (number : ℕ)
+    → is_before_1_1 list.version ≡ false → has_fault es ≡ true → number ≡ length es
+    → EndsStatus list c es host (Refused (causes.Fault number))
 status-fault list c es host number version fault is =
     let ending = Refused (causes.Fault number) in
     since_1_1 list c es host ending version
     (subst (λ b. EndsByFault es b ending (EndsByTest (is_available list c host) ending (LacksService list c host ending))) (sym fault) (ap (λ k. Refused (causes.Fault k)) is))
 
-status-too_old : (list : NetList) (c : Command) (host : Host) → is_before_1_1 list.version ≡ true → EndsStatus list c [] host (too_old list.version)
+status-too_old : (list : NetList) (c : Command) (host : Host) → is_before_1_1 list.version ≡ true
+    → EndsStatus list c [] host (too_old list.version)
 status-too_old list c host old =
     let none : List Entry = [] in
     subst (λ b. MatchBool b ((none ≡ []) × (too_old list.version ≡ too_old list.version)) (AnswersStatus list c none host (too_old list.version))) (sym old) (refl, refl)
 
-status-old : (list : NetList) (c : Command) (host : Host) → StatusAt list c [] (unless_ended (old_ending list.version) (asking (status_questions list c))) host
+status-old : (list : NetList) (c : Command) (host : Host)
+    → StatusAt list c [] (unless_ended (old_ending list.version) (asking (status_questions list c))) host
 status-old list c host =
     old_ending-cases list.version (λ early. StatusAt list c [] (unless_ended early (asking (status_questions list c))) host)
     (λ old. (refl, status-too_old list c host old))
     (λ new. status-asked list c [] host (asking (status_questions list c)) new refl (asked-all host (status_questions list c) (status_questions list c) (asked-none host (status_questions list c))))
 
-status-start_of : (list : NetList) (c : Command) (host : Host) (v : Verb) → v ≡ verbs.Status → StatusAt list c [] (start_of list v c) host
+status-start_of : (list : NetList) (c : Command) (host : Host) (v : Verb) → v ≡ verbs.Status
+    → StatusAt list c [] (start_of list v c) host
 status-start_of list c host verbs.Status is = status-old list c host
 status-start_of list c host _ is = cc
 
@@ -124,7 +138,8 @@ status-start : StartsOn AsksStatus
 status-start list c host = λ verb. status-start_of list c host c.verb verb
 
 -- one reply, in the same host
-status-reply : (list : NetList) (c : Command) (es : List Entry) (e : Entry) (q : Question) (qs : List Question) (host : Host) (faulty : Bool) → e.reply ≡ reply_to host q.call faulty → HasStatus list c es host (q ∷ qs)
+status-reply : (list : NetList) (c : Command) (es : List Entry) (e : Entry) (q : Question) (qs : List Question) (host : Host) (faulty : Bool)
+    → e.reply ≡ reply_to host q.call faulty → HasStatus list c es host (q ∷ qs)
     → StatusAt list c (es ++ e ∷ []) (at_question (length es + 1) q qs e.reply) host
 status-reply list c es e q qs host true is a =
     subst (λ r. StatusAt list c (es ++ e ∷ []) (at_question (length es + 1) q qs r) host) (sym is)
@@ -136,7 +151,8 @@ status-reply list c es e q qs host false is a =
     subst (λ r. StatusAt list c (es ++ e ∷ []) (at_question (length es + 1) q qs r) host) (sym is)
     (status-asked list c (es ++ e ∷ []) host (at_question (length es + 1) q qs (apply host q.call).1) a.version no_fault (asked-reply host (status_questions list c) (length es + 1) q qs of_service.0 d))
 
-status-own : (list : NetList) (c : Command) (es : List Entry) (e : Entry) (st : State) (host : Host) (faulty : Bool) → e.reply ≡ reply_to host e.call faulty → turn c st ≡ Calls e.call → StatusAt list c es st host
+status-own : (list : NetList) (c : Command) (es : List Entry) (e : Entry) (st : State) (host : Host) (faulty : Bool)
+    → e.reply ≡ reply_to host e.call faulty → turn c st ≡ Calls e.call → StatusAt list c es st host
     → StatusAt list c (es ++ e ∷ []) (advance list c (length es + 1) st e.reply) host
 unfolding turn advance
 status-own list c es e (Asking q qs) host faulty is turn_is a = status-reply list c es e q qs host faulty (is ∙ (let same : e.call ≡ q.call = cc in ap (λ call. reply_to host call faulty) same)) a

@@ -14,7 +14,8 @@ or-or None b c = refl
 or-or (Some x) b c = refl
 
 -- what the last entry tells, or else what the others do
-pub told_in-push : (number : ℕ) (h : List Entry) (e : Entry) → told_in number (h ++ e ∷ []) ≡ option_or (told_by number e) (told_in number h)
+pub told_in-push : (number : ℕ) (h : List Entry) (e : Entry)
+    → told_in number (h ++ e ∷ []) ≡ option_or (told_by number e) (told_in number h)
 told_in-push number [] e = or-none (told_by number e)
 told_in-push number (x ∷ h) e =
     ap (λ (o : Option Cached). option_or o (told_by number x)) (told_in-push number h e)

@@ -17,7 +17,8 @@ versions_are_whole : (version : Version) → has_float (versions_data version) �
 unfolding versions_data
 versions_are_whole version = refl
 
-pub put_answer_is_whole : (answer : Answer) (ms : Members) → members_have_float ms ≡ false → members_have_float (put_answer answer ms) ≡ false
+pub put_answer_is_whole : (answer : Answer) (ms : Members) → members_have_float ms ≡ false
+    → members_have_float (put_answer answer ms) ≡ false
 put_answer_is_whole (Added added) ms rest = members_have_float-put _ _ ms (result_is_whole added) rest
 put_answer_is_whole Yes ms rest = members_have_float-put _ _ ms refl rest
 put_answer_is_whole (Skipped skip) ms rest = members_have_float-put _ _ ms refl rest
@@ -42,7 +43,8 @@ pub network_env_is_whole : (command : Command) → has_float (network_env_data c
 unfolding network_env_data
 network_env_is_whole command = refl
 
-pub request_line_is_whole : (env : Data) (command : Command) (place : ℕ) (request : Data) → has_float env ≡ false → has_float request ≡ false → has_float (request_line env command place request) ≡ false
+pub request_line_is_whole : (env : Data) (command : Command) (place : ℕ) (request : Data) → has_float env ≡ false
+    → has_float request ≡ false → has_float (request_line env command place request) ≡ false
 unfolding request_line
 request_line_is_whole env command place request env_whole request_whole = search (members_have_float-put, env_whole, request_whole) depth 8
 

@@ -16,7 +16,8 @@ done_entries : (v : World) (n : ℕ) (x : Next) → length (done v n x).history 
 done_entries v n (next.Answer a) = omega arith
 done_entries v n (next.Call call faulty) = length_push v.history (entry_of (host_of v) n call faulty)
 
-step_entries : (r : Result StepEnd NoMemory) (v w : World) (number : ℕ) → IsReadyNumber v number → IsStepped r v w number → length w.history ≡ length v.history + made_by r
+step_entries : (r : Result StepEnd NoMemory) (v w : World) (number : ℕ) → IsReadyNumber v number
+    → IsStepped r v w number → length w.history ≡ length v.history + made_by r
 step_entries (Ok end) v w number ready is =
     let n = ready.0 in
     let c = ready.1 in
@@ -28,7 +29,8 @@ step_entries (Err e) v w number ready is = ap (λ (u : World). length u.history)
 abbrev pub IsGuarded : World → World → ℕ → Type 0
 IsGuarded from w total = Extends from w × (length w.history ≡ length from.history + total)
 
-pub entered : (from v w : World) (total more : ℕ) (r : Result StepEnd NoMemory) (number : ℕ) → IsGuarded from v total → IsReadyNumber v number → IsStepped r v w number → more ≡ total + made_by r
+pub entered : (from v w : World) (total more : ℕ) (r : Result StepEnd NoMemory) (number : ℕ) → IsGuarded from v total
+    → IsReadyNumber v number → IsStepped r v w number → more ≡ total + made_by r
     → IsGuarded from w more
 entered from v w total more r number kept ready is more_is = (
   extends_trans from v w kept.0 (step_extends r v w number ready is),

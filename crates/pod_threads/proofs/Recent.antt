@@ -30,7 +30,8 @@ record Recent (w : World) : Type 0 where
 
 -- ---- every legal world
 
-entry-round : (p : Plan) (n : ℕ) (c : Placed) (e : Entry) (r : ℕ) → e.command ≡ n + 1 → slice_get (commands_of p) n ≡ Some c → is_of_round p r e ≡ is_in_round r (Some c)
+entry-round : (p : Plan) (n : ℕ) (c : Placed) (e : Entry) (r : ℕ) → e.command ≡ n + 1
+    → slice_get (commands_of p) n ≡ Some c → is_of_round p r e ≡ is_in_round r (Some c)
 entry-round p n c e r number there = ap (is_in_round r) (at_number-is (commands_of p) e.command n number ∙ there)
 
 in-its-round : (round : ℕ) (c : Placed) → c.round ≡ round → is_in_round round (Some c) ≡ true
@@ -96,18 +97,21 @@ count-recent w r =
     ap (entries_of_round w.plan w.round) r.is ∙ count-append w.plan w.round r.older r.own ∙ ap (λ k. k + entries_of_round w.plan w.round r.own) (count-none w.plan w.round r.older r.none)
     ∙ ap (λ k. 0 + k) (count-all w.plan w.round r.own r.all) ∙ (omega arith)
 
-place-own : (p : Plan) (round : ℕ) (older own : List Entry) (k : ℕ) (e : Entry) → All (NoneFrom p round) older → slice_get (older ++ own) k ≡ Some e → is_of_round p round e ≡ true → length older ≤ k
+place-own : (p : Plan) (round : ℕ) (older own : List Entry) (k : ℕ) (e : Entry) → All (NoneFrom p round) older
+    → slice_get (older ++ own) k ≡ Some e → is_of_round p round e ≡ true → length older ≤ k
 place-own p round [] own k e none at is = omega arith
 place-own p round (x ∷ xs) own zero e none at is =
     absurd (let no = All-head (NoneFrom p round) x xs none round (omega arith) in let same = same_Some x e at in cc)
 place-own p round (x ∷ xs) own (suc k) e none at is = let far = place-own p round xs own k e (All-tail (NoneFrom p round) x xs none) at is in omega arith
 
-each-own : (p : Plan) (round : ℕ) (own : List Entry) (k : ℕ) (e : Entry) → All (IsOfRound p round) own → slice_get own k ≡ Some e → is_of_round p round e ≡ true
+each-own : (p : Plan) (round : ℕ) (own : List Entry) (k : ℕ) (e : Entry) → All (IsOfRound p round) own
+    → slice_get own k ≡ Some e → is_of_round p round e ≡ true
 each-own p round [] k e all at = absurd (none-some e at)
 each-own p round (x ∷ xs) zero e all at = ap (is_of_round p round) (sym (same_Some x e at)) ∙ All-head (IsOfRound p round) x xs all
 each-own p round (x ∷ xs) (suc k) e all at = each-own p round xs k e (All-tail (IsOfRound p round) x xs all) at
 
-place-older : (p : Plan) (round : ℕ) (older own : List Entry) (k : ℕ) (e : Entry) → All (IsOfRound p round) own → slice_get (older ++ own) k ≡ Some e → is_of_round p round e ≡ false → k < length older
+place-older : (p : Plan) (round : ℕ) (older own : List Entry) (k : ℕ) (e : Entry) → All (IsOfRound p round) own
+    → slice_get (older ++ own) k ≡ Some e → is_of_round p round e ≡ false → k < length older
 place-older p round [] own k e all at is = absurd (let yes = each-own p round own k e all at in cc)
 place-older p round (x ∷ xs) own zero e all at is = omega arith
 place-older p round (x ∷ xs) own (suc k) e all at is = let near = place-older p round xs own k e all at is in omega arith
@@ -121,23 +125,27 @@ older_entries w = length w.history - entries_of_round w.plan w.round w.history
 long : (w : World) (r : Recent w) → length w.history ≡ length r.older + length r.own
 long w r = ap length r.is ∙ length-append r.older r.own
 
-current-at : (w : World) (number k : ℕ) (o : Option Entry) → number ≡ k + 1 → slice_get w.history k ≡ o → is_current w number ≡ option_map_or (is_of_round w.plan w.round) o false
+current-at : (w : World) (number k : ℕ) (o : Option Entry) → number ≡ k + 1 → slice_get w.history k ≡ o
+    → is_current w number ≡ option_map_or (is_of_round w.plan w.round) o false
 current-at w number k o number_is at = ap (λ o. option_map_or (is_of_round w.plan w.round) o false) (at_number-is w.history number k number_is ∙ at)
 
-current-place : (w : World) (r : Recent w) (number k : ℕ) → number ≡ k + 1 → number ≤ length w.history → is_current w number ≡ true → length r.older ≤ k
+current-place : (w : World) (r : Recent w) (number k : ℕ) → number ≡ k + 1 → number ≤ length w.history
+    → is_current w number ≡ true → length r.older ≤ k
 current-place w r number k number_is within is = elim (slice_get_cases w.history k).1 [
   | inl t ↦ place-own w.plan w.round r.older r.own k t.0 r.none (ap (λ h. slice_get h k) (sym r.is) ∙ t.2) (sym (current-at w number k (Some t.0) number_is t.2) ∙ is)
   | inr t ↦ absurd (let past = t.0 in omega arith)
 ]
 
-other-place : (w : World) (r : Recent w) (number k : ℕ) → number ≡ k + 1 → number ≤ length w.history → is_current w number ≡ false → k < length r.older
+other-place : (w : World) (r : Recent w) (number k : ℕ) → number ≡ k + 1 → number ≤ length w.history
+    → is_current w number ≡ false → k < length r.older
 other-place w r number k number_is within is = elim (slice_get_cases w.history k).1 [
   | inl t ↦ place-older w.plan w.round r.older r.own k t.0 r.all (ap (λ h. slice_get h k) (sym r.is) ∙ t.2) (sym (current-at w number k (Some t.0) number_is t.2) ∙ is)
   | inr t ↦ absurd (let past = t.0 in omega arith)
 ]
 
 -- one that is of the current round stands behind the older ones
-pub goes-on : (w : World) → Legal w → (number : ℕ) → number ≤ length w.history → is_current w number ≡ true → (1 ≤ number) × (older_entries w ≤ number - 1)
+pub goes-on : (w : World) → Legal w → (number : ℕ) → number ≤ length w.history → is_current w number ≡ true
+    → (1 ≤ number) × (older_entries w ≤ number - 1)
 goes-on w legal zero within is = absurd (let t = is in cc)
 goes-on w legal (suc k) within is =
     let r = recent w legal in
@@ -145,7 +153,8 @@ goes-on w legal (suc k) within is =
     (omega arith, omega (arith, place, long w r, count-recent w r))
 
 -- where the next one isn't, those behind it are all
-pub stops : (w : World) → Legal w → (number : ℕ) → number ≤ length w.history → older_entries w ≤ number → is_current w number ≡ false → length w.history - number ≡ entries_of_round w.plan w.round w.history
+pub stops : (w : World) → Legal w → (number : ℕ) → number ≤ length w.history → older_entries w ≤ number
+    → is_current w number ≡ false → length w.history - number ≡ entries_of_round w.plan w.round w.history
 stops w legal zero within low is = let r = recent w legal in omega (arith, long w r, count-recent w r)
 stops w legal (suc k) within low is =
     let r = recent w legal in

@@ -30,23 +30,28 @@ use Rattle.pod_workers.proofs.{Splits.split_nil, WellFormedPlans.first_apart}
 
 -- ---- whose they are
 
-own-plugin : (att : Att) (calls : List Call) → list_all (is_plugin_call_of att) calls ≡ true → list_all (is_call_of att) calls ≡ true
+own-plugin : (att : Att) (calls : List Call) → list_all (is_plugin_call_of att) calls ≡ true
+    → list_all (is_call_of att) calls ≡ true
 own-plugin att [] own = refl
 own-plugin att (x ∷ xs) own =
     let both = and_parts (is_plugin_call_of att x) (list_all (is_plugin_call_of att) xs) own in
     and_from (is_call_of att x) (list_all (is_call_of att) xs) (and_parts (not (is_beside_plugins x)) (is_call_of att x) both.0).1 (own-plugin att xs both.1)
 
-own-leases : (att : Att) (number : ℕ) (sets : List RangeSet) → list_all (is_call_of att) (lease_calls_from att number sets) ≡ true
+own-leases : (att : Att) (number : ℕ) (sets : List RangeSet)
+    → list_all (is_call_of att) (lease_calls_from att number sets) ≡ true
 own-leases att number [] = refl
 own-leases att number (s ∷ ss) = and_from _ _ (att_eq-refl att) (own-leases att (number + 1) ss)
 
 -- ---- they are well formed
 
-well_formed-of_plugins : (att : Att) (calls : List Call) → AllOfPlugins att calls → AllByRecursion IsWellFormedCall calls
+well_formed-of_plugins : (att : Att) (calls : List Call) → AllOfPlugins att calls
+    → AllByRecursion IsWellFormedCall calls
 well_formed-of_plugins att [] h = tt
 well_formed-of_plugins att (x ∷ xs) h = (h.0.1, well_formed-of_plugins att xs h.1)
 
-well_formed-leases : (att : Att) (number : ℕ) (sets : List RangeSet) → list_all (λ set. are_apart set.ranges) sets ≡ true → AllByRecursion IsWellFormedCall (lease_calls_from att number sets)
+well_formed-leases : (att : Att) (number : ℕ) (sets : List RangeSet)
+    → list_all (λ set. are_apart set.ranges) sets ≡ true
+    → AllByRecursion IsWellFormedCall (lease_calls_from att number sets)
 well_formed-leases att number [] apart = tt
 well_formed-leases att number (s ∷ ss) apart =
     let both = and_parts (are_apart s.ranges) (list_all (λ set. are_apart set.ranges) ss) apart in
@@ -73,7 +78,8 @@ chained-among list = λ k h. has-left k (chained_kinds_reversed list.chained) (f
 cached-among : (list : NetList) → has_kind kinds.Cached (kinds_of list) ≡ true
 cached-among list = has-right kinds.Cached (chained_kinds_reversed list.chained) (first_kinds list.first ++ kinds.Cached ∷ []) (has-right kinds.Cached (first_kinds list.first) (kinds.Cached ∷ []) refl)
 
-kinds-more : (some all : List Kind) → Among some all → (call : Call) → is_of_kinds some call ≡ true → is_of_kinds all call ≡ true
+kinds-more : (some all : List Kind) → Among some all → (call : Call) → is_of_kinds some call ≡ true
+    → is_of_kinds all call ≡ true
 kinds-more some all among (VethAdd h i) is = among kinds.Links is
 kinds-more some all among (MacvlanAdd l) is = among kinds.Links is
 kinds-more some all among (AddrAdd obj) is = among kinds.Links is
@@ -84,7 +90,8 @@ kinds-more some all among (LeaseNext att number set) is = among kinds.Leases is
 kinds-more some all among (CachePut att cached) is = among kinds.Cached is
 kinds-more some all among _ is = refl
 
-kinds-all_chained : (ks : List Kind) (cs : List Chained) (att : Att) (netns : List ℕ) (mappings : List PortMapping) → Among (chained_kinds_reversed cs) ks → AllByRecursion (PassesChained (is_of_kinds ks) att netns mappings) cs
+kinds-all_chained : (ks : List Kind) (cs : List Chained) (att : Att) (netns : List ℕ) (mappings : List PortMapping)
+    → Among (chained_kinds_reversed cs) ks → AllByRecursion (PassesChained (is_of_kinds ks) att netns mappings) cs
 kinds-all_chained ks [] att netns mappings among = tt
 kinds-all_chained ks (c ∷ cs) att netns mappings among = (
   λ ips. list_all-weaker (is_of_kinds (chained_kinds c)) (is_of_kinds ks) (kinds-more (chained_kinds c) ks (λ k h. among k (has-right k (chained_kinds_reversed cs) (chained_kinds c) h)))
@@ -92,12 +99,14 @@ kinds-all_chained ks (c ∷ cs) att netns mappings among = (
   kinds-all_chained ks cs att netns mappings (λ k h. among k (has-left k (chained_kinds_reversed cs) (chained_kinds c) h)),
 )
 
-pub of_kinds-before : (list : NetList) (att : Att) (netns : List ℕ) → list_all (is_of_kinds (kinds_of list)) (calls_before list.first att netns) ≡ true
+pub of_kinds-before : (list : NetList) (att : Att) (netns : List ℕ)
+    → list_all (is_of_kinds (kinds_of list)) (calls_before list.first att netns) ≡ true
 of_kinds-before list att netns =
     let laws = first_laws list.first in
     list_all-weaker (makes_interface (bridge_of list.first)) (is_of_kinds (kinds_of list)) (interface-kinds (kinds_of list) (first-among list kinds.Links laws.takes_links) (bridge_of list.first)) (calls_before list.first att netns) (laws.before att netns).make_interface
 
-pub of_kinds-back : (list : NetList) (att : Att) (netns : List ℕ) (mappings : List PortMapping) (addrs : List Addr) → list_all (is_of_kinds (kinds_of list)) (back_calls list att netns mappings addrs) ≡ true
+pub of_kinds-back : (list : NetList) (att : Att) (netns : List ℕ) (mappings : List PortMapping) (addrs : List Addr)
+    → list_all (is_of_kinds (kinds_of list)) (back_calls list att netns mappings addrs) ≡ true
 of_kinds-back list att netns mappings addrs =
     passes-back (is_of_kinds (kinds_of list)) list att netns mappings addrs
     (λ given. list_all-weaker (is_of_kinds (first_kinds list.first)) (is_of_kinds (kinds_of list)) (kinds-more (first_kinds list.first) (kinds_of list) (first-among list)) (calls_after list.first att netns given) ((first_laws list.first).after att netns given).of_kinds)
@@ -105,28 +114,34 @@ of_kinds-back list att netns mappings addrs =
 
 -- a list that leases names the kind of leases
 
-sets-some : (o : Option HostLocalConf) (past left : List RangeSet) (next : RangeSet) → range_sets_of o ≡ past ++ next ∷ left → is_some o ≡ true
+sets-some : (o : Option HostLocalConf) (past left : List RangeSet) (next : RangeSet)
+    → range_sets_of o ≡ past ++ next ∷ left → is_some o ≡ true
 sets-some None past left next e = absurd (split_nil past left next e)
 sets-some (Some ipam) past left next e = refl
 
-pub leases-kinds_of : (list : NetList) (past left : List RangeSet) (next : RangeSet) → sets_of list ≡ past ++ next ∷ left → has_kind kinds.Leases (kinds_of list) ≡ true
+pub leases-kinds_of : (list : NetList) (past left : List RangeSet) (next : RangeSet)
+    → sets_of list ≡ past ++ next ∷ left → has_kind kinds.Leases (kinds_of list) ≡ true
 leases-kinds_of list past left next e = first-among list kinds.Leases ((first_laws list.first).takes_leases (sets-some (ipam_of list.first) past left next e))
 
-kinds-leases : (ks : List Kind) (att : Att) (number : ℕ) (sets : List RangeSet) → has_kind kinds.Leases ks ≡ true → list_all (is_of_kinds ks) (lease_calls_from att number sets) ≡ true
+kinds-leases : (ks : List Kind) (att : Att) (number : ℕ) (sets : List RangeSet) → has_kind kinds.Leases ks ≡ true
+    → list_all (is_of_kinds ks) (lease_calls_from att number sets) ≡ true
 kinds-leases ks att number [] there = refl
 kinds-leases ks att number (s ∷ ss) there = and_from _ _ there (kinds-leases ks att (number + 1) ss there)
 
-of_kinds-leases : (list : NetList) (att : Att) (sets : List RangeSet) → sets_of list ≡ sets → list_all (is_of_kinds (kinds_of list)) (lease_calls_of sets att) ≡ true
+of_kinds-leases : (list : NetList) (att : Att) (sets : List RangeSet) → sets_of list ≡ sets
+    → list_all (is_of_kinds (kinds_of list)) (lease_calls_of sets att) ≡ true
 of_kinds-leases list att [] is = refl
 of_kinds-leases list att (s ∷ ss) is = kinds-leases (kinds_of list) att 0 (s ∷ ss) (leases-kinds_of list [] ss s is)
 
 -- ---- what they add
 
-leases-add_none : (s : Share) (att : Att) (number : ℕ) (sets : List RangeSet) → share_after_calls s (lease_calls_from att number sets) ≡ s
+leases-add_none : (s : Share) (att : Att) (number : ℕ) (sets : List RangeSet)
+    → share_after_calls s (lease_calls_from att number sets) ≡ s
 leases-add_none s att number [] = refl
 leases-add_none s att number (set ∷ sets) = leases-add_none s att (number + 1) sets
 
-adds-before : (first : First) (att : Att) (netns : List ℕ) (given : List Addr) → share_after_calls (only_leases att given) (calls_before first att netns) ≡ record (share_after_calls no_objects (calls_before first att netns)) { leases = (only_leases att given).leases }
+adds-before : (first : First) (att : Att) (netns : List ℕ) (given : List Addr)
+    → share_after_calls (only_leases att given) (calls_before first att netns) ≡ record (share_after_calls no_objects (calls_before first att netns)) { leases = (only_leases att given).leases }
 adds-before first att netns given =
     adds-links first att netns (only_leases att given) ∙ ap (λ (s : Share). record s { leases = (only_leases att given).leases }) (sym (adds-links first att netns no_objects))
 
@@ -141,7 +156,8 @@ adds-all list att netns mappings given =
 -- ---- all
 
 -- the calls after a Begin pass a test where those of each part do
-in-parts : (p : Call → Bool) (list : NetList) (att : Att) (netns : List ℕ) (mappings : List PortMapping) (given : List Addr) → list_all p (calls_before list.first att netns) ≡ true
+in-parts : (p : Call → Bool) (list : NetList) (att : Att) (netns : List ℕ) (mappings : List PortMapping) (given : List Addr)
+    → list_all p (calls_before list.first att netns) ≡ true
     → list_all p (lease_calls_of (sets_of list) att) ≡ true → list_all p (back_calls list att netns mappings given) ≡ true
     → list_all p (calls_before list.first att netns ++ (lease_calls_of (sets_of list) att ++ back_calls list att netns mappings given)) ≡ true
 in-parts p list att netns mappings given before leases back =

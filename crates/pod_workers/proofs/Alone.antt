@@ -12,12 +12,14 @@ use Rattle.pod_workers.proofs.Rounds.{here_or_later, round-of}
 abbrev pub AreAlone : Plan → Type 0
 AreAlone p = (m n : ℕ) (d c : Placed) → slice_get (commands_of p) m ≡ Some d → slice_get (commands_of p) n ≡ Some c → d.round ≡ c.round → is_exclusive c.command ≡ true → m ≡ n
 
-any_at : (commands : List Command) (n : ℕ) (c : Command) → slice_get commands n ≡ Some c → is_exclusive c ≡ true → list_any is_exclusive commands ≡ true
+any_at : (commands : List Command) (n : ℕ) (c : Command) → slice_get commands n ≡ Some c → is_exclusive c ≡ true
+    → list_any is_exclusive commands ≡ true
 any_at [] n c at exclusive = absurd (none-some c at)
 any_at (x ∷ xs) zero c at exclusive = let here : is_exclusive x ≡ true = ap is_exclusive (same_Some x c at) ∙ exclusive in grind (arith, here)
 any_at (x ∷ xs) (suc n) c at exclusive = let rest : list_any is_exclusive xs ≡ true = any_at xs n c at exclusive in grind (arith, rest)
 
-alone_from : (round : ℕ) (rounds : List (List Command)) → All IsWellFormedRound rounds → (m n : ℕ) (d c : Placed) → slice_get (placed_from round rounds) m ≡ Some d → slice_get (placed_from round rounds) n ≡ Some c
+alone_from : (round : ℕ) (rounds : List (List Command)) → All IsWellFormedRound rounds → (m n : ℕ) (d c : Placed)
+    → slice_get (placed_from round rounds) m ≡ Some d → slice_get (placed_from round rounds) n ≡ Some c
     → d.round ≡ c.round → is_exclusive c.command ≡ true → m ≡ n
 alone_from round [] all m n d c at_m at_n same exclusive = absurd (none-some d at_m)
 alone_from round (commands ∷ rounds) all m n d c at_m at_n same exclusive =

@@ -22,7 +22,8 @@ use Rattle.pod_workers.proofs.{Order.none_answered, Rounds.is_in_round}
 -- ---- a cut
 
 -- a cut world's last entry is the one that `stop_at` names, and it is of the current round
-pub cut_stands : (w : World) (stop : Option ℕ) (last : Option Entry) → EachFollows w.plan w.history → last_entry w.history ≡ last → is_cut_at stop w last ≡ true
+pub cut_stands : (w : World) (stop : Option ℕ) (last : Option Entry) → EachFollows w.plan w.history
+    → last_entry w.history ≡ last → is_cut_at stop w last ≡ true
     → EntryIsInRound w.plan w.history stop w.round
 cut_stands w None last each is cut = absurd (let t : false ≡ true = cut in cc)
 cut_stands w (Some number) None each is cut = absurd (let t : false ≡ true = cut in cc)
@@ -43,7 +44,8 @@ cut_stands w (Some number) (Some e) each is cut =
       eqb-true follows.by.round w.round here,
     )
 
-pub stands-append : (p : Plan) (h : List Entry) (x : Entry) (stop : Option ℕ) (round : ℕ) → EntryIsInRound p h stop round → EntryIsInRound p (h ++ x ∷ []) stop round
+pub stands-append : (p : Plan) (h : List Entry) (x : Entry) (stop : Option ℕ) (round : ℕ)
+    → EntryIsInRound p h stop round → EntryIsInRound p (h ++ x ∷ []) stop round
 stands-append p h x None round is = is
 stands-append p h x (Some number) round is =
     (is.0, is.1 ++ x ∷ [], is.2, is.3, is.4, ap (λ l. l ++ x ∷ []) is.5 ∙ append_assoc is.0 (is.2 ∷ is.1) (x ∷ []), is.6, is.7, is.8)
@@ -55,11 +57,13 @@ abbrev AnswersBy : Option NetList → Command → ℕ → Bool → Turn → Answ
 AnswersBy list c made cut t a =
     ((finish : Finish) × (t ≡ Finishes finish) × (a ≡ answer_by list c finish)) ⊎ ((call : Call) × (t ≡ Calls call) × (a ≡ Stopped made) × ((is_stop c.stop made || cut) ≡ true))
 
-stopping_by : (c : Command) (made : ℕ) (k : Call) (a : Answer) (faulty b : Bool) → (if b then next.Answer (Stopped made) else next.Call k faulty) ≡ next.Answer a → (a ≡ Stopped made) × (b ≡ true)
+stopping_by : (c : Command) (made : ℕ) (k : Call) (a : Answer) (faulty b : Bool)
+    → (if b then next.Answer (Stopped made) else next.Call k faulty) ≡ next.Answer a → (a ≡ Stopped made) × (b ≡ true)
 stopping_by c made k a faulty true is = (cc, refl)
 stopping_by c made k a faulty false is = absurd cc
 
-answers_by : (list : Option NetList) (c : Command) (made : ℕ) (cut : Bool) (t : Turn) (a : Answer) → next_by list c made cut t ≡ next.Answer a → AnswersBy list c made cut t a
+answers_by : (list : Option NetList) (c : Command) (made : ℕ) (cut : Bool) (t : Turn) (a : Answer)
+    → next_by list c made cut t ≡ next.Answer a → AnswersBy list c made cut t a
 answers_by list c made cut (Finishes finish) a is = inl (finish, refl, cc)
 answers_by list c made cut (Calls k) a is = let s = stopping_by c made k a (is_faulty c made) (is_stop c.stop made || cut) is in inr (k, refl, s.0, s.1)
 
@@ -73,7 +77,8 @@ at_stop (Some most) made is within =
 
 -- ---- the answer of a step
 
-due_now : (v : World) (n : ℕ) (c : Placed) (a : Answer) → Legal v → IsReady v n c → next_of v c.command (own_replies v n) ≡ next.Answer a → IsScripts v n c a ⊎ IsStopped v n c a
+due_now : (v : World) (n : ℕ) (c : Placed) (a : Answer) → Legal v → IsReady v n c
+    → next_of v c.command (own_replies v n) ≡ next.Answer a → IsScripts v n c a ⊎ IsStopped v n c a
 due_now v n c a legal ready is =
     let made = length (own_replies v n) in
     let turn = turn_by (list_for v.plan c.command) c.command (own_replies v n) in
@@ -91,7 +96,8 @@ due_now v n c a legal ready is =
 pub at_own_stop : (o : Option ℕ) (made : ℕ) → o ≡ Some made → is_stop o made ≡ true
 at_own_stop o made is = ap (λ (s : Option ℕ). is_stop s made) is ∙ grind (arith, nat_tests)
 
-due_answered : (v : World) (n : ℕ) (c : Placed) (b : Answer) → AnswerIsDue v → IsReady v n c → IsDue v n c b → AnswerIsDue (answered v n b)
+due_answered : (v : World) (n : ℕ) (c : Placed) (b : Answer) → AnswerIsDue v → IsReady v n c → IsDue v n c b
+    → AnswerIsDue (answered v n b)
 due_answered v n c b due ready why = λ m d there a at. elim (eqb_tells m n) [
   | inl t ↦
       let within = slice_get_within v.answers n None ready.unanswered in
@@ -102,7 +108,8 @@ due_answered v n c b due ready why = λ m d there a at. elim (eqb_tells m n) [
 ]
 
 -- an entry of another command leaves why an answer was due
-due_stays : (v : World) (m : ℕ) (d : Placed) (a : Answer) (e : Entry) → e.command ≢ m + 1 → IsDue v m d a → IsDue (with_entry v e) m d a
+due_stays : (v : World) (m : ℕ) (d : Placed) (a : Answer) (e : Entry) → e.command ≢ m + 1 → IsDue v m d a
+    → IsDue (with_entry v e) m d a
 due_stays v m d a e other (inl scripts) = inl (rw (replies_of-other m v.history e other) scripts)
 due_stays v m d a e other (inr (inr lacking)) = inr (inr lacking)
 due_stays v m d a e other (inr (inl stopped)) = inr (inl (
@@ -110,12 +117,14 @@ due_stays v m d a e other (inr (inl stopped)) = inr (inl (
   elim stopped.1 [ inl own ↦ inl (rw (replies_of-other m v.history e other) own) | inr cut ↦ inr (stands-append v.plan v.history e v.plan.stop_at d.round cut) ],
 ))
 
-due_entered : (v : World) (n : ℕ) (c : Placed) (e : Entry) → AnswerIsDue v → IsReady v n c → e.command ≡ n + 1 → AnswerIsDue (with_entry v e)
+due_entered : (v : World) (n : ℕ) (c : Placed) (e : Entry) → AnswerIsDue v → IsReady v n c → e.command ≡ n + 1
+    → AnswerIsDue (with_entry v e)
 due_entered v n c e due ready own = λ m d there a at.
     let other : e.command ≢ m + 1 = λ same. none-some a (same_Some None (Some a) (sym ready.unanswered ∙ ap (slice_get v.answers) (let place : n ≡ m = omega arith in place) ∙ at)) in
     due_stays v m d a e other (due m d there a at)
 
-due_done : (v : World) (n : ℕ) (c : Placed) (x : Next) → Legal v → AnswerIsDue v → IsReady v n c → next_of v c.command (own_replies v n) ≡ x → AnswerIsDue (done v n x)
+due_done : (v : World) (n : ℕ) (c : Placed) (x : Next) → Legal v → AnswerIsDue v → IsReady v n c
+    → next_of v c.command (own_replies v n) ≡ x → AnswerIsDue (done v n x)
 due_done v n c (next.Answer b) legal due ready is = due_answered v n c b due ready (elim (due_now v n c b legal ready is) [ inl scripts ↦ inl scripts | inr stopped ↦ inr (inl stopped) ])
 due_done v n c (next.Call call faulty) legal due ready is = due_entered v n c (entry_of (host_of v) n call faulty) due ready refl
 

@@ -22,13 +22,15 @@ done-own w n (next.Call call faulty) =
     let e = entry_of (host_of w) n call faulty in
     (e ∷ [], refl, All-cons (IsEntryBy (n + 1)) e [] refl (All-nil (IsEntryBy (n + 1))))
 
-step-own : (r : Result StepEnd NoMemory) (v w : World) (number : ℕ) → IsReadyNumber v number → IsStepped r v w number → AppendsOwn v w number
+step-own : (r : Result StepEnd NoMemory) (v w : World) (number : ℕ) → IsReadyNumber v number → IsStepped r v w number
+    → AppendsOwn v w number
 step-own (Ok x) v w number ready is =
     subst (AppendsOwn v w) (sym ready.2)
     (subst (λ (u : World). AppendsOwn v u (ready.0 + 1)) (sym (is.0 ready.0 ready.1 ready.2 ready.3.there).0) (done-own v ready.0 (next_of v ready.1.command (own_replies v ready.0))))
 step-own (Err x) v w number ready is = subst (λ (u : World). AppendsOwn v u number) (sym (is.1 ready.0 ready.1 ready.2 ready.3.there)) (appends-none (IsEntryBy number) v.history)
 
-pub own-more : (r : Result StepEnd NoMemory) (u v w : World) (number : ℕ) → AppendsOwn u v number → IsReadyNumber v number → IsStepped r v w number → AppendsOwn u w number
+pub own-more : (r : Result StepEnd NoMemory) (u v w : World) (number : ℕ) → AppendsOwn u v number
+    → IsReadyNumber v number → IsStepped r v w number → AppendsOwn u w number
 own-more r u v w number own ready is =
     appends-more (All (IsEntryBy number)) (All (IsEntryBy number)) (All (IsEntryBy number)) u.history v.history w.history (All-append (IsEntryBy number)) own (step-own r v w number ready is)
 
@@ -55,7 +57,8 @@ middle : (P : Entry → Type 0) (before rest : List Entry) (e : Entry) → All P
 middle P [] rest e all = All-head P e rest all
 middle P (b ∷ before) rest e all = middle P before rest e (All-tail P b (before ++ e ∷ rest) all)
 
-in_order-push : (p : Plan) (number : ℕ) (es : List Entry) (x : Entry) → StandInFileOrder p es → All (IsUpTo number) es → x.command ≡ number → StandInFileOrder p (es ++ x ∷ [])
+in_order-push : (p : Plan) (number : ℕ) (es : List Entry) (x : Entry) → StandInFileOrder p es → All (IsUpTo number) es
+    → x.command ≡ number → StandInFileOrder p (es ++ x ∷ [])
 in_order-push p number es x order most own = λ before between rest e f m n d c at of_e of_f.
     elim (two_snoc es before between rest x e f at) [
       | inl t ↦
@@ -68,7 +71,8 @@ in_order-push p number es x order most own = λ before between rest e f m n d c 
     ]
 
 -- entries of a command stand in order behind those of commands that are no later
-in_order-own : (p : Plan) (number : ℕ) (es own : List Entry) → StandInFileOrder p es → All (IsUpTo number) es → All (IsEntryBy number) own → StandInFileOrder p (es ++ own)
+in_order-own : (p : Plan) (number : ℕ) (es own : List Entry) → StandInFileOrder p es → All (IsUpTo number) es
+    → All (IsEntryBy number) own → StandInFileOrder p (es ++ own)
 in_order-own p number es [] order most all = subst (StandInFileOrder p) (sym (append-nil es)) order
 in_order-own p number es (x ∷ own) order most all =
     let is : x.command ≡ number = All-head (IsEntryBy number) x own all in
@@ -76,7 +80,8 @@ in_order-own p number es (x ∷ own) order most all =
     subst (StandInFileOrder p) (append_assoc es (x ∷ []) own)
     (in_order-own p number (es ++ x ∷ []) own (in_order-push p number es x order most is) (All-push (IsUpTo number) es x most up_to) (All-tail (IsEntryBy number) x own all))
 
-pub below-own : (u v w : World) (number : ℕ) → AppendsBelow u v number → AppendsOwn v w number → AppendsBelow u w (number + 1)
+pub below-own : (u v w : World) (number : ℕ) → AppendsBelow u v number → AppendsOwn v w number
+    → AppendsBelow u w (number + 1)
 below-own u v w number below own =
     appends-more (λ es. StandInFileOrder u.plan es × All (IsBelow number) es) (All (IsEntryBy number)) (λ es. StandInFileOrder u.plan es × All (IsBelow (number + 1)) es) u.history v.history w.history
     (λ xs ys first all. (

@@ -49,7 +49,8 @@ asked-first : (list : NetList) (interfaces : List Interface) → AreQuestionsOf 
 asked-first list [] = tt
 asked-first list (i ∷ is) = asked-by_mac list i.name i.mac
 
-asked-bridge : (list : NetList) (bridge : Option (List ℕ)) (interfaces : List Interface) → AreQuestionsOf list (bridge_questions bridge interfaces)
+asked-bridge : (list : NetList) (bridge : Option (List ℕ)) (interfaces : List Interface)
+    → AreQuestionsOf list (bridge_questions bridge interfaces)
 asked-bridge list None interfaces = tt
 asked-bridge list (Some bridge) interfaces = asked-first list interfaces
 
@@ -61,7 +62,8 @@ check-asks list c cached =
 
 -- ---- a status
 
-asked-pools : (list : NetList) (network : List ℕ) (number : ℕ) (past sets : List RangeSet) → sets_of list ≡ past ++ sets → AreQuestionsOf list (pool_questions network number sets)
+asked-pools : (list : NetList) (network : List ℕ) (number : ℕ) (past sets : List RangeSet) → sets_of list ≡ past ++ sets
+    → AreQuestionsOf list (pool_questions network number sets)
 asked-pools list network number past [] all = tt
 asked-pools list network number past (s ∷ ss) all = (
   (length past, ap (λ xs. slice_get xs (length past)) all ∙ slice_get-middle past ss s),

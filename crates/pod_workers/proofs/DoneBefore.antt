@@ -19,7 +19,8 @@ done-not_ready w m n d c ready is = λ same. not_both w n (is.0, ap (slice_get w
 pub done_answered : (w : World) (m n : ℕ) (d : Placed) (b : Answer) → m ≢ n → IsDone w m d → IsDone (answered w n b) m d
 done_answered w m n d b other is = (is.0, slice_get-set_other w.answers n m (Some b) other ∙ is.1, is.2)
 
-pub done_entered : (w : World) (m : ℕ) (d : Placed) (e : Entry) → e.command ≢ m + 1 → IsDone w m d → IsDone (with_entry w e) m d
+pub done_entered : (w : World) (m : ℕ) (d : Placed) (e : Entry) → e.command ≢ m + 1 → IsDone w m d
+    → IsDone (with_entry w e) m d
 done_entered w m d e other is = (
   is.0,
   is.1,
@@ -33,7 +34,8 @@ done_entered w m d e other is = (
 -- ---- a step
 
 -- where a command of the current round makes a call, no earlier one of the round was stopped with it
-not_cut : (w : World) (stop : Option ℕ) (round : ℕ) → Legal w → is_cut w ≡ false → w.plan.stop_at ≡ stop → round ≡ w.round → EntryIsInRound w.plan w.history stop round → ⊥
+not_cut : (w : World) (stop : Option ℕ) (round : ℕ) → Legal w → is_cut w ≡ false → w.plan.stop_at ≡ stop
+    → round ≡ w.round → EntryIsInRound w.plan w.history stop round → ⊥
 not_cut w None round legal no_cut named same is = is
 not_cut w (Some number) round legal no_cut named same is =
     let less = cut_before w is.0 is.1 is.2 is.3 is.4 (in_order w legal) (two_entries w legal) (each_follows w legal) no_cut is.5 is.7 (named ∙ ap Some (sym is.6)) in
@@ -41,7 +43,8 @@ not_cut w (Some number) round legal no_cut named same is =
     omega arith
 
 -- an answer that isn't a stop of the round
-pub done_now : (w : World) (m : ℕ) (d : Placed) → Legal w → is_cut w ≡ false → d.round ≡ w.round → slice_get (commands_of w.plan) m ≡ Some d → IsAnswered w m → IsDone w m d
+pub done_now : (w : World) (m : ℕ) (d : Placed) → Legal w → is_cut w ≡ false → d.round ≡ w.round
+    → slice_get (commands_of w.plan) m ≡ Some d → IsAnswered w m → IsDone w m d
 done_now w m d legal no_cut round at a = (
   a.0,
   a.1,
@@ -55,7 +58,8 @@ done_now w m d legal no_cut round at a = (
   ],
 )
 
-pub done_before_answered : (w : World) (n : ℕ) (c : Placed) (b : Answer) (Fit : Placed → Placed → Type 0) → EachIsDoneBefore w Fit → IsReady w n c → EachIsDoneBefore (answered w n b) Fit
+pub done_before_answered : (w : World) (n : ℕ) (c : Placed) (b : Answer) (Fit : Placed → Placed → Type 0)
+    → EachIsDoneBefore w Fit → IsReady w n c → EachIsDoneBefore (answered w n b) Fit
 done_before_answered w n c b Fit each ready = λ l m d x less at_l at_m fits. elim (each l m d x less at_l at_m fits) [
   | inl none ↦ inl none
   | inr is ↦ inr (done_answered w l n d b (done-not_ready w l n d c ready is) is)
@@ -65,7 +69,8 @@ done_before_answered w n c b Fit each ready = λ l m d x less at_l at_m fits. el
 abbrev pub FittingAreAnswered : World → (Placed → Placed → Type 0) → ℕ → Placed → Type 0
 FittingAreAnswered w Fit n c = (m : ℕ) (d : Placed) → m < n → slice_get (commands_of w.plan) m ≡ Some d → Fit d c → (d.round ≡ w.round) × IsAnswered w m
 
-pub done_before_entered : (w : World) (n : ℕ) (c : Placed) (e : Entry) (Fit : Placed → Placed → Type 0) → Legal w → EachIsDoneBefore w Fit → IsReady w n c → FittingAreAnswered w Fit n c
+pub done_before_entered : (w : World) (n : ℕ) (c : Placed) (e : Entry) (Fit : Placed → Placed → Type 0) → Legal w
+    → EachIsDoneBefore w Fit → IsReady w n c → FittingAreAnswered w Fit n c
     → is_cut w ≡ false → e.command ≡ n + 1 → EachIsDoneBefore (with_entry w e) Fit
 done_before_entered w n c e Fit legal each ready earlier no_cut own = λ l m d x less at_l at_m fits. elim (eqb_tells m n) [
   | inl t ↦
@@ -81,7 +86,8 @@ done_before_entered w n c e Fit legal each ready earlier no_cut own = λ l m d x
 
 -- ---- every legal world
 
-whole_done : (w : World) (n : ℕ) (c : Placed) (x : Next) → Legal w → EachIsDoneBefore w AreOfOneContainer → IsReady w n c → next_of w c.command (own_replies w n) ≡ x → EachIsDoneBefore (done w n x) AreOfOneContainer
+whole_done : (w : World) (n : ℕ) (c : Placed) (x : Next) → Legal w → EachIsDoneBefore w AreOfOneContainer
+    → IsReady w n c → next_of w c.command (own_replies w n) ≡ x → EachIsDoneBefore (done w n x) AreOfOneContainer
 whole_done w n c (next.Answer a) legal each ready is = done_before_answered w n c a AreOfOneContainer each ready
 whole_done w n c (next.Call call faulty) legal each ready is =
     done_before_entered w n c (entry_of (host_of w) n call faulty) AreOfOneContainer legal each ready

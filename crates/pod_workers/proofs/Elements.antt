@@ -12,7 +12,8 @@ at_number-is xs number n is = elim (eqb_tells number 0) [
 ]
 
 -- what stands at a number stands at the place before it
-pub numbered : {X : Type 0} (xs : List X) (number : ℕ) (x : X) → at_number xs number ≡ Some x → (number ≡ (number - 1) + 1) × (slice_get xs (number - 1) ≡ Some x)
+pub numbered : {X : Type 0} (xs : List X) (number : ℕ) (x : X) → at_number xs number ≡ Some x
+    → (number ≡ (number - 1) + 1) × (slice_get xs (number - 1) ≡ Some x)
 numbered xs number x is = elim (eqb_tells number 0) [
   | inl t ↦ absurd (none-some x (sym (ap (λ (b : Bool). if b then None else slice_get xs (number - 1)) t.0) ∙ is))
   | inr f ↦ ((let ne = f.1 in omega arith), sym (ap (λ (b : Bool). if b then None else slice_get xs (number - 1)) f.0) ∙ is)
@@ -23,7 +24,8 @@ slice_get-before [] ys i h = absurd (omega arith)
 slice_get-before (x ∷ xs) ys zero h = refl
 slice_get-before (x ∷ xs) ys (suc i) h = slice_get-before xs ys i (omega arith)
 
-slice_get-behind : {X : Type 0} (xs ys : List X) (n i j : ℕ) → length xs ≡ n → i ≡ n + j → slice_get (xs ++ ys) i ≡ slice_get ys j
+slice_get-behind : {X : Type 0} (xs ys : List X) (n i j : ℕ) → length xs ≡ n → i ≡ n + j
+    → slice_get (xs ++ ys) i ≡ slice_get ys j
 slice_get-behind [] ys n i j h e = let same : i ≡ j = omega arith in ap (slice_get ys) same
 slice_get-behind (x ∷ xs) ys n zero j h e = absurd (omega arith)
 slice_get-behind (x ∷ xs) ys n (suc i) j h e = slice_get-behind xs ys (length xs) i j refl (omega arith)
@@ -36,13 +38,15 @@ slice_get-middle [] ys y = refl
 slice_get-middle (x ∷ xs) ys y = slice_get-middle xs ys y
 
 -- an element of a list with one more at the end is an earlier one, or that one
-pub at_snoc : {X : Type 0} (xs : List X) (y x : X) (i : ℕ) → slice_get (xs ++ y ∷ []) i ≡ Some x → ((i < length xs) × (slice_get xs i ≡ Some x)) ⊎ ((i ≡ length xs) × (x ≡ y))
+pub at_snoc : {X : Type 0} (xs : List X) (y x : X) (i : ℕ) → slice_get (xs ++ y ∷ []) i ≡ Some x
+    → ((i < length xs) × (slice_get xs i ≡ Some x)) ⊎ ((i ≡ length xs) × (x ≡ y))
 at_snoc [] y x zero is = inr (refl, same_Some x y (sym is))
 at_snoc [] y x (suc i) is = absurd (none-some x is)
 at_snoc (z ∷ zs) y x zero is = inl (omega arith, is)
 at_snoc (z ∷ zs) y x (suc i) is = elim (at_snoc zs y x i is) [ inl t ↦ (let less = t.0 in inl (omega arith, t.1)) | inr t ↦ inr (ap suc t.0, t.1) ]
 
-pub slice_get-map_some : {X Y : Type 0} (f : X → Y) (xs : List X) (i : ℕ) (y : Y) → slice_get (map f xs) i ≡ Some y → (x : X) × (slice_get xs i ≡ Some x) × (f x ≡ y)
+pub slice_get-map_some : {X Y : Type 0} (f : X → Y) (xs : List X) (i : ℕ) (y : Y) → slice_get (map f xs) i ≡ Some y
+    → (x : X) × (slice_get xs i ≡ Some x) × (f x ≡ y)
 slice_get-map_some f [] i y is = absurd (none-some y is)
 slice_get-map_some f (x ∷ xs) zero y is = (x, refl, same_Some (f x) y is)
 slice_get-map_some f (x ∷ xs) (suc i) y is = slice_get-map_some f xs i y is
@@ -51,7 +55,8 @@ abbrev pub first_of : {X : Type 0} → List X → Option X
 first_of [] = None
 first_of (x ∷ xs) = Some x
 
-find-step : {X : Type 0} (b : Bool) (x : X) (o : Option X) (xs : List X) → o ≡ first_of xs → (if b then Some x else o) ≡ first_of (if b then x ∷ xs else xs)
+find-step : {X : Type 0} (b : Bool) (x : X) (o : Option X) (xs : List X) → o ≡ first_of xs
+    → (if b then Some x else o) ≡ first_of (if b then x ∷ xs else xs)
 find-step true x o xs h = refl
 find-step false x o xs h = h
 

@@ -18,7 +18,8 @@ use Rattle.pod_workers.proofs.Splits.{two_snoc}
 
 -- ---- each entry follows
 
-follows_ready : (v : World) (n : ℕ) (c : Placed) (call : Call) (faulty : Bool) → Legal v → IsReady v n c → next_of v c.command (own_replies v n) ≡ next.Call call faulty
+follows_ready : (v : World) (n : ℕ) (c : Placed) (call : Call) (faulty : Bool) → Legal v → IsReady v n c
+    → next_of v c.command (own_replies v n) ≡ next.Call call faulty
     → Follows v.plan v.history (entry_of (host_of v) n call faulty)
 follows_ready v n c call faulty legal ready is =
     let goes = goes_in v n c.command call faulty is in
@@ -32,7 +33,8 @@ follows_ready v n c call faulty legal ready is =
       no_stop = goes.no_stop;
     }
 
-each_done : (v : World) (n : ℕ) (c : Placed) (x : Next) → Legal v → EachFollows v.plan v.history → IsReady v n c → next_of v c.command (own_replies v n) ≡ x
+each_done : (v : World) (n : ℕ) (c : Placed) (x : Next) → Legal v → EachFollows v.plan v.history → IsReady v n c
+    → next_of v c.command (own_replies v n) ≡ x
     → EachFollows (done v n x).plan (done v n x).history
 each_done v n c (next.Answer a) legal each ready is = each
 each_done v n c (next.Call call faulty) legal each ready is = λ before rest e at.
@@ -50,7 +52,8 @@ each_follows _ (turns v w legal less over is) = subst (λ (u : World). EachFollo
 -- ---- two entries
 
 -- an entry is of one command
-pub one_command : (p : Plan) (x f : Entry) (k n : ℕ) (b c : Placed) → x ≡ f → IsEntryOf p x k b → IsEntryOf p f n c → (k ≡ n) × (b ≡ c)
+pub one_command : (p : Plan) (x f : Entry) (k n : ℕ) (b c : Placed) → x ≡ f → IsEntryOf p x k b → IsEntryOf p f n c
+    → (k ≡ n) × (b ≡ c)
 one_command p x f k n b c same of_x of_f =
     let number : x.command ≡ f.command = ap (λ (e : Entry). e.command) same in
     let own_x = of_x.number in
@@ -62,7 +65,8 @@ one_command p x f k n b c same of_x of_f =
 abbrev ToLatest : Plan → List Entry → ((number m : ℕ) → Placed → ℕ → Placed → Type 0) → ℕ → Placed → Type 0
 ToLatest p h Fit k b = (before between : List Entry) (e : Entry) (m : ℕ) (d : Placed) → h ≡ before ++ e ∷ between → IsEntryOf p e m d → Fit (length before + 1) m d k b
 
-pub each_two-grows : (p : Plan) (h : List Entry) (x : Entry) (k : ℕ) (b : Placed) (Fit : (number m : ℕ) → Placed → ℕ → Placed → Type 0) → IsEntryOf p x k b
+pub each_two-grows : (p : Plan) (h : List Entry) (x : Entry) (k : ℕ) (b : Placed) (Fit : (number m : ℕ) → Placed → ℕ → Placed → Type 0)
+    → IsEntryOf p x k b
     → EachTwo p h Fit → ToLatest p h Fit k b → EachTwo p (h ++ x ∷ []) Fit
 each_two-grows p h x k b Fit new old latest = λ before between rest e f m n d c at of_e of_f.
     elim (two_snoc h before between rest x e f at) [
@@ -73,7 +77,8 @@ each_two-grows p h x k b Fit new old latest = λ before between rest e f m n d c
     ]
 
 -- an entry is of a round that was reached
-pub is_reached : (w : World) (before rest : List Entry) (e : Entry) (m : ℕ) (d : Placed) → IsInOrder w → w.history ≡ before ++ e ∷ rest → IsEntryOf w.plan e m d → d.round ≤ w.round
+pub is_reached : (w : World) (before rest : List Entry) (e : Entry) (m : ℕ) (d : Placed) → IsInOrder w
+    → w.history ≡ before ++ e ∷ rest → IsEntryOf w.plan e m d → d.round ≤ w.round
 is_reached w before rest e m d order at of_e =
     elim (cases_lt w.round d.round) [
       | inl later ↦ absurd (has_reply m w.history before rest e at of_e.number (order.later m d of_e.there later).no_reply)
@@ -88,7 +93,8 @@ pub record TwoEntries (w : World) : Type 0 where
   pub cut : EachTwo w.plan w.history (IsAfterStop w.plan)
 
 -- beside an entry no earlier command of its container is ready
-one_by_one : (w : World) (before rest : List Entry) (e : Entry) (m n : ℕ) (d c : Placed) → IsInOrder w → IsReady w n c → w.history ≡ before ++ e ∷ rest → IsEntryOf w.plan e m d
+one_by_one : (w : World) (before rest : List Entry) (e : Entry) (m n : ℕ) (d c : Placed) → IsInOrder w → IsReady w n c
+    → w.history ≡ before ++ e ∷ rest → IsEntryOf w.plan e m d
     → AreOfOneContainer d c → m ≤ n
 one_by_one w before rest e m n d c order ready at of_e besides =
     elim (cases_lt n m) [
@@ -99,11 +105,13 @@ one_by_one w before rest e m n d c order ready at of_e besides =
       | inr most ↦ most
     ]
 
-in_round-false : (round number : ℕ) (d : Placed) → ((number == number) && is_in_round round (Some d)) ≡ false → d.round ≢ round
+in_round-false : (round number : ℕ) (d : Placed) → ((number == number) && is_in_round round (Some d)) ≡ false
+    → d.round ≢ round
 in_round-false round number d is same = absurd (grind (arith, nat_tests))
 
 -- the entry that `stop_at` names, where it is the last one, isn't of the current round
-cut_at_last : (w : World) (before : List Entry) (e : Entry) (m : ℕ) (d : Placed) → w.history ≡ before ++ e ∷ [] → IsEntryOf w.plan e m d → w.plan.stop_at ≡ Some (length before + 1)
+cut_at_last : (w : World) (before : List Entry) (e : Entry) (m : ℕ) (d : Placed) → w.history ≡ before ++ e ∷ []
+    → IsEntryOf w.plan e m d → w.plan.stop_at ≡ Some (length before + 1)
     → is_cut w ≡ false → d.round ≢ w.round
 cut_at_last w before e m d at of_e stop no_cut = λ same.
     let number : length w.history ≡ length before + 1 = ap length at ∙ length_push before e in
@@ -115,7 +123,8 @@ cut_at_last w before e m d at of_e stop no_cut = λ same.
     ap (λ (k : ℕ). (k == length before + 1) && is_in_round w.round (Some d)) (sym number) ∙ ap (λ (o : Option Placed). (length w.history == length before + 1) && is_in_round w.round o) (sym there) ∙ sym cut ∙ no_cut in
     in_round-false w.round (length before + 1) d told same
 
-pub cut_before : (w : World) (before between : List Entry) (e : Entry) (m : ℕ) (d : Placed) → IsInOrder w → TwoEntries w → EachFollows w.plan w.history → is_cut w ≡ false
+pub cut_before : (w : World) (before between : List Entry) (e : Entry) (m : ℕ) (d : Placed) → IsInOrder w → TwoEntries w
+    → EachFollows w.plan w.history → is_cut w ≡ false
     → w.history ≡ before ++ e ∷ between → IsEntryOf w.plan e m d → w.plan.stop_at ≡ Some (length before + 1) → d.round < w.round
 cut_before w before [] e m d order two each no_cut at of_e stop =
     let reached = is_reached w before [] e m d order at of_e in
@@ -128,7 +137,8 @@ cut_before w before (f ∷ between) e m d order two each no_cut at of_e stop =
     let reached = is_reached w (before ++ e ∷ []) between f follows.place follows.by order split follows.of in
     omega arith
 
-two_done : (v : World) (n : ℕ) (c : Placed) (x : Next) → IsInOrder v → EachFollows v.plan v.history → TwoEntries v → IsReady v n c → next_of v c.command (own_replies v n) ≡ x → TwoEntries (done v n x)
+two_done : (v : World) (n : ℕ) (c : Placed) (x : Next) → IsInOrder v → EachFollows v.plan v.history → TwoEntries v
+    → IsReady v n c → next_of v c.command (own_replies v n) ≡ x → TwoEntries (done v n x)
 two_done v n c (next.Answer a) order each two ready is = record { rounds = two.rounds; containers = two.containers; cut = two.cut }
 two_done v n c (next.Call call faulty) order each two ready is =
     let e = entry_of (host_of v) n call faulty in
@@ -143,7 +153,8 @@ two_done v n c (next.Call call faulty) order each two ready is =
           (λ before between f m d at of_f stop. let less = cut_before v before between f m d order two each goes.no_cut at of_f stop in let here = ready.current in omega arith);
     }
 
-pub none_two : (w : World) (Fit : (number m : ℕ) → Placed → ℕ → Placed → Type 0) → w.history ≡ [] → EachTwo w.plan w.history Fit
+pub none_two : (w : World) (Fit : (number m : ℕ) → Placed → ℕ → Placed → Type 0) → w.history ≡ []
+    → EachTwo w.plan w.history Fit
 none_two w Fit none = λ before between rest e f m n d c at of_e of_f. absurd (split_nil before (between ++ f ∷ rest) e (sym none ∙ at))
 
 pub two_entries : (w : World) → Legal w → TwoEntries w
@@ -158,7 +169,8 @@ two_entries _ (refused_memory v w n c legal ready is) = subst TwoEntries (sym is
 two_entries _ (turns v w legal less over is) = subst TwoEntries (sym is) (let t = two_entries v legal in record { rounds = t.rounds; containers = t.containers; cut = t.cut })
 
 -- no entry of its round stands after the one that `stop_at` names
-pub uncut_at : (p : Plan) (h before rest : List Entry) (e : Entry) (n : ℕ) (c : Placed) (stop : Option ℕ) → EachTwo p h (IsAfterStop p)
+pub uncut_at : (p : Plan) (h before rest : List Entry) (e : Entry) (n : ℕ) (c : Placed) (stop : Option ℕ)
+    → EachTwo p h (IsAfterStop p)
     → h ≡ before ++ e ∷ rest → IsEntryOf p e n c → p.stop_at ≡ stop → EntryIsInRound p before stop c.round → ⊥
 uncut_at p h before rest e n c None cut at of_e named is = is
 uncut_at p h before rest e n c (Some number) cut at of_e named is =
@@ -178,7 +190,8 @@ pub within-more : (stop : Option ℕ) (made : ℕ) → is_stop stop made ≡ fal
 within-more None made below = tt
 within-more (Some most) made below = let less : made < most = grind (arith, nat_tests) in omega arith
 
-stop_done : (v : World) (n : ℕ) (c : Placed) (x : Next) → KeepsStop v → IsReady v n c → next_of v c.command (own_replies v n) ≡ x → KeepsStop (done v n x)
+stop_done : (v : World) (n : ℕ) (c : Placed) (x : Next) → KeepsStop v → IsReady v n c
+    → next_of v c.command (own_replies v n) ≡ x → KeepsStop (done v n x)
 stop_done v n c (next.Answer a) keeps ready is = keeps
 stop_done v n c (next.Call call faulty) keeps ready is = λ m d at.
     let e = entry_of (host_of v) n call faulty in

@@ -26,11 +26,14 @@ use Rattle.pod_workers.proofs.{Elements.first_of, MostCalls.{back-within, most-s
 
 -- ---- where work is left
 
-left-after_leases : (most : ℕ) (list : NetList) (c : Command) (left : List Call) (given : List Addr) (s : Share) → calls_left most list c (after_leases left given) s ≤ making (length left) list s
+left-after_leases : (most : ℕ) (list : NetList) (c : Command) (left : List Call) (given : List Addr) (s : Share)
+    → calls_left most list c (after_leases left given) s ≤ making (length left) list s
 left-after_leases most list c [] given s = omega arith
 left-after_leases most list c (x ∷ xs) given s = omega arith
 
-left-leasing : (most : ℕ) (list : NetList) (c : Command) (left : List RangeSet) (given : List Addr) (s : Share) → AddsInAtMost list c most → calls_left most list c (leasing list c left given) s ≤ making (length left + most_after most list c) list s
+left-leasing : (most : ℕ) (list : NetList) (c : Command) (left : List RangeSet) (given : List Addr) (s : Share)
+    → AddsInAtMost list c most
+    → calls_left most list c (leasing list c left given) s ≤ making (length left + most_after most list c) list s
 left-leasing most list c [] given s in_most =
     let rest = left-after_leases most list c (back_of list c given) given s in
     let few = back-within most list c given in_most in
@@ -42,11 +45,13 @@ left-before_leases : (most : ℕ) (list : NetList) (c : Command) (left : List Ca
 left-before_leases most list c [] s in_most = let rest = left-leasing most list c (sets_of list) [] s in_most in omega arith
 left-before_leases most list c (x ∷ xs) s in_most = omega arith
 
-left-deleting : (most : ℕ) (list : NetList) (c : Command) (kinds : List Kind) (ending : Ending) (s : Share) → calls_left most list c (deleting kinds ending) s ≤ length kinds + deletions_of s
+left-deleting : (most : ℕ) (list : NetList) (c : Command) (kinds : List Kind) (ending : Ending) (s : Share)
+    → calls_left most list c (deleting kinds ending) s ≤ length kinds + deletions_of s
 left-deleting most list c [] ending s = omega arith
 left-deleting most list c (k ∷ ks) ending s = omega arith
 
-pub left-asking : (most : ℕ) (list : NetList) (c : Command) (questions : List Question) (s : Share) → calls_left most list c (asking questions) s ≤ length questions
+pub left-asking : (most : ℕ) (list : NetList) (c : Command) (questions : List Question) (s : Share)
+    → calls_left most list c (asking questions) s ≤ length questions
 left-asking most list c [] s = omega arith
 left-asking most list c (q ∷ qs) s = omega arith
 
@@ -81,7 +86,9 @@ IsReplyIn list c (Over ending given) r old new = ⊥
 abbrev Falls : ℕ → NetList → Command → State → State → Share → Share → Type 0
 Falls most list c st next old new = calls_left most list c next new < calls_left most list c st old
 
-falls-at_begin : (most : ℕ) (list : NetList) (c : Command) (number : ℕ) (r : Reply) (old new : Share) → AddsInAtMost list c most → (r ≡ Done → deletions_of new ≡ 0) → Falls most list c AtBegin (at_begin list c number r) old new
+falls-at_begin : (most : ℕ) (list : NetList) (c : Command) (number : ℕ) (r : Reply) (old new : Share)
+    → AddsInAtMost list c most → (r ≡ Done → deletions_of new ≡ 0)
+    → Falls most list c AtBegin (at_begin list c number r) old new
 falls-at_begin most list c number Done old new in_most none =
     let rest = left-before_leases most list c (before_of list c) new in_most in
     let split = most-splits most list c in_most in
@@ -89,59 +96,71 @@ falls-at_begin most list c number Done old new in_most none =
     omega arith
 falls-at_begin most list c number _ old new in_most none = omega arith
 
-falls-at_call_before : (most : ℕ) (list : NetList) (c : Command) (number : ℕ) (next : Call) (left : List Call) (r : Reply) (old new : Share) → AddsInAtMost list c most → OneMore old new
+falls-at_call_before : (most : ℕ) (list : NetList) (c : Command) (number : ℕ) (next : Call) (left : List Call) (r : Reply) (old new : Share)
+    → AddsInAtMost list c most → OneMore old new
     → Falls most list c (BeforeLeases next left) (at_call_before list c number left r) old new
 falls-at_call_before most list c number next left Done old new in_most more = let rest = left-before_leases most list c left new in_most in omega arith
 falls-at_call_before most list c number next left _ old new in_most more = omega arith
 
-falls-at_lease : (most : ℕ) (list : NetList) (c : Command) (number : ℕ) (next : RangeSet) (left : List RangeSet) (given : List Addr) (r : Reply) (old new : Share) → AddsInAtMost list c most → OneMore old new
+falls-at_lease : (most : ℕ) (list : NetList) (c : Command) (number : ℕ) (next : RangeSet) (left : List RangeSet) (given : List Addr) (r : Reply) (old new : Share)
+    → AddsInAtMost list c most → OneMore old new
     → Falls most list c (Leasing next left given) (at_lease list c number left given r) old new
 falls-at_lease most list c number next left given (Leased addr) old new in_most more = let rest = left-leasing most list c left (given ++ addr ∷ []) new in_most in omega arith
 falls-at_lease most list c number next left given _ old new in_most more = omega arith
 
-falls-at_call_after : (most : ℕ) (list : NetList) (c : Command) (number : ℕ) (next : Call) (left : List Call) (given : List Addr) (r : Reply) (old new : Share) → OneMore old new
+falls-at_call_after : (most : ℕ) (list : NetList) (c : Command) (number : ℕ) (next : Call) (left : List Call) (given : List Addr) (r : Reply) (old new : Share)
+    → OneMore old new
     → Falls most list c (AfterLeases next left given) (at_call_after number left given r) old new
 falls-at_call_after most list c number next left given Done old new more = let rest = left-after_leases most list c left given new in omega arith
 falls-at_call_after most list c number next left given _ old new more = omega arith
 
-falls-at_cache : (most : ℕ) (list : NetList) (c : Command) (number : ℕ) (ending : Ending) (r : Reply) (old new : Share) → deletions_of new ≤ deletions_of old
+falls-at_cache : (most : ℕ) (list : NetList) (c : Command) (number : ℕ) (ending : Ending) (r : Reply) (old new : Share)
+    → deletions_of new ≤ deletions_of old
     → Falls most list c (ReadingCache ending) (at_cache list number ending r) old new
 falls-at_cache most list c number ending Fault old new less = omega arith
 falls-at_cache most list c number ending _ old new less = let rest = left-deleting most list c (kinds_of list) ending new in omega arith
 
-falls-gone : (most : ℕ) (list : NetList) (c : Command) (number : ℕ) (kind : Kind) (left : List Kind) (ending : Ending) (gone : Bool) (old new : Share) → deletions_of new + one_if gone ≤ deletions_of old
+falls-gone : (most : ℕ) (list : NetList) (c : Command) (number : ℕ) (kind : Kind) (left : List Kind) (ending : Ending) (gone : Bool) (old new : Share)
+    → deletions_of new + one_if gone ≤ deletions_of old
     → Falls most list c (Deleting kind left ending) (at_deletion number kind left ending (Gone gone)) old new
 falls-gone most list c number kind left ending true old new less = omega arith
 falls-gone most list c number kind left ending false old new less = let rest = left-deleting most list c left ending new in omega arith
 
-falls-at_deletion : (most : ℕ) (list : NetList) (c : Command) (number : ℕ) (kind : Kind) (left : List Kind) (ending : Ending) (r : Reply) (old new : Share) → IsDeletion r old new
+falls-at_deletion : (most : ℕ) (list : NetList) (c : Command) (number : ℕ) (kind : Kind) (left : List Kind) (ending : Ending) (r : Reply) (old new : Share)
+    → IsDeletion r old new
     → Falls most list c (Deleting kind left ending) (at_deletion number kind left ending r) old new
 falls-at_deletion most list c number kind left ending r old new is = elim is [
   | inl fault ↦ subst (λ x. Falls most list c (Deleting kind left ending) (at_deletion number kind left ending x) old new) (sym fault.0) (omega arith)
   | inr gone ↦ subst (λ x. Falls most list c (Deleting kind left ending) (at_deletion number kind left ending x) old new) (sym gone.1) (falls-gone most list c number kind left ending gone.0 old new gone.2)
 ]
 
-falls-checking : (most : ℕ) (list : NetList) (c : Command) (o : Option Cached) (old new : Share) → ((cached : Cached) → o ≡ Some cached → length (check_questions list c cached) ≤ questions_by list c old.cached)
+falls-checking : (most : ℕ) (list : NetList) (c : Command) (o : Option Cached) (old new : Share)
+    → ((cached : Cached) → o ≡ Some cached → length (check_questions list c cached) ≤ questions_by list c old.cached)
     → Falls most list c FindingEntry (checking list c o) old new
 falls-checking most list c None old new few = omega arith
 falls-checking most list c (Some cached) old new few = let rest = left-asking most list c (check_questions list c cached) new in let here = few cached refl in omega arith
 
-falls-at_entry : (most : ℕ) (list : NetList) (c : Command) (number : ℕ) (r : Reply) (old new : Share) → IsEntry list c r old → Falls most list c FindingEntry (at_entry list c number r) old new
+falls-at_entry : (most : ℕ) (list : NetList) (c : Command) (number : ℕ) (r : Reply) (old new : Share)
+    → IsEntry list c r old → Falls most list c FindingEntry (at_entry list c number r) old new
 falls-at_entry most list c number r old new is = elim is [
   | inl fault ↦ subst (λ x. Falls most list c FindingEntry (at_entry list c number x) old new) (sym fault) (omega arith)
   | inr entry ↦ subst (λ x. Falls most list c FindingEntry (at_entry list c number x) old new) (sym entry.1) (falls-checking most list c entry.0 old new entry.2)
 ]
 
-falls-has : (most : ℕ) (list : NetList) (c : Command) (number : ℕ) (question : Question) (left : List Question) (has : Bool) (old new : Share) → Falls most list c (Asking question left) (at_question number question left (Has has)) old new
+falls-has : (most : ℕ) (list : NetList) (c : Command) (number : ℕ) (question : Question) (left : List Question) (has : Bool) (old new : Share)
+    → Falls most list c (Asking question left) (at_question number question left (Has has)) old new
 falls-has most list c number question left true old new = let rest = left-asking most list c left new in omega arith
 falls-has most list c number question left false old new = omega arith
 
-falls-at_question : (most : ℕ) (list : NetList) (c : Command) (number : ℕ) (question : Question) (left : List Question) (r : Reply) (old new : Share) → Falls most list c (Asking question left) (at_question number question left r) old new
+falls-at_question : (most : ℕ) (list : NetList) (c : Command) (number : ℕ) (question : Question) (left : List Question) (r : Reply) (old new : Share)
+    → Falls most list c (Asking question left) (at_question number question left r) old new
 falls-at_question most list c number question left (Has has) old new = falls-has most list c number question left has old new
 falls-at_question most list c number question left _ old new = omega arith
 
 -- whatever is replied, fewer calls are left
-pub falls-advance : (most : ℕ) (list : NetList) (c : Command) (number : ℕ) (st : State) (r : Reply) (old new : Share) → AddsInAtMost list c most → IsReplyIn list c st r old new → Falls most list c st (advance list c number st r) old new
+pub falls-advance : (most : ℕ) (list : NetList) (c : Command) (number : ℕ) (st : State) (r : Reply) (old new : Share)
+    → AddsInAtMost list c most → IsReplyIn list c st r old new
+    → Falls most list c st (advance list c number st r) old new
 unfolding advance
 falls-advance most list c number AtBegin r old new in_most is = falls-at_begin most list c number r old new in_most is
 falls-advance most list c number (BeforeLeases next left) r old new in_most is = falls-at_call_before most list c number next left r old new in_most is
@@ -178,15 +197,19 @@ Replies list c st host call = IsReplyIn list c st (apply host call).1 (share_of 
 reply-begin : (list : NetList) (c : Command) (host : Host) → Replies list c AtBegin host (Begin (att_of c) c.netns)
 reply-begin list c host = λ done. begin-none (att_of c) host c.netns done
 
-first-asks : (xs : List CachedObj) (list : NetList) (c : Command) (cached : Cached) → option_map (λ (x : CachedObj). x.cached) (first_of xs) ≡ Some cached → length (check_questions list c cached) ≤ questions_by list c xs
+first-asks : (xs : List CachedObj) (list : NetList) (c : Command) (cached : Cached)
+    → option_map (λ (x : CachedObj). x.cached) (first_of xs) ≡ Some cached
+    → length (check_questions list c cached) ≤ questions_by list c xs
 first-asks [] list c cached is = cc
 first-asks (x ∷ xs) list c cached is = let e = ap (λ k. length (check_questions list c k)) (same_Some x.cached cached is) in omega arith
 
-found-filter : (own : CachedObj → Bool) (xs : List CachedObj) (list : NetList) (c : Command) (cached : Cached) → option_map (λ (x : CachedObj). x.cached) (find own xs) ≡ Some cached
+found-filter : (own : CachedObj → Bool) (xs : List CachedObj) (list : NetList) (c : Command) (cached : Cached)
+    → option_map (λ (x : CachedObj). x.cached) (find own xs) ≡ Some cached
     → length (check_questions list c cached) ≤ questions_by list c (filter own xs)
 found-filter own xs list c cached is = first-asks (filter own xs) list c cached (ap (option_map (λ (x : CachedObj). x.cached)) (sym (find-first own xs)) ∙ is)
 
-pub replies-as : (list : NetList) (c : Command) (st : State) (host : Host) (call : Call) → IsSound host → IsAllowed host call → IsOwnNext c st → turn c st ≡ Calls call → Replies list c st host call
+pub replies-as : (list : NetList) (c : Command) (st : State) (host : Host) (call : Call) → IsSound host
+    → IsAllowed host call → IsOwnNext c st → turn c st ≡ Calls call → Replies list c st host call
 unfolding turn
 replies-as list c AtBegin host call sound allowed own is = subst (Replies list c AtBegin host) (let e : Begin (att_of c) c.netns ≡ call = cc in e) (reply-begin list c host)
 replies-as list c (BeforeLeases next left) host call sound allowed own is =
@@ -210,7 +233,8 @@ replies-as list c (Collecting work faults) host call sound allowed own is = absu
 replies-as list c (Over ending given) host call sound allowed own is = cc
 
 -- a fault, which leaves the host
-pub fault-as : (list : NetList) (c : Command) (st : State) (host : Host) (call : Call) → IsOwnNext c st → turn c st ≡ Calls call → IsReplyIn list c st Fault (share_of (att_of c) host) (share_of (att_of c) host)
+pub fault-as : (list : NetList) (c : Command) (st : State) (host : Host) (call : Call) → IsOwnNext c st
+    → turn c st ≡ Calls call → IsReplyIn list c st Fault (share_of (att_of c) host) (share_of (att_of c) host)
 unfolding turn
 fault-as list c AtBegin host call own is = λ done. cc
 fault-as list c (BeforeLeases next left) host call own is = omega arith

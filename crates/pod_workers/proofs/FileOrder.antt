@@ -15,7 +15,8 @@ use Rattle.pod_workers.proofs.{RoundsAscend.rounds_ascend, Sound.goes_in}
 
 -- ---- an answer
 
-pub file_order_answered : (w : World) (n : ℕ) (c : Placed) (b : Answer) → IsInFileOrder w → IsReady w n c → IsInFileOrder (answered w n b)
+pub file_order_answered : (w : World) (n : ℕ) (c : Placed) (b : Answer) → IsInFileOrder w → IsReady w n c
+    → IsInFileOrder (answered w n b)
 file_order_answered w n c b order ready = record {
   entries = order.entries;
   before = done_before_answered w n c b (λ d x. d.round ≡ x.round) order.before ready;
@@ -24,7 +25,8 @@ file_order_answered w n c b order ready = record {
 -- ---- an entry
 
 -- no entry is of a later command
-none_later : (w : World) (before between : List Entry) (f : Entry) (m n : ℕ) (d c : Placed) → Legal w → IsInFileOrder w → IsReady w n c → w.history ≡ before ++ f ∷ between → IsEntryOf w.plan f m d → m ≤ n
+none_later : (w : World) (before between : List Entry) (f : Entry) (m n : ℕ) (d c : Placed) → Legal w → IsInFileOrder w
+    → IsReady w n c → w.history ≡ before ++ f ∷ between → IsEntryOf w.plan f m d → m ≤ n
 none_later w before between f m n d c legal order ready at of_f = elim (cases_lt n m) [
   | inr most ↦ most
   | inl less ↦ absurd (
@@ -38,7 +40,8 @@ none_later w before between f m n d c legal order ready at of_f = elim (cases_lt
       ])
 ]
 
-file_order_entered : (w : World) (n : ℕ) (c : Placed) (e : Entry) → Legal w → IsInFileOrder w → IsReady w n c → EarlierAreAnswered w n → is_cut w ≡ false → e.command ≡ n + 1 → IsInFileOrder (with_entry w e)
+file_order_entered : (w : World) (n : ℕ) (c : Placed) (e : Entry) → Legal w → IsInFileOrder w → IsReady w n c
+    → EarlierAreAnswered w n → is_cut w ≡ false → e.command ≡ n + 1 → IsInFileOrder (with_entry w e)
 file_order_entered w n c e legal order ready earlier no_cut own = record {
   entries = each_two-grows w.plan w.history e n c AreInFileOrder (record { number = own; there = ready.there }) order.entries
       (λ before between f m d at of_f. none_later w before between f m n d c legal order ready at of_f);
@@ -48,12 +51,14 @@ file_order_entered w n c e legal order ready earlier no_cut own = record {
 
 -- ---- a step
 
-file_order_done : (w : World) (n : ℕ) (c : Placed) (x : Next) → Legal w → IsInFileOrder w → IsReady w n c → EarlierAreAnswered w n → next_of w c.command (own_replies w n) ≡ x → IsInFileOrder (done w n x)
+file_order_done : (w : World) (n : ℕ) (c : Placed) (x : Next) → Legal w → IsInFileOrder w → IsReady w n c
+    → EarlierAreAnswered w n → next_of w c.command (own_replies w n) ≡ x → IsInFileOrder (done w n x)
 file_order_done w n c (next.Answer a) legal order ready earlier is = file_order_answered w n c a order ready
 file_order_done w n c (next.Call call faulty) legal order ready earlier is =
     file_order_entered w n c (entry_of (host_of w) n call faulty) legal order ready earlier (goes_in w n c.command call faulty is).no_cut refl
 
-pub file_order_stepped : (w : World) (n : ℕ) (c : Placed) → Legal w → IsInFileOrder w → IsReady w n c → EarlierAreAnswered w n → IsInFileOrder (stepped w n c.command)
+pub file_order_stepped : (w : World) (n : ℕ) (c : Placed) → Legal w → IsInFileOrder w → IsReady w n c
+    → EarlierAreAnswered w n → IsInFileOrder (stepped w n c.command)
 file_order_stepped w n c legal order ready earlier = file_order_done w n c (next_of w c.command (own_replies w n)) legal order ready earlier refl
 
 pub file_order_next_round : (w : World) → IsInFileOrder w → IsInFileOrder (next_round w)

@@ -14,20 +14,26 @@ use Rattle.pod_workers.proofs.Rounds.{placed_from-more, rounds-before}
 
 -- ---- one more command
 
-none-snoc : (commands : List Placed) (c : Placed) (start end round : ℕ) (container : List ℕ) → end ≤ length commands → NoneOf commands start end round container → NoneOf (commands ++ c ∷ []) start end round container
+none-snoc : (commands : List Placed) (c : Placed) (start end round : ℕ) (container : List ℕ) → end ≤ length commands
+    → NoneOf commands start end round container → NoneOf (commands ++ c ∷ []) start end round container
 none-snoc commands c start end round container within none k d low high is = none k d low high (sym (slice_get-before commands (c ∷ []) k (omega arith)) ∙ is)
 
-latest-snoc : (commands : List Placed) (c : Placed) (end round : ℕ) (container : List ℕ) (o : Option ℕ) → end ≤ length commands → IsLatest commands end round container o → IsLatest (commands ++ c ∷ []) end round container o
+latest-snoc : (commands : List Placed) (c : Placed) (end round : ℕ) (container : List ℕ) (o : Option ℕ)
+    → end ≤ length commands → IsLatest commands end round container o
+    → IsLatest (commands ++ c ∷ []) end round container o
 latest-snoc commands c end round container None within h = none-snoc commands c 0 end round container within h
 latest-snoc commands c end round container (Some m) within h =
     let less = h.0 in
     (h.0, (h.1.0, slice_get-before commands (c ∷ []) m (omega arith) ∙ h.1.1, h.1.2), none-snoc commands c (m + 1) end round container within h.2)
 
 -- the last of the new command's round and container is now the new command
-pub latest-own : (commands : List Placed) (c : Placed) → IsLatest (commands ++ c ∷ []) (length commands + 1) c.round c.command.container (Some (length commands))
+pub latest-own : (commands : List Placed) (c : Placed)
+    → IsLatest (commands ++ c ∷ []) (length commands + 1) c.round c.command.container (Some (length commands))
 latest-own commands c = (omega arith, (c, slice_get-middle commands [] c, (refl, refl)), λ k d low high is. absurd (omega arith))
 
-none-other : (commands : List Placed) (c : Placed) (start round : ℕ) (container : List ℕ) → ¬ IsOf c round container → NoneOf commands start (length commands) round container → NoneOf (commands ++ c ∷ []) start (length commands + 1) round container
+none-other : (commands : List Placed) (c : Placed) (start round : ℕ) (container : List ℕ) → ¬ IsOf c round container
+    → NoneOf commands start (length commands) round container
+    → NoneOf (commands ++ c ∷ []) start (length commands + 1) round container
 none-other commands c start round container not none k d low high is =
     elim (at_snoc commands c d k is) [
       | inl t ↦ none k d low t.0 t.1
@@ -35,16 +41,21 @@ none-other commands c start round container not none k d low high is =
     ]
 
 -- of another round or container, the last is what it was
-pub latest-other : (commands : List Placed) (c : Placed) (round : ℕ) (container : List ℕ) (o : Option ℕ) → ¬ IsOf c round container → IsLatest commands (length commands) round container o → IsLatest (commands ++ c ∷ []) (length commands + 1) round container o
+pub latest-other : (commands : List Placed) (c : Placed) (round : ℕ) (container : List ℕ) (o : Option ℕ)
+    → ¬ IsOf c round container → IsLatest commands (length commands) round container o
+    → IsLatest (commands ++ c ∷ []) (length commands + 1) round container o
 latest-other commands c round container None not h = none-other commands c 0 round container not h
 latest-other commands c round container (Some m) not h =
     let less = h.0 in
     (omega arith, (h.1.0, slice_get-before commands (c ∷ []) m h.0 ∙ h.1.1, h.1.2), none-other commands c (m + 1) round container not h.2)
 
-placed-snoc : (rounds : List (List Command)) (commands : List Placed) (x : Placed) (n : ℕ) (c : Placed) (p : Place) → n ≤ length commands → IsPlaced rounds commands n c p → IsPlaced rounds (commands ++ x ∷ []) n c p
+placed-snoc : (rounds : List (List Command)) (commands : List Placed) (x : Placed) (n : ℕ) (c : Placed) (p : Place)
+    → n ≤ length commands → IsPlaced rounds commands n c p → IsPlaced rounds (commands ++ x ∷ []) n c p
 placed-snoc rounds commands x n c p within h = record { command = h.command; round_is = h.round_is; previous = latest-snoc commands x n c.round c.command.container p.previous within h.previous }
 
-pub index-more : (rounds : List (List Command)) (commands : List Placed) (places : List Place) (c : Placed) (p : Place) → IsIndex rounds commands places → IsPlaced rounds commands (length commands) c p → IsIndex rounds (commands ++ c ∷ []) (places ++ p ∷ [])
+pub index-more : (rounds : List (List Command)) (commands : List Placed) (places : List Place) (c : Placed) (p : Place)
+    → IsIndex rounds commands places → IsPlaced rounds commands (length commands) c p
+    → IsIndex rounds (commands ++ c ∷ []) (places ++ p ∷ [])
 index-more rounds commands places c p index here =
     record {
       long = length-append places (p ∷ []) ∙ ap (λ n. n + 1) index.long ∙ sym (length-append commands (c ∷ []));
@@ -74,7 +85,8 @@ pub record IsIndexedTo (rounds : List (List Command)) (before : List Placed) (ro
   pub index : IsIndex rounds (before ++ map (in_round round) some) places
   pub last_of : (q : List ℕ) → IsLatest (before ++ map (in_round round) some) (length (before ++ map (in_round round) some)) round q (latest q)
 
-pub nothing-indexed : (rounds : List (List Command)) (before : List Placed) (round : ℕ) (places : List Place) (latest : List ℕ → Option ℕ) → AreBefore round before → IsIndex rounds before places
+pub nothing-indexed : (rounds : List (List Command)) (before : List Placed) (round : ℕ) (places : List Place) (latest : List ℕ → Option ℕ)
+    → AreBefore round before → IsIndex rounds before places
     → ((q : List ℕ) → latest q ≡ None) → IsIndexedTo rounds before round [] places latest
 nothing-indexed rounds before round places latest earlier index none =
     let same = append-nil before in
@@ -83,7 +95,8 @@ nothing-indexed rounds before round places latest earlier index none =
       last_of = λ q. rw (same, none q) (λ k d low high is of_. let less = earlier k d is in let e = of_.0 in omega arith);
     }
 
-last-by : (commands : List Placed) (round : ℕ) (c : Command) (latest : List ℕ → Option ℕ) (q : List ℕ) (b : Bool) → bytes_eq c.container q ≡ b
+last-by : (commands : List Placed) (round : ℕ) (c : Command) (latest : List ℕ → Option ℕ) (q : List ℕ) (b : Bool)
+    → bytes_eq c.container q ≡ b
     → IsLatest commands (length commands) round q (latest q)
     → IsLatest (commands ++ in_round round c ∷ []) (length commands + 1) round q (cond b (Some (length commands)) (latest q))
 last-by commands round c latest q true is h =
@@ -124,13 +137,15 @@ indexed-more rounds before round commands i c p places latest latest' in_rounds 
     subst (λ cs. IsIndexedTo rounds before round cs (places ++ p ∷ []) latest') (sym grown)
     (one-indexed rounds before round commands (take i commands) c p places latest latest' in_rounds at_c (p_is ∙ ap (λ k. record { round = round; within = k; previous = latest c.container }) (sym short)) updated h)
 
-pub all-indexed : (rounds : List (List Command)) (before : List Placed) (round : ℕ) (commands : List Command) (i : ℕ) (places : List Place) (latest : List ℕ → Option ℕ) → length commands ≤ i
+pub all-indexed : (rounds : List (List Command)) (before : List Placed) (round : ℕ) (commands : List Command) (i : ℕ) (places : List Place) (latest : List ℕ → Option ℕ)
+    → length commands ≤ i
     → IsIndexedTo rounds before round (take i commands) places latest → IsIndex rounds (before ++ map (in_round round) commands) places
 all-indexed rounds before round commands i places latest past h = subst (λ cs. IsIndex rounds (before ++ map (in_round round) cs) places) (take_all i commands past) h.index
 
 -- ---- round after round
 
-pub index-fits : (rounds : List (List Command)) (i : ℕ) (cs d : List Command) (places : List Place) (most : ℕ) → IsIndex rounds (placed_from 0 (take i rounds)) places → i < length rounds → cs ≡ get_or rounds i d
+pub index-fits : (rounds : List (List Command)) (i : ℕ) (cs d : List Command) (places : List Place) (most : ℕ)
+    → IsIndex rounds (placed_from 0 (take i rounds)) places → i < length rounds → cs ≡ get_or rounds i d
     → length (placed_from 0 rounds) ≤ most → length places + length cs ≤ most
 index-fits rounds i cs d places most index within is few =
     let fits = placed-fits rounds i (get_or rounds i d) (slice_get-get_or rounds i d within) in
@@ -138,7 +153,8 @@ index-fits rounds i cs d places most index within is few =
     let same = ap length is in
     omega (arith, fits, long, same, few)
 
-pub index-round-more : (rounds : List (List Command)) (i : ℕ) (cs d : List Command) (places more : List Place) → IsIndex rounds (placed_from 0 (take i rounds)) places → i < length rounds → cs ≡ get_or rounds i d
+pub index-round-more : (rounds : List (List Command)) (i : ℕ) (cs d : List Command) (places more : List Place)
+    → IsIndex rounds (placed_from 0 (take i rounds)) places → i < length rounds → cs ≡ get_or rounds i d
     → ((rs : List (List Command)) (before : List Placed) → slice_get rs i ≡ Some cs → AreBefore i before → IsIndex rs before places → IsIndex rs (before ++ map (in_round i) cs) more)
     → IsIndex rounds (placed_from 0 (take (i + 1) rounds)) more
 index-round-more rounds i cs d places more index within is grows =
@@ -149,8 +165,10 @@ index-round-more rounds i cs d places more index within is grows =
     ap (λ k. placed_from 0 (take k rounds)) (sym next_is) ∙ placed_from-more 0 i rounds cs at_i ∙ ap (λ k. placed_from 0 (take i rounds) ++ map (in_round k) cs) zero_is in
     subst (λ xs. IsIndex rounds xs more) (sym all) (grows rounds (placed_from 0 (take i rounds)) at_i (rounds-before i rounds) index)
 
-pub index-is-whole : (rounds : List (List Command)) (i : ℕ) (places : List Place) → length rounds ≤ i → IsIndex rounds (placed_from 0 (take i rounds)) places → IsIndex rounds (placed_from 0 rounds) places
+pub index-is-whole : (rounds : List (List Command)) (i : ℕ) (places : List Place) → length rounds ≤ i
+    → IsIndex rounds (placed_from 0 (take i rounds)) places → IsIndex rounds (placed_from 0 rounds) places
 index-is-whole rounds i places past index = subst (λ rs. IsIndex rounds (placed_from 0 rs) places) (take_all i rounds past) index
 
-pub count-more : {X : Type 0} (xs ys : List X) (y : X) (base i : ℕ) → ys ≡ xs ++ y ∷ [] → length xs ≡ base + i → length ys ≡ base + (i + 1)
+pub count-more : {X : Type 0} (xs ys : List X) (y : X) (base i : ℕ) → ys ≡ xs ++ y ∷ [] → length xs ≡ base + i
+    → length ys ≡ base + (i + 1)
 count-more xs ys y base i ys_is long = let e = ap length ys_is in let l = length-append xs (y ∷ []) in omega (arith, e, l, long)

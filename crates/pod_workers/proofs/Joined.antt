@@ -13,7 +13,8 @@ use Rattle.pod_workers.specs.{Plans.{has_list, lacks_list}, declared.plan.{Plan.
 use Rattle.pod_workers.specs.declared.plan.PlanError.TheVariants.{NoNetwork}
 
 -- where none passes a test, all pass another one
-all-from : {X : Type 0} (q p : X → Bool) → ((x : X) → q x ≡ false → p x ≡ true) → (i : ℕ) (xs : List X) → position_from q i xs ≡ None → list_all p xs ≡ true
+all-from : {X : Type 0} (q p : X → Bool) → ((x : X) → q x ≡ false → p x ≡ true) → (i : ℕ) (xs : List X)
+    → position_from q i xs ≡ None → list_all p xs ≡ true
 all-from q p tells i [] none = refl
 all-from q p tells i (x ∷ xs) none =
     elim (q x) as (λ b. q x ≡ b → cond b (Some i) (position_from q (i + 1) xs) ≡ None → (p x && list_all p xs) ≡ true) [
@@ -21,7 +22,8 @@ all-from q p tells i (x ∷ xs) none =
       | false ↦ λ is h. let here : p x ≡ true = tells x is in let rest : list_all p xs ≡ true = all-from q p tells (i + 1) xs h in grind (arith, here, rest)
     ] refl none
 
-all-where_none : {X : Type 0} (q p : X → Bool) → ((x : X) → q x ≡ false → p x ≡ true) → (xs : List X) → position q xs ≡ None → list_all p xs ≡ true
+all-where_none : {X : Type 0} (q p : X → Bool) → ((x : X) → q x ≡ false → p x ≡ true) → (xs : List X)
+    → position q xs ≡ None → list_all p xs ≡ true
 all-where_none q p tells xs none = all-from q p tells 0 xs (sym (position_from-zero q xs) ∙ none)
 
 -- ---- names
@@ -33,7 +35,8 @@ same_name a b = bytes_eq a.name b.name
 abbrev HasNoneLater : List NetList → NetList → Bool
 HasNoneLater later e = not (list_any (same_name e) later)
 
-joins-both : (l : NetList) (later earlier : List NetList) → list_all (HasNoneLater later) (earlier ++ l ∷ []) ≡ true → list_any (λ e. bytes_eq e.name l.name) earlier ≡ false
+joins-both : (l : NetList) (later earlier : List NetList) → list_all (HasNoneLater later) (earlier ++ l ∷ []) ≡ true
+    → list_any (λ e. bytes_eq e.name l.name) earlier ≡ false
     → (list_all (HasNoneLater (l ∷ later)) earlier ≡ true) × (HasNoneLater later l ≡ true)
 joins-both l later [] all none = (refl, grind (arith, all))
 joins-both l later (e ∷ es) all none =
@@ -50,14 +53,17 @@ none-later : (earlier : List NetList) → list_all (HasNoneLater []) earlier ≡
 none-later [] = refl
 none-later (e ∷ es) = none-later es
 
-apart-more : (earlier : List NetList) (l : NetList) (ls : List NetList) → list_any (λ e. bytes_eq e.name l.name) earlier ≡ false → AreApart (earlier ++ l ∷ []) ls → AreApart earlier (l ∷ ls)
+apart-more : (earlier : List NetList) (l : NetList) (ls : List NetList)
+    → list_any (λ e. bytes_eq e.name l.name) earlier ≡ false → AreApart (earlier ++ l ∷ []) ls
+    → AreApart earlier (l ∷ ls)
 apart-more earlier l ls none apart =
     let both = joins-both l ls earlier apart.0 none in
     let here : not (list_any (same_name l) ls) ≡ true = both.1 in
     let rest : distinct (λ a b. bytes_eq a.name b.name) ls ≡ true = apart.1 in
     (both.0, grind (arith, here, rest))
 
-apart : (earlier : List NetList) (place : ℕ) (ls : List NetList) → first_repeat_after earlier place ls ≡ None → AreApart earlier ls
+apart : (earlier : List NetList) (place : ℕ) (ls : List NetList) → first_repeat_after earlier place ls ≡ None
+    → AreApart earlier ls
 apart earlier place [] none = (none-later earlier, refl)
 apart earlier place (l ∷ ls) none =
     elim (has_list earlier l.name)
@@ -68,13 +74,15 @@ apart earlier place (l ∷ ls) none =
 
 -- ---- what was joined
 
-by_refusal : (p q : Plan) (names networks : Option ℕ) → plan_unless (option_or (option_map (λ place. SameName place) names) (option_map (λ place. NoNetwork (place + 1)) networks)) p ≡ Ok q
+by_refusal : (p q : Plan) (names networks : Option ℕ)
+    → plan_unless (option_or (option_map (λ place. SameName place) names) (option_map (λ place. NoNetwork (place + 1)) networks)) p ≡ Ok q
     → (p ≡ q) × (names ≡ None) × (networks ≡ None)
 by_refusal p q None None h = (cc, refl, refl)
 by_refusal p q None (Some place) h = absurd cc
 by_refusal p q (Some place) networks h = absurd cc
 
-each-listed : (p : Plan) → first_without_list p.lists p.pods.rounds ≡ None → list_all (λ c. not (lacks_list p.lists c.command)) (commands_of p) ≡ true
+each-listed : (p : Plan) → first_without_list p.lists p.pods.rounds ≡ None
+    → list_all (λ c. not (lacks_list p.lists c.command)) (commands_of p) ≡ true
 unfolding commands_of
 each-listed p none =
     all-where_none (λ (c : Placed). lacks_list p.lists c.command) (λ (c : Placed). not (lacks_list p.lists c.command))
@@ -102,12 +110,14 @@ repeats-step lists i l within is =
     ∙ ap (λ earlier. if has_list (take i lists) l.name then Some i else first_repeat_after earlier (i + 1) (drop (i + 1) lists))
     (ap (λ x. take i lists ++ x ∷ []) is ∙ sym (take_more lists i l within))
 
-pub repeats-here : (lists : List NetList) (i : ℕ) (l : NetList) → i < length lists → l ≡ get_or lists i l → has_list (take i lists) l.name ≡ true
+pub repeats-here : (lists : List NetList) (i : ℕ) (l : NetList) → i < length lists → l ≡ get_or lists i l
+    → has_list (take i lists) l.name ≡ true
     → first_repeat_after (take i lists) i (drop i lists) ≡ first_repeat_after [] 0 lists → Some i ≡ first_repeat_after [] 0 lists
 repeats-here lists i l within is has so_far =
     sym (sym so_far ∙ repeats-step lists i l within is ∙ ap (λ b. if b then Some i else first_repeat_after (take (i + 1) lists) (i + 1) (drop (i + 1) lists)) has)
 
-pub repeats-later : (lists : List NetList) (i : ℕ) (l : NetList) → i < length lists → l ≡ get_or lists i l → has_list (take i lists) l.name ≡ false
+pub repeats-later : (lists : List NetList) (i : ℕ) (l : NetList) → i < length lists → l ≡ get_or lists i l
+    → has_list (take i lists) l.name ≡ false
     → first_repeat_after (take i lists) i (drop i lists) ≡ first_repeat_after [] 0 lists
     → first_repeat_after (take (i + 1) lists) (i + 1) (drop (i + 1) lists) ≡ first_repeat_after [] 0 lists
 repeats-later lists i l within is has_none so_far =

@@ -33,11 +33,13 @@ pub state_from-append : (list : NetList) (c : Command) (made : ℕ) (s : State) 
     → state_from list c made s (rs ++ r ∷ []) ≡ advance list c (made + length rs + 1) (state_from list c made s rs) r
 state_from-append list c made s rs r = after_replies-append (advance list c) made s rs r
 
-pub outside_from-append : (made : ℕ) (s : State) (rs : List Reply) (r : Reply) → outside_from made s (rs ++ r ∷ []) ≡ outside_advance (made + length rs + 1) (outside_from made s rs) r
+pub outside_from-append : (made : ℕ) (s : State) (rs : List Reply) (r : Reply)
+    → outside_from made s (rs ++ r ∷ []) ≡ outside_advance (made + length rs + 1) (outside_from made s rs) r
 outside_from-append made s rs r = after_replies-append outside_advance made s rs r
 
 -- one more reply
-progress-append : (list : Option NetList) (c : Command) (rs : List Reply) (r : Reply) → progress list c (rs ++ r ∷ []) ≡ advanced (progress list c rs) r
+progress-append : (list : Option NetList) (c : Command) (rs : List Reply) (r : Reply)
+    → progress list c (rs ++ r ∷ []) ≡ advanced (progress list c rs) r
 progress-append None c rs r =
     let state_is = outside_from-append 0 (outside_start c) rs r ∙ ap (λ k. outside_advance k (outside_from 0 (outside_start c) rs) r) (omega arith) in
     ap (λ m. record { list = None; command = c; made = m; state = outside_from 0 (outside_start c) (rs ++ r ∷ []) }) (length_push rs r)
@@ -47,16 +49,19 @@ progress-append (Some list) c rs r =
     ap (λ m. record { list = Some list; command = c; made = m; state = state_from list c 0 (start_state list c) (rs ++ r ∷ []) }) (length_push rs r)
     ∙ ap (λ s. record { list = Some list; command = c; made = length rs + 1; state = s }) state_is
 
-turn-of : (list : Option NetList) (c : Command) (rs : List Reply) → turn c (progress list c rs).state ≡ turn_by list c rs
+turn-of : (list : Option NetList) (c : Command) (rs : List Reply)
+    → turn c (progress list c rs).state ≡ turn_by list c rs
 unfolding turn
 turn-of None c rs = refl
 turn-of (Some list) c rs = refl
 
-pub begun-is : (list : Option NetList) (c : Command) (rs : List Reply) (s : Option RunView) → Fits list c rs s → begun_with list c s ≡ progress list c rs
+pub begun-is : (list : Option NetList) (c : Command) (rs : List Reply) (s : Option RunView) → Fits list c rs s
+    → begun_with list c s ≡ progress list c rs
 begun-is list c rs None fits = ap (progress list c) (sym fits)
 begun-is list c rs (Some s) fits = fits.0
 
-pub within-fits : (list : Option NetList) (c : Command) (rs : List Reply) (s : Option RunView) → Fits list c rs s → IsUpToStop c.stop (length rs)
+pub within-fits : (list : Option NetList) (c : Command) (rs : List Reply) (s : Option RunView) → Fits list c rs s
+    → IsUpToStop c.stop (length rs)
 within-fits list c rs None fits = subst (λ (q : List Reply). IsUpToStop c.stop (length q)) (sym fits) (none-made c.stop)
 within-fits list c rs (Some s) fits = fits.1
 
@@ -70,7 +75,8 @@ pub record IsHere (host : Host) (slots : List (Option RunView)) (places : List P
   pub within : IsUpToStop c.command.stop (length (own_replies w n))
   pub number : c.command.number ≡ n + 1
 
-pub here : (host : Host) (slots : List (Option RunView)) (places : List Place) (before : ℕ) (w : World) (n : ℕ) (c : Placed) (s : Option RunView) → IsKept host slots places before w → IsReady w n c
+pub here : (host : Host) (slots : List (Option RunView)) (places : List Place) (before : ℕ) (w : World) (n : ℕ) (c : Placed) (s : Option RunView)
+    → IsKept host slots places before w → IsReady w n c
     → slice_get slots n ≡ Some s → IsHere host slots places before w n c s
 unfolding begun_by
 here host slots places before w n c s kept ready slot =
@@ -84,14 +90,17 @@ here host slots places before w n c s kept ready slot =
     }
 
 -- what the run does next is the world's next
-next-here : (w : World) (n : ℕ) (c : Command) (s : Progress) (cut : Bool) → s ≡ progress (list_for w.plan c) c (own_replies w n) → cut ≡ is_cut w → next_in c cut s ≡ next_of w c (own_replies w n)
+next-here : (w : World) (n : ℕ) (c : Command) (s : Progress) (cut : Bool)
+    → s ≡ progress (list_for w.plan c) c (own_replies w n) → cut ≡ is_cut w
+    → next_in c cut s ≡ next_of w c (own_replies w n)
 unfolding next_in
 next-here w n c s cut run cut_is =
     let list = list_for w.plan c in
     let rs = own_replies w n in
     ap (next_in c cut) run ∙ ap (λ b. next_in c b (progress list c rs)) cut_is ∙ ap (next_by list c (length rs) (is_cut w)) (turn-of list c rs)
 
-may-be-made : (w : World) (n : ℕ) (c : Placed) (x : Next) → Legal w → IsReady w n c → next_of w c.command (own_replies w n) ≡ x → MayBeMade (host_of w) x
+may-be-made : (w : World) (n : ℕ) (c : Placed) (x : Next) → Legal w → IsReady w n c
+    → next_of w c.command (own_replies w n) ≡ x → MayBeMade (host_of w) x
 may-be-made w n c (next.Answer a) legal ready is = tt
 may-be-made w n c (next.Call call faulty) legal ready is = λ real. allowed_next w n c call legal ready (is ∙ ap (next.Call call) real)
 
@@ -113,7 +122,8 @@ may-step-task host slots places before w n c s cut h cut_is small =
     })
 
 -- an answer leaves the host and all other runs
-answer_keeps : (host : Host) (slots : List (Option RunView)) (places : List Place) (before : ℕ) (w : World) (n : ℕ) (c : Placed) (a : Answer) → IsKept host slots places before w → IsReady w n c → Legal (answered w n a)
+answer_keeps : (host : Host) (slots : List (Option RunView)) (places : List Place) (before : ℕ) (w : World) (n : ℕ) (c : Placed) (a : Answer)
+    → IsKept host slots places before w → IsReady w n c → Legal (answered w n a)
     → IsKept host (slice_set slots n None) places before (answered w n a)
 answer_keeps host slots places before w n c a kept ready legal = record {
   legal = legal;
@@ -208,7 +218,8 @@ over-by host host' slots places before w n c h' b (next.Answer a) kept ready is 
       end_is = sym (ap end_of is);
     }
 
-done-at : (host host' : Host) (w : World) (n : ℕ) (c : Command) (s : Progress) (cut : Bool) (h' : List Entry) (o : Stepped) → s ≡ progress (list_for w.plan c) c (own_replies w n) → cut ≡ is_cut w
+done-at : (host host' : Host) (w : World) (n : ℕ) (c : Command) (s : Progress) (cut : Bool) (h' : List Entry) (o : Stepped)
+    → s ≡ progress (list_for w.plan c) c (own_replies w n) → cut ≡ is_cut w
     → DoesNext host host' w.history h' c s (next_in c cut s) o → DoesNext host host' w.history h' c (progress (list_for w.plan c) c (own_replies w n)) (next_of w c (own_replies w n)) o
 done-at host host' w n c s cut h' o run cut_is d =
     subst (λ x. DoesNext host host' w.history h' c (progress (list_for w.plan c) c (own_replies w n)) x o) (next-here w n c s cut run cut_is)
@@ -229,7 +240,8 @@ over-here host host' slots places before w n c s cut h' b h cut_is d =
     over-by host host' slots places before w n c h' b _ h.kept h.ready refl (done-at host host' w n c.command (begun_by w.plan.lists c.command s) cut h' (step.Answered b) h.run cut_is d)
 
 -- running out of memory answers, and leaves the host
-pub refused-here : (host host' : Host) (slots : List (Option RunView)) (places : List Place) (before : ℕ) (w : World) (n : ℕ) (c : Placed) (s : Option RunView) (h' : List Entry) → IsHere host slots places before w n c s
+pub refused-here : (host host' : Host) (slots : List (Option RunView)) (places : List Place) (before : ℕ) (w : World) (n : ℕ) (c : Placed) (s : Option RunView) (h' : List Entry)
+    → IsHere host slots places before w n c s
     → host' ≡ host → h' ≡ w.history → IsKept host' (slice_set slots n None) places before (world_with w h' (slice_set w.answers n (Some OutOfMemory)))
 refused-here host host' slots places before w n c s h' h same_host same_history =
     let still = answer_keeps host slots places before w n c OutOfMemory h.kept h.ready (refused_memory w (answered w n OutOfMemory) n c h.kept.legal h.ready refl) in
@@ -263,10 +275,12 @@ found {host} {slots} {places} {seen} {before} {w} {v} {number} {p} {s} {rounds} 
     }
 
 -- whether the round is stopped, by the history and the places that the code reads
-pub cut-by : (stop : Option ℕ) (round : ℕ) {h k : List Entry} {places seen : List Place} {cut : Bool} → cut ≡ is_cut_by stop h seen round → h ≡ k → seen ≡ places → cut ≡ is_cut_by stop k places round
+pub cut-by : (stop : Option ℕ) (round : ℕ) {h k : List Entry} {places seen : List Place} {cut : Bool}
+    → cut ≡ is_cut_by stop h seen round → h ≡ k → seen ≡ places → cut ≡ is_cut_by stop k places round
 cut-by stop round {h} {k} {places} {seen} {cut} is h_is seen_is = is ∙ ap (λ l. is_cut_by stop l seen round) h_is ∙ ap (λ ps. is_cut_by stop k ps round) seen_is
 
-pub found-may : (host : Host) (slots : List (Option RunView)) (places : List Place) (before : ℕ) (w : World) (number n : ℕ) (s : Option RunView) (of : Command) (cut : Bool) → IsFound host slots places before w number n s of
+pub found-may : (host : Host) (slots : List (Option RunView)) (places : List Place) (before : ℕ) (w : World) (number n : ℕ) (s : Option RunView) (of : Command) (cut : Bool)
+    → IsFound host slots places before w number n s of
     → cut ≡ is_cut_by w.plan.stop_at w.history places w.round → (cut ≡ true → length w.history < 2 ^ 32) → MayStepTask host w.history of cut (begun_by w.plan.lists of s)
 found-may host slots places before w number n s of cut f cut_is small =
     subst (λ k. MayStepTask host w.history k cut (begun_by w.plan.lists k s)) (sym f.of_is)
@@ -290,7 +304,8 @@ found-over host host' slots places before w number n s of cut h' o b f cut_is d 
     let g = subst (DoesNext host host' w.history h' f.command.command (begun_by w.plan.lists f.command.command s) (next_in f.command.command cut (begun_by w.plan.lists f.command.command s))) o_is e in
     (f.command, f.here.ready.there, over-here host host' slots places before w n f.command s cut h' b f.here (cut-is w places cut f.here.kept.index cut_is) g)
 
-pub found-refused : (host host' : Host) (slots : List (Option RunView)) (places : List Place) (before : ℕ) (w : World) (number n : ℕ) (s : Option RunView) (of : Command) (h' : List Entry) → IsFound host slots places before w number n s of
+pub found-refused : (host host' : Host) (slots : List (Option RunView)) (places : List Place) (before : ℕ) (w : World) (number n : ℕ) (s : Option RunView) (of : Command) (h' : List Entry)
+    → IsFound host slots places before w number n s of
     → (host' ≡ host) × (h' ≡ w.history) → IsKept host' (slice_set slots n None) places before (world_with w h' (slice_set w.answers n (Some OutOfMemory)))
 found-refused host host' slots places before w number n s of h' f same = refused-here host host' slots places before w n f.command s h' f.here same.0 same.1
 
@@ -304,14 +319,16 @@ left-steps host slots places before w v u number n end number_is same left = λ 
       left.2.end_is ∙ ap (λ (x : World). end_of_step x n left.0.command) same ∙ ap (λ k. end_of_step v k left.0.command) same_n ∙ ap (λ (x : Placed). end_of_step v m x.command) same_c,
     )
 
-pub refused-runs_out : (w v : World) (number n : ℕ) (h' : List Entry) → number ≡ n + 1 → w ≡ v → h' ≡ w.history → RunsOut v (world_with w h' (slice_set w.answers n (Some OutOfMemory))) number
+pub refused-runs_out : (w v : World) (number n : ℕ) (h' : List Entry) → number ≡ n + 1 → w ≡ v → h' ≡ w.history
+    → RunsOut v (world_with w h' (slice_set w.answers n (Some OutOfMemory))) number
 refused-runs_out w v number n h' number_is same history = λ m d is at_m.
     let same_n : n ≡ m = omega arith in
     ap (λ h. world_with w h (slice_set w.answers n (Some OutOfMemory))) history ∙ ap (λ k. answered w k OutOfMemory) same_n ∙ ap (λ (x : World). answered x m OutOfMemory) same
 
 -- ---- what a ready number gives the code
 
-pub number-within : (host : Host) (slots : List (Option RunView)) (places : List Place) (before : ℕ) (w v : World) (number : ℕ) → IsKept host slots places before w → w ≡ v → IsReadyNumber v number
+pub number-within : (host : Host) (slots : List (Option RunView)) (places : List Place) (before : ℕ) (w v : World) (number : ℕ)
+    → IsKept host slots places before w → w ≡ v → IsReadyNumber v number
     → (1 ≤ number) × (number - 1 < length places) × (number - 1 < length slots) × (number - 1 < length w.answers)
 number-within host slots places before w v number kept same ready =
     let r = subst (λ u. IsReadyNumber u number) (sym same) ready in
@@ -322,7 +339,8 @@ number-within host slots places before w v number kept same ready =
     let d = kept.answers_long in
     (omega arith, omega arith, omega arith, omega arith)
 
-pub number-command : (host : Host) (slots : List (Option RunView)) (places : List Place) (before : ℕ) (w v : World) (number : ℕ) (p : Place) → IsKept host slots places before w → w ≡ v → IsReadyNumber v number
+pub number-command : (host : Host) (slots : List (Option RunView)) (places : List Place) (before : ℕ) (w v : World) (number : ℕ) (p : Place)
+    → IsKept host slots places before w → w ≡ v → IsReadyNumber v number
     → slice_get places (number - 1) ≡ Some p → IsSome (command_at_place w.plan.pods.rounds p)
 number-command host slots places before w v number p kept same ready at_n =
     let r = subst (λ u. IsReadyNumber u number) (sym same) ready in

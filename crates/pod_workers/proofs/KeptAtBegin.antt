@@ -24,13 +24,15 @@ blanks-of (x ∷ xs) = ap (λ (os : List (Option Answer)). None ∷ os) (blanks-
 is-begun : (p : Plan) → IsWellFormed p → IsBegun (begun p)
 is-begun p well = record { plan = well; is = refl }
 
-blank-answers : (xs : List Placed) (n : ℕ) → n ≡ length xs → replicate {A = Option Answer} n None ≡ map (λ (c : Placed). None) xs
+blank-answers : (xs : List Placed) (n : ℕ) → n ≡ length xs
+    → replicate {A = Option Answer} n None ≡ map (λ (c : Placed). None) xs
 blank-answers xs n is = ap (λ k. replicate k None) is ∙ blanks-of xs
 
 fits-blank : (list : Option NetList) (c : Command) (s : Option RunView) → s ≡ None → Fits list c [] s
 fits-blank list c s is = rw is refl
 
-begun-kept : (p : Plan) (host : Host) (places : List Place) (count : ℕ) → IsWellFormed p → host ≡ p.pods.opening → IsIndex p.pods.rounds (commands_of p) places → count ≡ length places
+begun-kept : (p : Plan) (host : Host) (places : List Place) (count : ℕ) → IsWellFormed p → host ≡ p.pods.opening
+    → IsIndex p.pods.rounds (commands_of p) places → count ≡ length places
     → IsKept host (replicate count None) places 0 (begun p)
 begun-kept p host places count well host_is index count_is = record {
   legal = starts (begun p) (is-begun p well);
@@ -43,14 +45,16 @@ begun-kept p host places count well host_is index count_is = record {
   round_within = omega arith;
 }
 
-pub begun-is : (p : Plan) (count : ℕ) (places : List Place) (history : List Entry) (answers : List (Option Answer)) → IsIndex p.pods.rounds (placed_from 0 p.pods.rounds) places → count ≡ length places → history ≡ []
+pub begun-is : (p : Plan) (count : ℕ) (places : List Place) (history : List Entry) (answers : List (Option Answer))
+    → IsIndex p.pods.rounds (placed_from 0 p.pods.rounds) places → count ≡ length places → history ≡ []
     → answers ≡ replicate count None → record { plan = p; history = history; answers = answers; round = 0 } ≡ begun p
 unfolding commands_of
 begun-is p count places history answers index count_is none blank =
     ap (λ h. record { plan = p; history = h; answers = answers; round = 0 }) none
     ∙ ap (λ a. record { plan = p; history = []; answers = a; round = 0 }) (blank ∙ blank-answers (placed_from 0 p.pods.rounds) count (count_is ∙ index.long))
 
-pub begun-here : (p : Plan) (host : Host) (count more : ℕ) (places : List Place) (history : List Entry) (answers : List (Option Answer)) (slots : List (Option RunView)) → IsWellFormed p → host ≡ p.pods.opening
+pub begun-here : (p : Plan) (host : Host) (count more : ℕ) (places : List Place) (history : List Entry) (answers : List (Option Answer)) (slots : List (Option RunView))
+    → IsWellFormed p → host ≡ p.pods.opening
     → IsIndex p.pods.rounds (placed_from 0 p.pods.rounds) places → count ≡ length places → more ≡ length places → history ≡ [] → answers ≡ replicate count None → slots ≡ replicate more None
     → IsKept host slots places 0 (record { plan = p; history = history; answers = answers; round = 0 })
 unfolding commands_of

@@ -11,7 +11,8 @@ use Rattle.pod_workers.specs.{Laws.EachNetworkCommandHasItsList, Legal.Legal, Pl
 use Rattle.pod_workers.specs.{Plans.{list_named, lacks_list}, Tasks.IsListed, World.World, declared.index.Place.Place}
 use Rattle.pod_workers.proofs.{Kept.IsFound, Sound.{fine, list_all-at}}
 
-named-list : (b : Bool) (o : Option NetList) → b ≡ true → not (b && not (is_some o)) ≡ true → (list : NetList) × ((if b then o else None) ≡ Some list)
+named-list : (b : Bool) (o : Option NetList) → b ≡ true → not (b && not (is_some o)) ≡ true
+    → (list : NetList) × ((if b then o else None) ≡ Some list)
 named-list true (Some list) network there = (list, refl)
 named-list true None network there = absurd (false≢true there)
 named-list false o network there = absurd (false≢true network)
@@ -26,10 +27,12 @@ gc-of_network : (v : Verb) → is_gc v ≡ true → is_of_network v ≡ true
 gc-of_network verbs.Gc gc = refl
 gc-of_network _ gc = cc
 
-command-listed : (w : World) → Legal w → (n : ℕ) (c : Placed) → slice_get (commands_of w.plan) n ≡ Some c → IsListed w.plan.lists c.command
+command-listed : (w : World) → Legal w → (n : ℕ) (c : Placed) → slice_get (commands_of w.plan) n ≡ Some c
+    → IsListed w.plan.lists c.command
 unfolding list_for
 command-listed w legal n c at gc = ap is_some (listed_network w legal n c at (gc-of_network c.command.verb gc)).1
 
-pub found-listed : (host : Host) (slots : List (Option RunView)) (places : List Place) (before : ℕ) (w : World) (number n : ℕ) (s : Option RunView) (of : Command) → IsFound host slots places before w number n s of → IsListed w.plan.lists of
+pub found-listed : (host : Host) (slots : List (Option RunView)) (places : List Place) (before : ℕ) (w : World) (number n : ℕ) (s : Option RunView) (of : Command)
+    → IsFound host slots places before w number n s of → IsListed w.plan.lists of
 found-listed host slots places before w number n s of f =
     subst (IsListed w.plan.lists) (sym f.of_is) (command-listed w f.here.kept.legal n f.command f.here.ready.there)

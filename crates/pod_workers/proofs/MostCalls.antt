@@ -34,12 +34,14 @@ length-given (set ∷ sets) (addr ∷ addrs) =
     let one = length-cons_option (given_by_set set addr) (given_of sets addrs) in
     omega arith
 
-length-leases : (att : Att) (number : ℕ) (sets : List RangeSet) → length (lease_calls_from att number sets) ≡ length sets
+length-leases : (att : Att) (number : ℕ) (sets : List RangeSet)
+    → length (lease_calls_from att number sets) ≡ length sets
 length-leases att number sets = length-scan (λ (n : ℕ) (set : RangeSet). n + 1) (LeaseNext att) number sets
 
 -- ---- the chained plugins
 
-length-all_chained : (cs : List Chained) (att : Att) (netns : List ℕ) (mappings : List PortMapping) (most : ℕ) (prev : AddResult) → length prev.ips ≤ most
+length-all_chained : (cs : List Chained) (att : Att) (netns : List ℕ) (mappings : List PortMapping) (most : ℕ) (prev : AddResult)
+    → length prev.ips ≤ most
     → length (all_chained_calls cs att netns mappings prev) ≤ sum_by (most_of_chained mappings most) cs
 length-all_chained [] att netns mappings most prev few = omega arith
 length-all_chained (c ∷ cs) att netns mappings most prev few =
@@ -51,13 +53,15 @@ length-all_chained (c ∷ cs) att netns mappings most prev few =
 
 -- ---- all calls
 
-length-first_ips : (list : NetList) (att : Att) (netns : List ℕ) (addrs : List Addr) → length (first_plugin_result list att netns addrs).ips ≡ length (given_by_list list addrs)
+length-first_ips : (list : NetList) (att : Att) (netns : List ℕ) (addrs : List Addr)
+    → length (first_plugin_result list att netns addrs).ips ≡ length (given_by_list list addrs)
 length-first_ips list att netns addrs =
     let given = given_by_list list addrs in
     sym (length-map (first_plugin_result list att netns addrs).ips (λ (ip : IpEntry). ip.address))
     ∙ ap length (first-addresses list.first att netns (ipam_of list.first) given list.version) ∙ length-map given (λ (g : Given). g.address)
 
-length-back : (list : NetList) (att : Att) (netns : List ℕ) (mappings : List PortMapping) (addrs : List Addr) → length (back_calls list att netns mappings addrs)
+length-back : (list : NetList) (att : Att) (netns : List ℕ) (mappings : List PortMapping) (addrs : List Addr)
+    → length (back_calls list att netns mappings addrs)
     ≤ (plugin_of list.first).most_after (length (sets_of list)) + sum_by (most_of_chained mappings (length (sets_of list))) list.chained + 1
 length-back list att netns mappings addrs =
     let gs = given_by_list list addrs in
@@ -72,7 +76,8 @@ length-back list att netns mappings addrs =
     let e = length-append chain put in
     omega arith
 
-length-add : (list : NetList) (c : Command) (given : List Addr) → length (add_calls list (att_of c) c.netns (mappings_of list c) given) ≡ 1 + length (before_of list c) + length (sets_of list) + length (back_of list c given)
+length-add : (list : NetList) (c : Command) (given : List Addr)
+    → length (add_calls list (att_of c) c.netns (mappings_of list c) given) ≡ 1 + length (before_of list c) + length (sets_of list) + length (back_of list c given)
 length-add list c given =
     let a = length-append (before_of list c) (lease_calls_of (sets_of list) (att_of c) ++ back_of list c given) in
     let b = length-append (lease_calls_of (sets_of list) (att_of c)) (back_of list c given) in
@@ -87,8 +92,10 @@ adds_in_most_calls list c = λ given.
     omega arith
 
 -- where so many are the most, no more than their rest come after the last lease
-pub back-within : (most : ℕ) (list : NetList) (c : Command) (given : List Addr) → AddsInAtMost list c most → length (back_of list c given) ≤ most_after most list c
+pub back-within : (most : ℕ) (list : NetList) (c : Command) (given : List Addr) → AddsInAtMost list c most
+    → length (back_of list c given) ≤ most_after most list c
 back-within most list c given in_most = let a = length-add list c given in let b = in_most given in omega arith
 
-pub most-splits : (most : ℕ) (list : NetList) (c : Command) → AddsInAtMost list c most → most ≡ 1 + length (before_of list c) + length (sets_of list) + most_after most list c
+pub most-splits : (most : ℕ) (list : NetList) (c : Command) → AddsInAtMost list c most
+    → most ≡ 1 + length (before_of list c) + length (sets_of list) + most_after most list c
 most-splits most list c in_most = let a = length-add list c [] in let b = in_most [] in omega arith

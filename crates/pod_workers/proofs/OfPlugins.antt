@@ -46,23 +46,28 @@ LeftAreOfPlugins list c (Changing change) = ⊥
 LeftAreOfPlugins list c (Collecting work faults) = Unit {0}
 LeftAreOfPlugins list c (Over ending given) = Unit {0}
 
-left-after_leases : (list : NetList) (c : Command) (left : List Call) (given : List Addr) → AllOfPlugins (att_of c) left → LeftAreOfPlugins list c (after_leases left given)
+left-after_leases : (list : NetList) (c : Command) (left : List Call) (given : List Addr) → AllOfPlugins (att_of c) left
+    → LeftAreOfPlugins list c (after_leases left given)
 left-after_leases list c [] given h = tt
 left-after_leases list c (x ∷ xs) given h = h
 
-left-leasing : (list : NetList) (c : Command) (left : List RangeSet) (given : List Addr) → IsRest list left given → HasPlace c → LeftAreOfPlugins list c (leasing list c left given)
+left-leasing : (list : NetList) (c : Command) (left : List RangeSet) (given : List Addr) → IsRest list left given
+    → HasPlace c → LeftAreOfPlugins list c (leasing list c left given)
 left-leasing list c [] given rest place = left-after_leases list c (back_of list c given) given (of_plugins-back list (att_of c) c.netns _ given place)
 left-leasing list c (s ∷ ss) given rest place = (rest, place)
 
-left-before_leases : (list : NetList) (c : Command) (left : List Call) → AllOfPlugins (att_of c) left → HasPlace c → LeftAreOfPlugins list c (before_leases list c left)
+left-before_leases : (list : NetList) (c : Command) (left : List Call) → AllOfPlugins (att_of c) left → HasPlace c
+    → LeftAreOfPlugins list c (before_leases list c left)
 left-before_leases list c [] h place = left-leasing list c (sets_of list) [] ([], refl, refl) place
 left-before_leases list c (x ∷ xs) h place = (h, place)
 
-one-more : (list : NetList) (next : RangeSet) (left : List RangeSet) (given : List Addr) (addr : Addr) → IsRest list (next ∷ left) given → IsRest list left (given ++ addr ∷ [])
+one-more : (list : NetList) (next : RangeSet) (left : List RangeSet) (given : List Addr) (addr : Addr)
+    → IsRest list (next ∷ left) given → IsRest list left (given ++ addr ∷ [])
 one-more list next left given addr rest =
     (rest.0 ++ next ∷ [], rest.1 ∙ sym (append_assoc rest.0 (next ∷ []) left), length_push rest.0 next ∙ ap (λ n. n + 1) rest.2 ∙ sym (length_push given addr))
 
-left-asking : (list : NetList) (c : Command) (questions : List Question) → AreQuestionsOf list questions → LeftAreOfPlugins list c (asking questions)
+left-asking : (list : NetList) (c : Command) (questions : List Question) → AreQuestionsOf list questions
+    → LeftAreOfPlugins list c (asking questions)
 left-asking list c [] h = tt
 left-asking list c (q ∷ qs) h = h
 
@@ -97,7 +102,8 @@ unfolding add_refusal
 has-place c none = names-place (wrong_for_add c) (none-option_or (refusal_by (wrong_for_add c)) _ none).0
 
 -- whatever a run was replied, the calls that are left to it are of its plugins
-pub left-are-of_plugins : (list : NetList) (c : Command) (rs : List Reply) → LeftAreOfPlugins list c (state_after list c rs)
+pub left-are-of_plugins : (list : NetList) (c : Command) (rs : List Reply)
+    → LeftAreOfPlugins list c (state_after list c rs)
 left-are-of_plugins list c rs =
     true-after (LeftAreOfPlugins list c) list c rs (of_plugins-stays list c)
     (record { begins = has-place c; finding = tt; collecting = λ gc. tt; status = left-asking list c (status_questions list c) (status-asks list c) })
@@ -135,7 +141,8 @@ outside-of c verbs.Drop is = by-unless (LeftIsOutside c) (drop_refusal c) (Chang
 outside-of c verbs.Flush is = outside-flush c c.table (ap is_of_network is)
 outside-of c _ is = tt
 
-outside-advance : (c : Command) (number : ℕ) (s : State) (r : Reply) → LeftIsOutside c s → LeftIsOutside c (outside_advance number s r)
+outside-advance : (c : Command) (number : ℕ) (s : State) (r : Reply) → LeftIsOutside c s
+    → LeftIsOutside c (outside_advance number s r)
 outside-advance c number (Changing change) r h = tt
 outside-advance c number (Over ending given) r h = tt
 outside-advance c number _ r h = absurd h

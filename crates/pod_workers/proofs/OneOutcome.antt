@@ -30,7 +30,8 @@ record IsNext (p : Plan) (h : List Entry) (e : Entry) : Type 0 where
   uncut : EntryIsInRound p h p.stop_at follows.by.round → ⊥
   before : (m : ℕ) (d : Placed) → m < follows.place → slice_get (commands_of p) m ≡ Some d → IsFinished p h m d
 
-goes_on : (p : Plan) (h : List Entry) (e : Entry) (f : Follows p h e) → (EntryIsInRound p h p.stop_at f.by.round → ⊥) → IsFinished p h f.place f.by → ⊥
+goes_on : (p : Plan) (h : List Entry) (e : Entry) (f : Follows p h e) → (EntryIsInRound p h p.stop_at f.by.round → ⊥)
+    → IsFinished p h f.place f.by → ⊥
 goes_on p h e f uncut (inl over) = let call = f.call in let finish = over.1 in cc
 goes_on p h e f uncut (inr (inl stop)) = let going = f.no_stop in cc
 goes_on p h e f uncut (inr (inr cut)) = uncut cut
@@ -91,7 +92,8 @@ split_either (z ∷ zs) ys (b ∷ bs) rest x e is =
     ]
 
 -- from this entry on no earlier command has one
-no_reply_after : (w : World) → Legal w → IsInFileOrder w → (before between rest : List Entry) (e : Entry) (n m : ℕ) (c : Placed) → IsEntryOf w.plan e n c → m < n
+no_reply_after : (w : World) → Legal w → IsInFileOrder w
+    → (before between rest : List Entry) (e : Entry) (n m : ℕ) (c : Placed) → IsEntryOf w.plan e n c → m < n
     → w.history ≡ before ++ e ∷ (between ++ rest) → replies_of m rest ≡ []
 no_reply_after w legal order before between [] e n m c of_e less at = refl
 no_reply_after w legal order before between (f ∷ rest) e n m c of_e less at =
@@ -102,7 +104,8 @@ no_reply_after w legal order before between (f ∷ rest) e n m c of_e less at =
     let later = no_reply_after w legal order before (between ++ f ∷ []) rest e n m c of_e less (at ∙ ap (λ l. before ++ e ∷ l) (sym (append_assoc between (f ∷ []) rest))) in
     elim (eqb_tells f.command (m + 1)) [ inl t ↦ absurd (let same = t.1 in omega arith) | inr other ↦ rw other.0 later ]
 
-replies_before : (w : World) → Legal w → IsInFileOrder w → (before rest : List Entry) (e : Entry) (n m : ℕ) (c : Placed) → IsEntryOf w.plan e n c → m < n → w.history ≡ before ++ e ∷ rest
+replies_before : (w : World) → Legal w → IsInFileOrder w → (before rest : List Entry) (e : Entry) (n m : ℕ) (c : Placed)
+    → IsEntryOf w.plan e n c → m < n → w.history ≡ before ++ e ∷ rest
     → own_replies w m ≡ replies_of m before
 replies_before w legal order before rest e n m c of_e less at =
     let none = no_reply_after w legal order before [] rest e n m c of_e less at in
@@ -110,7 +113,8 @@ replies_before w legal order before rest e n m c of_e less at =
     let here : replies_of m (e ∷ rest) ≡ [] = elim (eqb_tells e.command (m + 1)) [ inl t ↦ absurd (let same = t.1 in omega arith) | inr other ↦ rw other.0 none ] in
     ap (replies_of m) at ∙ replies_of-append m before (e ∷ rest) ∙ ap (λ l. replies_of m before ++ l) here ∙ append-nil (replies_of m before)
 
-finished_at_end : (w : World) → IsDoneInFileOrder w → (n : ℕ) (c : Placed) → slice_get (commands_of w.plan) n ≡ Some c → IsFinished w.plan w.history n c
+finished_at_end : (w : World) → IsDoneInFileOrder w → (n : ℕ) (c : Placed) → slice_get (commands_of w.plan) n ≡ Some c
+    → IsFinished w.plan w.history n c
 finished_at_end w is n c at =
     let a = all_answered w (in_order w is.legal) is.ended n c at in
     elim (answer_is_due w is.legal n c at a.0 a.1) [
@@ -120,7 +124,8 @@ finished_at_end w is n c at =
     ]
 
 -- the entry that cut an earlier round stands before each entry of a later one
-cut_stands_before : (w : World) (before rest : List Entry) (e : Entry) (n : ℕ) (c : Placed) (stop : Option ℕ) (round : ℕ) → Legal w → w.history ≡ before ++ e ∷ rest → IsEntryOf w.plan e n c → round < c.round
+cut_stands_before : (w : World) (before rest : List Entry) (e : Entry) (n : ℕ) (c : Placed) (stop : Option ℕ) (round : ℕ)
+    → Legal w → w.history ≡ before ++ e ∷ rest → IsEntryOf w.plan e n c → round < c.round
     → EntryIsInRound w.plan w.history stop round → EntryIsInRound w.plan before stop round
 cut_stands_before w before rest e n c None round legal at of_e less is = is
 cut_stands_before w before rest e n c (Some number) round legal at of_e less is =
@@ -133,7 +138,8 @@ cut_stands_before w before rest e n c (Some number) round legal at of_e less is 
           omega arith)
     ]
 
-finished_before : (w : World) → IsDoneInFileOrder w → (before rest : List Entry) (e : Entry) (n m : ℕ) (c d : Placed) → w.history ≡ before ++ e ∷ rest → IsEntryOf w.plan e n c → m < n
+finished_before : (w : World) → IsDoneInFileOrder w → (before rest : List Entry) (e : Entry) (n m : ℕ) (c d : Placed)
+    → w.history ≡ before ++ e ∷ rest → IsEntryOf w.plan e n c → m < n
     → slice_get (commands_of w.plan) m ≡ Some d → IsFinished w.plan before m d
 finished_before w is before rest e n m c d at of_e less at_m =
     let own : own_replies w m ≡ replies_of m before = replies_before w is.legal is.in_file_order before rest e n m c of_e less at in
@@ -154,7 +160,8 @@ finished_before w is before rest e n m c d at of_e less at_m =
       ]
     ]
 
-traces : (w : World) → IsDoneInFileOrder w → (before rest : List Entry) → w.history ≡ before ++ rest → IsTrace w.plan before rest
+traces : (w : World) → IsDoneInFileOrder w → (before rest : List Entry) → w.history ≡ before ++ rest
+    → IsTrace w.plan before rest
 traces w is before [] at = λ n c there. subst (λ (h : List Entry). IsFinished w.plan h n c) (at ∙ append-nil before) (finished_at_end w is n c there)
 traces w is before (e ∷ rest) at =
     let follows = each_follows w is.legal before rest e at in
@@ -177,7 +184,9 @@ AnswersWith p h n c a =
     ((finish : Finish) × (turn_at p h n c ≡ Finishes finish) × (a ≡ answer_by (list_for p c.command) c.command finish))
     ⊎ ((call : Call) × (turn_at p h n c ≡ Calls call) × (a ≡ Stopped (length (replies_of n h))))
 
-answers_with : (w : World) → IsDoneInFileOrder w → (n : ℕ) (a : Answer) (c : Placed) → slice_get w.answers n ≡ Some (Some a) → slice_get (commands_of w.plan) n ≡ Some c → AnswersWith w.plan w.history n c a
+answers_with : (w : World) → IsDoneInFileOrder w → (n : ℕ) (a : Answer) (c : Placed)
+    → slice_get w.answers n ≡ Some (Some a) → slice_get (commands_of w.plan) n ≡ Some c
+    → AnswersWith w.plan w.history n c a
 answers_with w is n a c at there = elim (answer_is_due w is.legal n c there a at) [
   | inl scripts ↦ inl scripts
   | inr (inl stopped) ↦ inr stopped.0
@@ -190,20 +199,23 @@ same_finish x y t one two = cc
 never_both : (x : Finish) (y : Call) (t : Turn) → t ≡ Finishes x → t ≡ Calls y → ⊥
 never_both x y t one two = cc
 
-one_answer : (p : Plan) (h : List Entry) (n : ℕ) (c : Placed) (a b : Answer) → AnswersWith p h n c a → AnswersWith p h n c b → a ≡ b
+one_answer : (p : Plan) (h : List Entry) (n : ℕ) (c : Placed) (a b : Answer) → AnswersWith p h n c a
+    → AnswersWith p h n c b → a ≡ b
 one_answer p h n c a b (inl x) (inl y) = x.2 ∙ ap (answer_by (list_for p c.command) c.command) (same_finish x.0 y.0 (turn_at p h n c) x.1 y.1) ∙ sym y.2
 one_answer p h n c a b (inl x) (inr y) = absurd (never_both x.0 y.0 (turn_at p h n c) x.1 y.1)
 one_answer p h n c a b (inr x) (inl y) = absurd (never_both y.0 x.0 (turn_at p h n c) y.1 x.1)
 one_answer p h n c a b (inr x) (inr y) = x.2 ∙ sym y.2
 
-same_lists : {X : Type 0} (xs ys : List X) → length xs ≡ length ys → ((n : ℕ) (x y : X) → slice_get xs n ≡ Some x → slice_get ys n ≡ Some y → x ≡ y) → xs ≡ ys
+same_lists : {X : Type 0} (xs ys : List X) → length xs ≡ length ys
+    → ((n : ℕ) (x y : X) → slice_get xs n ≡ Some x → slice_get ys n ≡ Some y → x ≡ y) → xs ≡ ys
 same_lists [] [] long each = refl
 same_lists [] (y ∷ ys) long each = absurd (omega arith)
 same_lists (x ∷ xs) [] long each = absurd (omega arith)
 same_lists (x ∷ xs) (y ∷ ys) long each =
     ap (λ z. z ∷ xs) (each zero x y refl refl) ∙ ap (λ l. y ∷ l) (same_lists xs ys (omega arith) (λ n a b at_a at_b. each (suc n) a b at_a at_b))
 
-one_answer_at : (v w : World) → v.plan ≡ w.plan → IsDoneInFileOrder v → IsDoneInFileOrder w → (n : ℕ) (x y : Option Answer) → slice_get v.answers n ≡ Some x → slice_get w.answers n ≡ Some y → x ≡ y
+one_answer_at : (v w : World) → v.plan ≡ w.plan → IsDoneInFileOrder v → IsDoneInFileOrder w
+    → (n : ℕ) (x y : Option Answer) → slice_get v.answers n ≡ Some x → slice_get w.answers n ≡ Some y → x ≡ y
 one_answer_at v w same dv dw n x y at_v at_w =
     let c = command_at w.plan n (let within = slice_get_within w.answers n y at_w in let long = (in_order w dw.legal).long in omega arith) in
     let there : slice_get (commands_of v.plan) n ≡ Some c.0 = ap (λ (p : Plan). slice_get (commands_of p) n) same ∙ c.1 in

@@ -26,17 +26,20 @@ pub record IsInOrder (w : World) : Type 0 where
 pub not_both : (w : World) (n : ℕ) → IsAnswered w n → slice_get w.answers n ≡ Some None → ⊥
 not_both w n a is = none-some a.0 (same_Some None (Some a.0) (sym is ∙ a.1))
 
-pub answered_or_open : (w : World) (n : ℕ) (o : Option (Option Answer)) → slice_get w.answers n ≡ o → n < length w.answers → (slice_get w.answers n ≡ Some None) ⊎ IsAnswered w n
+pub answered_or_open : (w : World) (n : ℕ) (o : Option (Option Answer)) → slice_get w.answers n ≡ o
+    → n < length w.answers → (slice_get w.answers n ≡ Some None) ⊎ IsAnswered w n
 answered_or_open w n None is less = absurd (none-some _ (sym is ∙ slice_get-get_or w.answers n None less))
 answered_or_open w n (Some None) is less = inl is
 answered_or_open w n (Some (Some a)) is less = inr (a, is)
 
 -- each command is answered, or isn't
-pub open_or_answered : (w : World) (n : ℕ) (c : Placed) → IsInOrder w → slice_get (commands_of w.plan) n ≡ Some c → (slice_get w.answers n ≡ Some None) ⊎ IsAnswered w n
+pub open_or_answered : (w : World) (n : ℕ) (c : Placed) → IsInOrder w → slice_get (commands_of w.plan) n ≡ Some c
+    → (slice_get w.answers n ≡ Some None) ⊎ IsAnswered w n
 open_or_answered w n c order at = answered_or_open w n (slice_get w.answers n) refl (rw order.long (slice_get_within (commands_of w.plan) n c at))
 
 -- an answer stands
-pub stays_answered : (w : World) (n m : ℕ) (b : Answer) → slice_get w.answers n ≡ Some None → IsAnswered w m → IsAnswered (answered w n b) m
+pub stays_answered : (w : World) (n m : ℕ) (b : Answer) → slice_get w.answers n ≡ Some None → IsAnswered w m
+    → IsAnswered (answered w n b) m
 stays_answered w n m b is a = elim (eqb_tells m n) [
   | inl t ↦ absurd (not_both w n (subst (IsAnswered w) t.1 a) is)
   | inr f ↦ (a.0, slice_get-set_other w.answers n m (Some b) f.1 ∙ a.1)
@@ -45,21 +48,25 @@ stays_answered w n m b is a = elim (eqb_tells m n) [
 untouched_answered : (w : World) (n m : ℕ) (b : Answer) → m ≢ n → IsUntouched w m → IsUntouched (answered w n b) m
 untouched_answered w n m b other u = record { no_reply = u.no_reply; no_answer = slice_get-set_other w.answers n m (Some b) other ∙ u.no_answer }
 
-untouched_entered : (w : World) (m : ℕ) (e : Entry) → e.command ≢ m + 1 → IsUntouched w m → IsUntouched (with_entry w e) m
+untouched_entered : (w : World) (m : ℕ) (e : Entry) → e.command ≢ m + 1 → IsUntouched w m
+    → IsUntouched (with_entry w e) m
 untouched_entered w m e other u = record { no_reply = replies_of-other m w.history e other ∙ u.no_reply; no_answer = u.no_answer }
 
 -- ---- ready commands
 
 -- the command at the place of a ready one is that one
-pub ready_is : (w : World) (n m : ℕ) (c d : Placed) → IsReady w n c → m ≡ n → slice_get (commands_of w.plan) m ≡ Some d → d ≡ c
+pub ready_is : (w : World) (n m : ℕ) (c d : Placed) → IsReady w n c → m ≡ n → slice_get (commands_of w.plan) m ≡ Some d
+    → d ≡ c
 ready_is w n m c d ready same at = same_Some d c (sym at ∙ ap (slice_get (commands_of w.plan)) same ∙ ready.there)
 
 -- a command of another round stands at another place
-pub other_round : (w : World) (n m : ℕ) (c d : Placed) → slice_get (commands_of w.plan) n ≡ Some c → slice_get (commands_of w.plan) m ≡ Some d → d.round ≢ c.round → m ≢ n
+pub other_round : (w : World) (n m : ℕ) (c d : Placed) → slice_get (commands_of w.plan) n ≡ Some c
+    → slice_get (commands_of w.plan) m ≡ Some d → d.round ≢ c.round → m ≢ n
 other_round w n m c d there at other = λ same. other (ap (λ (q : Placed). q.round) (same_Some d c (sym at ∙ ap (slice_get (commands_of w.plan)) same ∙ there)))
 
 -- where a command is ready, each earlier one of its container is answered
-pub before_ready : (w : World) (m n : ℕ) (d c : Placed) → IsInOrder w → IsReady w n c → m < n → slice_get (commands_of w.plan) m ≡ Some d
+pub before_ready : (w : World) (m n : ℕ) (d c : Placed) → IsInOrder w → IsReady w n c → m < n
+    → slice_get (commands_of w.plan) m ≡ Some d
     → d.round ≡ c.round → d.command.container ≡ c.command.container → IsAnswered w m
 before_ready w m n d c order ready less at round container =
     elim (open_or_answered w m d order at) [
@@ -70,7 +77,8 @@ before_ready w m n d c order ready less at round container =
 -- ---- one step
 
 -- a step of a ready command leaves the later rounds, and turns where an earlier command is answered
-order_answered : (w : World) (n : ℕ) (c : Placed) (b : Answer) → IsInOrder w → IsReady w n c → IsInOrder (answered w n b)
+order_answered : (w : World) (n : ℕ) (c : Placed) (b : Answer) → IsInOrder w → IsReady w n c
+    → IsInOrder (answered w n b)
 order_answered w n c b order ready = record {
   long = length-set w.answers n (Some b) ∙ order.long;
   past = λ m d at less. stays_answered w n m b ready.unanswered (order.past m d at less);
@@ -90,7 +98,8 @@ order_answered w n c b order ready = record {
 pub other_number : (e : Entry) (n m : ℕ) → e.command ≡ n + 1 → m ≢ n → e.command ≢ m + 1
 other_number e n m own other same = other (omega arith)
 
-order_entered : (w : World) (n : ℕ) (c : Placed) (e : Entry) → IsInOrder w → IsReady w n c → e.command ≡ n + 1 → IsInOrder (with_entry w e)
+order_entered : (w : World) (n : ℕ) (c : Placed) (e : Entry) → IsInOrder w → IsReady w n c → e.command ≡ n + 1
+    → IsInOrder (with_entry w e)
 order_entered w n c e order ready own = record {
   long = order.long;
   past = order.past;
@@ -137,7 +146,8 @@ blank_nowhere (x ∷ xs) (suc n) a at = blank_nowhere xs n a at
 pub none_answered : (w : World) (n : ℕ) (a : Answer) → IsBegun w → slice_get w.answers n ≡ Some (Some a) → ⊥
 none_answered w n a b at = blank_nowhere (commands_of w.plan) n a (sym (ap (λ (v : World). slice_get v.answers n) b.is) ∙ at)
 
-untouched_begun : (w : World) (n : ℕ) (c : Placed) → IsBegun w → slice_get (commands_of w.plan) n ≡ Some c → IsUntouched w n
+untouched_begun : (w : World) (n : ℕ) (c : Placed) → IsBegun w → slice_get (commands_of w.plan) n ≡ Some c
+    → IsUntouched w n
 untouched_begun w n c b at = record {
   no_reply = ap (λ (v : World). own_replies v n) b.is;
   no_answer = ap (λ (v : World). slice_get v.answers n) b.is ∙ blank_at (commands_of w.plan) n c at;
@@ -165,7 +175,8 @@ same_or_other a b = elim (cases_Bool (bytes_eq a b)) [
   | inr other ↦ inr (λ is. let t = (bytes_eq-Decides a b).1 is in cc)
 ]
 
-apart_in_container : (w : World) (m n : ℕ) (d c : Placed) → IsInOrder w → IsReady w n c → m ≢ n → slice_get (commands_of w.plan) m ≡ Some d → slice_get w.answers m ≡ Some None
+apart_in_container : (w : World) (m n : ℕ) (d c : Placed) → IsInOrder w → IsReady w n c → m ≢ n
+    → slice_get (commands_of w.plan) m ≡ Some d → slice_get w.answers m ≡ Some None
     → d.command.container ≡ c.command.container → own_replies w m ≡ []
 apart_in_container w m n d c order ready other at is_open container =
     elim (cases_order d.round w.round) [
@@ -182,7 +193,8 @@ apart_in_container w m n d c order ready other at is_open container =
     ]
 
 -- beside a ready command, another one without an answer has made no call, or has another container
-pub apart : (w : World) → Legal w → (m n : ℕ) (d c : Placed) → IsReady w n c → m ≢ n → slice_get (commands_of w.plan) m ≡ Some d → slice_get w.answers m ≡ Some None
+pub apart : (w : World) → Legal w → (m n : ℕ) (d c : Placed) → IsReady w n c → m ≢ n
+    → slice_get (commands_of w.plan) m ≡ Some d → slice_get w.answers m ≡ Some None
     → (own_replies w m ≡ []) ⊎ (d.command.container ≢ c.command.container)
 apart w legal m n d c ready other at is_open = elim (same_or_other d.command.container c.command.container) [
   | inl same ↦ inl (apart_in_container w m n d c (in_order w legal) ready other at is_open same)
@@ -190,13 +202,15 @@ apart w legal m n d c ready other at is_open = elim (same_or_other d.command.con
 ]
 
 -- two of one round, one of them exclusive, are one
-one_alone : (p : Plan) (m n : ℕ) (d c : Placed) → AreAlone p → slice_get (commands_of p) m ≡ Some d → slice_get (commands_of p) n ≡ Some c → d.round ≡ c.round
+one_alone : (p : Plan) (m n : ℕ) (d c : Placed) → AreAlone p → slice_get (commands_of p) m ≡ Some d
+    → slice_get (commands_of p) n ≡ Some c → d.round ≡ c.round
     → (is_exclusive c.command ≡ true) ⊎ (is_exclusive d.command ≡ true) → m ≡ n
 one_alone p m n d c alone at_m at_n round (inl exclusive) = alone m n d c at_m at_n round exclusive
 one_alone p m n d c alone at_m at_n round (inr exclusive) = sym (alone n m c d at_n at_m (sym round) exclusive)
 
 -- beside a ready command, another one without an answer has made no call where one of the two is exclusive
-pub alone_apart : (w : World) → Legal w → (m n : ℕ) (d c : Placed) → IsReady w n c → m ≢ n → slice_get (commands_of w.plan) m ≡ Some d → slice_get w.answers m ≡ Some None
+pub alone_apart : (w : World) → Legal w → (m n : ℕ) (d c : Placed) → IsReady w n c → m ≢ n
+    → slice_get (commands_of w.plan) m ≡ Some d → slice_get w.answers m ≡ Some None
     → (is_exclusive c.command ≡ true) ⊎ (is_exclusive d.command ≡ true) → own_replies w m ≡ []
 alone_apart w legal m n d c ready other at is_open exclusive =
     let order = in_order w legal in

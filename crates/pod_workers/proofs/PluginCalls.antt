@@ -27,7 +27,8 @@ AllOfPlugins att calls = AllByRecursion (IsOfPlugins att) calls
 
 -- ---- the calls before the leases
 
-pub of_plugins-before : (first : First) (att : Att) (netns : List ℕ) → is_host_ns netns ≡ false → AllOfPlugins att (calls_before first att netns)
+pub of_plugins-before : (first : First) (att : Att) (netns : List ℕ) → is_host_ns netns ≡ false
+    → AllOfPlugins att (calls_before first att netns)
 of_plugins-before first att netns place =
     let before = (first_laws first).before att netns in
     each-both (λ x. is_plugin_call_of att x) IsWellFormedCall (calls_before first att netns) before.own (before.well_formed place)
@@ -43,7 +44,8 @@ is_plain _ = true
 owned : (att : Att) (t : Tag) → is_own att t ≡ true → is_owned t ≡ true
 owned att t h = ap is_owned (is_own-one att t h)
 
-well_formed-plain : (att : Att) (call : Call) → is_plugin_call_of att call ≡ true → is_plain call ≡ true → IsWellFormedCall call
+well_formed-plain : (att : Att) (call : Call) → is_plugin_call_of att call ≡ true → is_plain call ≡ true
+    → IsWellFormedCall call
 well_formed-plain att (VethAdd h i) own plain = cc
 well_formed-plain att (MacvlanAdd l) own plain = cc
 well_formed-plain att (AddrAdd obj) own plain = owned att obj.tag own
@@ -56,20 +58,23 @@ well_formed-plain att (NsChange name add) own plain = cc
 well_formed-plain att (Outside change) own plain = absurd cc
 well_formed-plain att _ own plain = tt
 
-later-plain : (netns : List ℕ) → is_host_ns netns ≡ false → (call : Call) → is_later_call netns call ≡ true → is_plain call ≡ true
+later-plain : (netns : List ℕ) → is_host_ns netns ≡ false → (call : Call) → is_later_call netns call ≡ true
+    → is_plain call ≡ true
 later-plain netns place (SettingSet s) later = ap (λ ns. not (is_host_ns ns)) ((bytes_eq-Decides s.ns netns).0 later) ∙ ap not place
 later-plain netns place (VethAdd h i) later = cc
 later-plain netns place (MacvlanAdd l) later = cc
 later-plain netns place _ later = refl
 
-of_plugins-plain : (att : Att) (calls : List Call) → list_all (is_plugin_call_of att) calls ≡ true → list_all is_plain calls ≡ true → AllOfPlugins att calls
+of_plugins-plain : (att : Att) (calls : List Call) → list_all (is_plugin_call_of att) calls ≡ true
+    → list_all is_plain calls ≡ true → AllOfPlugins att calls
 of_plugins-plain att [] own plain = tt
 of_plugins-plain att (x ∷ xs) own plain =
     let o = and_parts (is_plugin_call_of att x) (list_all (is_plugin_call_of att) xs) own in
     let p = and_parts (is_plain x) (list_all is_plain xs) plain in
     ((o.0, well_formed-plain att x o.0 p.0), of_plugins-plain att xs o.1 p.1)
 
-pub of_plugins-back : (list : NetList) (att : Att) (netns : List ℕ) (mappings : List PortMapping) (addrs : List Addr) → is_host_ns netns ≡ false → AllOfPlugins att (back_calls list att netns mappings addrs)
+pub of_plugins-back : (list : NetList) (att : Att) (netns : List ℕ) (mappings : List PortMapping) (addrs : List Addr)
+    → is_host_ns netns ≡ false → AllOfPlugins att (back_calls list att netns mappings addrs)
 of_plugins-back list att netns mappings addrs place =
     let plain : (calls : List Call) → list_all (is_later_call netns) calls ≡ true → list_all is_plain calls ≡ true = list_all-weaker (is_later_call netns) is_plain (later-plain netns place) in
     of_plugins-plain att (back_calls list att netns mappings addrs) (own-back list att netns mappings addrs)

@@ -7,7 +7,8 @@ use Rattle.std.specs.{List.position_from, Prelude.position}
 use Rattle.pod_file.specs.declared.command.Command.{Command}
 use Rattle.pod_workers.specs.Plans.{Placed, in_round, placed_from}
 
-position_from-none : {X : Type 0} (t : X → Bool) (i : ℕ) (xs ys : List X) → position_from t i xs ≡ None → position_from t i (xs ++ ys) ≡ position_from t (i + length xs) ys
+position_from-none : {X : Type 0} (t : X → Bool) (i : ℕ) (xs ys : List X) → position_from t i xs ≡ None
+    → position_from t i (xs ++ ys) ≡ position_from t (i + length xs) ys
 position_from-none t i [] ys none = ap (λ k. position_from t k ys) (omega arith)
 position_from-none t i (x ∷ xs) ys none =
     elim (t x) as (λ b. cond b (Some i) (position_from t (i + 1) xs) ≡ None → cond b (Some i) (position_from t (i + 1) (xs ++ ys)) ≡ position_from t (i + length (x ∷ xs)) ys) [
@@ -15,7 +16,8 @@ position_from-none t i (x ∷ xs) ys none =
       | false ↦ λ h. position_from-none t (i + 1) xs ys h ∙ ap (λ k. position_from t k ys) (omega arith)
     ] none
 
-position_from-some : {X : Type 0} (t : X → Bool) (i k : ℕ) (xs ys : List X) → position_from t i xs ≡ Some k → position_from t i (xs ++ ys) ≡ Some k
+position_from-some : {X : Type 0} (t : X → Bool) (i k : ℕ) (xs ys : List X) → position_from t i xs ≡ Some k
+    → position_from t i (xs ++ ys) ≡ Some k
 position_from-some t i k [] ys some = absurd (none-some k some)
 position_from-some t i k (x ∷ xs) ys some =
     elim (t x) as (λ b. cond b (Some i) (position_from t (i + 1) xs) ≡ Some k → cond b (Some i) (position_from t (i + 1) (xs ++ ys)) ≡ Some k) [
@@ -24,7 +26,8 @@ position_from-some t i k (x ∷ xs) ys some =
     ] some
 
 -- from another start
-shift-none : {X : Type 0} (t : X → Bool) (i j : ℕ) (xs : List X) → position_from t i xs ≡ None → position_from t j xs ≡ None
+shift-none : {X : Type 0} (t : X → Bool) (i j : ℕ) (xs : List X) → position_from t i xs ≡ None
+    → position_from t j xs ≡ None
 shift-none t i j [] none = refl
 shift-none t i j (x ∷ xs) none =
     elim (t x) as (λ b. cond b (Some i) (position_from t (i + 1) xs) ≡ None → cond b (Some j) (position_from t (j + 1) xs) ≡ None) [
@@ -32,7 +35,8 @@ shift-none t i j (x ∷ xs) none =
       | false ↦ λ h. shift-none t (i + 1) (j + 1) xs h
     ] none
 
-shift-some : {X : Type 0} (t : X → Bool) (i by k : ℕ) (xs : List X) → position_from t i xs ≡ Some k → position_from t (by + i) xs ≡ Some (by + k)
+shift-some : {X : Type 0} (t : X → Bool) (i by k : ℕ) (xs : List X) → position_from t i xs ≡ Some k
+    → position_from t (by + i) xs ≡ Some (by + k)
 shift-some t i by k [] some = absurd (none-some k some)
 shift-some t i by k (x ∷ xs) some =
     elim (t x) as (λ b. cond b (Some i) (position_from t (i + 1) xs) ≡ Some k → cond b (Some (by + i)) (position_from t (by + i + 1) xs) ≡ Some (by + k)) [
@@ -40,7 +44,8 @@ shift-some t i by k (x ∷ xs) some =
       | false ↦ λ h. ap (λ m. position_from t m xs) (omega arith) ∙ shift-some t (i + 1) by k xs h
     ] some
 
-position_from-map : {X Y : Type 0} (f : X → Y) (t : Y → Bool) (i : ℕ) (xs : List X) → position_from t i (map f xs) ≡ position_from (λ x. t (f x)) i xs
+position_from-map : {X Y : Type 0} (f : X → Y) (t : Y → Bool) (i : ℕ) (xs : List X)
+    → position_from t i (map f xs) ≡ position_from (λ x. t (f x)) i xs
 position_from-map f t i [] = refl
 position_from-map f t i (x ∷ xs) = ap (cond (t (f x)) (Some i)) (position_from-map f t (i + 1) xs)
 
@@ -53,7 +58,8 @@ this-round : (rounds : List (List Command)) (round : ℕ) (d : List Command) →
     → placed_from round (drop round rounds) ≡ map (in_round round) (get_or rounds round d) ++ placed_from (round + 1) (drop (round + 1) rounds)
 this-round rounds round d within = ap (placed_from round) (drop_more rounds round d within)
 
-this-count : (t : Placed → Bool) (rounds : List (List Command)) (round before : ℕ) (cs d : List Command) → IsScanned t rounds round before → round < length rounds → cs ≡ get_or rounds round d
+this-count : (t : Placed → Bool) (rounds : List (List Command)) (round before : ℕ) (cs d : List Command)
+    → IsScanned t rounds round before → round < length rounds → cs ≡ get_or rounds round d
     → before + length cs + length (placed_from (round + 1) (drop (round + 1) rounds)) ≡ length (placed_from 0 rounds)
 this-count t rounds round before cs d scanned within is =
     let here = ap length (this-round rounds round d within) in
@@ -62,7 +68,8 @@ this-count t rounds round before cs d scanned within is =
     let same = ap length is in
     omega (arith, scanned.count, here, split, long, same)
 
-pub scanned-more : (t : Placed → Bool) (rounds : List (List Command)) (round before : ℕ) (cs d : List Command) → IsScanned t rounds round before → round < length rounds → cs ≡ get_or rounds round d
+pub scanned-more : (t : Placed → Bool) (rounds : List (List Command)) (round before : ℕ) (cs d : List Command)
+    → IsScanned t rounds round before → round < length rounds → cs ≡ get_or rounds round d
     → position (λ c. t (in_round round c)) cs ≡ None → IsScanned t rounds (round + 1) (before + length cs)
 scanned-more t rounds round before cs d scanned within is none =
     let e : position_from t before (map (in_round round) cs) ≡ None =
@@ -75,7 +82,8 @@ scanned-more t rounds round before cs d scanned within is none =
       count = this-count t rounds round before cs d scanned within is;
     }
 
-pub scanned-found : (t : Placed → Bool) (rounds : List (List Command)) (round before place : ℕ) (cs d : List Command) → IsScanned t rounds round before → round < length rounds → cs ≡ get_or rounds round d
+pub scanned-found : (t : Placed → Bool) (rounds : List (List Command)) (round before place : ℕ) (cs d : List Command)
+    → IsScanned t rounds round before → round < length rounds → cs ≡ get_or rounds round d
     → position (λ c. t (in_round round c)) cs ≡ Some place → Some (before + place) ≡ position t (placed_from 0 rounds)
 scanned-found t rounds round before place cs d scanned within is some =
     let e : position_from t before (map (in_round round) cs) ≡ Some (before + place) =
@@ -86,7 +94,8 @@ scanned-found t rounds round before place cs d scanned within is some =
     ∙ (scanned.rest ∙ ap (position_from t before) (this-round rounds round d within ∙ ap (λ xs. map (in_round round) xs ++ placed_from (round + 1) (drop (round + 1) rounds)) (sym is))
     ∙ position_from-some t before (before + place) (map (in_round round) cs) _ e))
 
-pub scanned-none : (t : Placed → Bool) (rounds : List (List Command)) (round before : ℕ) → IsScanned t rounds round before → length rounds ≤ round → None ≡ position t (placed_from 0 rounds)
+pub scanned-none : (t : Placed → Bool) (rounds : List (List Command)) (round before : ℕ)
+    → IsScanned t rounds round before → length rounds ≤ round → None ≡ position t (placed_from 0 rounds)
 scanned-none t rounds round before scanned past =
     sym (position_from-zero t (placed_from 0 rounds) ∙ (scanned.rest ∙ ap (λ xs. position_from t before (placed_from round xs)) (drop_all round rounds past)))
 

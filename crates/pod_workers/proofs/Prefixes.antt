@@ -20,7 +20,8 @@ record GoesOn (v w : World) : Type 0 where
   answers_stand : KeepsAnswers v.answers w.answers
   round : v.round ≤ w.round
 
-keeps : (v : World) (n : ℕ) (b : Answer) → slice_get v.answers n ≡ Some None → KeepsAnswers v.answers (slice_set v.answers n (Some b))
+keeps : (v : World) (n : ℕ) (b : Answer) → slice_get v.answers n ≡ Some None
+    → KeepsAnswers v.answers (slice_set v.answers n (Some b))
 keeps v n b is = λ m a at.
     let other : m ≢ n = λ same. none-some a (same_Some None (Some a) (sym is ∙ ap (slice_get v.answers) (sym same) ∙ at)) in
     slice_get-set_other v.answers n m (Some b) other ∙ at
@@ -62,7 +63,8 @@ later_made v w before e on m = record {
   goes = m.goes;
 }
 
-made_now : (v : World) (n : ℕ) (c : Placed) (call : Call) (faulty : Bool) → Legal v → IsReady v n c → next_of v c.command (own_replies v n) ≡ next.Call call faulty
+made_now : (v : World) (n : ℕ) (c : Placed) (call : Call) (faulty : Bool) → Legal v → IsReady v n c
+    → next_of v c.command (own_replies v n) ≡ next.Call call faulty
     → IsMadeAt (with_entry v (entry_of (host_of v) n call faulty)) v.history (entry_of (host_of v) n call faulty)
 made_now v n c call faulty legal ready is = record {
   at = later_prefix v (with_entry v (entry_of (host_of v) n call faulty)) v.history (on_done v n (next.Call call faulty) ready.unanswered) (own_prefix v legal);
@@ -74,7 +76,8 @@ made_now v n c call faulty legal ready is = record {
   goes = is ∙ ap (next.Call call) (sym (goes_in v n c.command call faulty is).fault_is);
 }
 
-made_done : (v : World) (n : ℕ) (c : Placed) (x : Next) (before rest : List Entry) (e : Entry) → Legal v → IsReady v n c → next_of v c.command (own_replies v n) ≡ x
+made_done : (v : World) (n : ℕ) (c : Placed) (x : Next) (before rest : List Entry) (e : Entry) → Legal v → IsReady v n c
+    → next_of v c.command (own_replies v n) ≡ x
     → ((more : List Entry) → v.history ≡ before ++ e ∷ more → IsMadeAt v before e) → (done v n x).history ≡ before ++ e ∷ rest → IsMadeAt (done v n x) before e
 made_done v n c (next.Answer a) before rest e legal ready is earlier at = later_made v (done v n (next.Answer a)) before e (on_done v n (next.Answer a) ready.unanswered) (earlier rest at)
 made_done v n c (next.Call call faulty) before rest e legal ready is earlier at =
@@ -84,7 +87,8 @@ made_done v n c (next.Call call faulty) before rest e legal ready is earlier at 
       | inr t ↦ later_made v (with_entry v x) before e (on_done v n (next.Call call faulty) ready.unanswered) (earlier t.0 t.2)
     ]
 
-pub each_made : (w : World) → Legal w → (before rest : List Entry) (e : Entry) → w.history ≡ before ++ e ∷ rest → IsMadeAt w before e
+pub each_made : (w : World) → Legal w → (before rest : List Entry) (e : Entry) → w.history ≡ before ++ e ∷ rest
+    → IsMadeAt w before e
 each_made _ (starts w begun) before rest e at = absurd (split_nil before rest e (sym (ap (λ (v : World). v.history) begun.is) ∙ at))
 each_made _ (steps v w n c legal ready is) before rest e at =
     subst (λ u. IsMadeAt u before e) (sym is)
@@ -102,7 +106,8 @@ each_prefix w legal before (e ∷ rest) at = (each_made w legal before rest e at
 
 -- ---- right after an entry
 
-pub each_open_after : (w : World) → Legal w → (before rest : List Entry) (e : Entry) → w.history ≡ before ++ e ∷ rest → IsOpenAfter w before e
+pub each_open_after : (w : World) → Legal w → (before rest : List Entry) (e : Entry) → w.history ≡ before ++ e ∷ rest
+    → IsOpenAfter w before e
 each_open_after w legal before rest e at =
     let m = each_made w legal before rest e at in
     record {
@@ -122,7 +127,8 @@ each_open_after w legal before rest e at =
 
 -- ---- the prefix in which an answer was given
 
-later_answered : (v w : World) (n : ℕ) (a : Answer) (more : List Entry) → GoesOn v w → w.history ≡ v.history ++ more → own_replies w n ≡ own_replies v n → IsAnsweredAt v n a → IsAnsweredAt w n a
+later_answered : (v w : World) (n : ℕ) (a : Answer) (more : List Entry) → GoesOn v w → w.history ≡ v.history ++ more
+    → own_replies w n ≡ own_replies v n → IsAnsweredAt v n a → IsAnsweredAt w n a
 later_answered v w n a more on grown same g = record {
   before = g.before;
   rest = g.rest ++ more;
@@ -135,7 +141,8 @@ later_answered v w n a more on grown same g = record {
 }
 
 -- the answers so far, and the one that is given now
-answered_now : (v : World) (n : ℕ) (c : Placed) (b : Answer) (m : ℕ) (a : Answer) → Legal v → IsReady v n c → (next_of v c.command (own_replies v n) ≡ next.Answer b) ⊎ (b ≡ OutOfMemory)
+answered_now : (v : World) (n : ℕ) (c : Placed) (b : Answer) (m : ℕ) (a : Answer) → Legal v → IsReady v n c
+    → (next_of v c.command (own_replies v n) ≡ next.Answer b) ⊎ (b ≡ OutOfMemory)
     → (slice_get v.answers m ≡ Some (Some a) → IsAnsweredAt v m a) → slice_get (slice_set v.answers n (Some b)) m ≡ Some (Some a) → IsAnsweredAt (answered v n b) m a
 answered_now v n c b m a legal ready due earlier at = elim (eqb_tells m n) [
   | inl t ↦
@@ -157,7 +164,8 @@ answered_now v n c b m a legal ready due earlier at = elim (eqb_tells m n) [
       (earlier (sym (slice_get-set_other v.answers n m (Some b) f.1) ∙ at))
 ]
 
-answered_done : (v : World) (n : ℕ) (c : Placed) (x : Next) (m : ℕ) (a : Answer) → Legal v → IsReady v n c → next_of v c.command (own_replies v n) ≡ x
+answered_done : (v : World) (n : ℕ) (c : Placed) (x : Next) (m : ℕ) (a : Answer) → Legal v → IsReady v n c
+    → next_of v c.command (own_replies v n) ≡ x
     → (slice_get v.answers m ≡ Some (Some a) → IsAnsweredAt v m a) → slice_get (done v n x).answers m ≡ Some (Some a) → IsAnsweredAt (done v n x) m a
 answered_done v n c (next.Answer b) m a legal ready is earlier at = answered_now v n c b m a legal ready (inl is) earlier at
 answered_done v n c (next.Call call faulty) m a legal ready is earlier at =
@@ -165,7 +173,8 @@ answered_done v n c (next.Call call faulty) m a legal ready is earlier at =
     let other : e.command ≢ m + 1 = λ same. none-some a (same_Some None (Some a) (sym ready.unanswered ∙ ap (slice_get v.answers) (let place : n ≡ m = omega arith in place) ∙ at)) in
     later_answered v (with_entry v e) m a (e ∷ []) (on_done v n (next.Call call faulty) ready.unanswered) refl (replies_of-other m v.history e other) (earlier at)
 
-pub each_answered : (w : World) → Legal w → (n : ℕ) (a : Answer) → slice_get w.answers n ≡ Some (Some a) → IsAnsweredAt w n a
+pub each_answered : (w : World) → Legal w → (n : ℕ) (a : Answer) → slice_get w.answers n ≡ Some (Some a)
+    → IsAnsweredAt w n a
 each_answered _ (starts w begun) n a at = absurd (none_answered w n a begun at)
 each_answered _ (steps v w k c legal ready is) n a at =
     subst (λ u. IsAnsweredAt u n a) (sym is)

@@ -23,7 +23,8 @@ given (Some a ∷ os) = suc (given os)
 abbrev amount : World → ℕ
 amount w = length w.history + given w.answers + w.round
 
-given-unset : (os : List (Option Answer)) (n : ℕ) (a : Answer) → slice_get os n ≡ Some (Some a) → given os ≡ suc (given (slice_set os n None))
+given-unset : (os : List (Option Answer)) (n : ℕ) (a : Answer) → slice_get os n ≡ Some (Some a)
+    → given os ≡ suc (given (slice_set os n None))
 given-unset [] n a at = absurd (none-some (Some a) at)
 given-unset (None ∷ os) zero a at = absurd (none-some a (same_Some None (Some a) at))
 given-unset (Some b ∷ os) zero a at = refl
@@ -115,7 +116,8 @@ command_left (suc n) (suc long) less = let rest = command_left n long (omega ari
 command_left n zero less = absurd (omega arith)
 
 -- the command at place n as the last one of its container, or none
-last_here : (w : World) (n : ℕ) (c : Placed) → IsLegalByClauses w → slice_get (commands_of w.plan) n ≡ Some c → c.round ≡ w.round → IsAnswered w n → NoLastFrom w (n + 1) → LastAnswer w ⊎ HasLater w n c
+last_here : (w : World) (n : ℕ) (c : Placed) → IsLegalByClauses w → slice_get (commands_of w.plan) n ≡ Some c
+    → c.round ≡ w.round → IsAnswered w n → NoLastFrom w (n + 1) → LastAnswer w ⊎ HasLater w n c
 last_here w n c k there current a none =
     let within = slice_get_within (commands_of w.plan) n c there in
     let left = command_left n (length (commands_of w.plan)) within in
@@ -136,7 +138,8 @@ last_here w n c k there current a none =
       })
     ]
 
-find_last : (w : World) → IsLegalByClauses w → (left n : ℕ) → n + left ≡ length (commands_of w.plan) → LastAnswer w ⊎ NoLastFrom w n
+find_last : (w : World) → IsLegalByClauses w → (left n : ℕ) → n + left ≡ length (commands_of w.plan)
+    → LastAnswer w ⊎ NoLastFrom w n
 find_last w k zero n ends = inr (λ m d most at current a. absurd (let within = slice_get_within (commands_of w.plan) m d at in omega arith))
 find_last w k (suc left) n ends = elim (find_last w k left (n + 1) (omega arith)) [
   | inl is ↦ inl is
@@ -164,7 +167,9 @@ find_last w k (suc left) n ends = elim (find_last w k left (n + 1) (omega arith)
 abbrev IsFresh : World → Type 0
 IsFresh w = (n : ℕ) (c : Placed) → slice_get (commands_of w.plan) n ≡ Some c → c.round ≡ w.round → IsUntouched w n
 
-fresh_where : (w : World) → IsLegalByClauses w → NoLastFrom w 0 → ((n : ℕ) (c : Placed) → slice_get (commands_of w.plan) n ≡ Some c → c.round ≡ w.round → own_replies w n ≡ []) → IsFresh w
+fresh_where : (w : World) → IsLegalByClauses w → NoLastFrom w 0
+    → ((n : ℕ) (c : Placed) → slice_get (commands_of w.plan) n ≡ Some c → c.round ≡ w.round → own_replies w n ≡ [])
+    → IsFresh w
 fresh_where w k none silent n c at current = record {
   no_reply = silent n c at current;
   no_answer = elim (answered_or_open w n (slice_get w.answers n) refl (rw k.long (slice_get_within (commands_of w.plan) n c at))) [
@@ -173,20 +178,23 @@ fresh_where w k none silent n c at current = record {
   ];
 }
 
-untouched_at_first : (w : World) → IsLegalByClauses w → IsFresh w → w.round ≡ 0 → (n : ℕ) (c : Placed) → slice_get (commands_of w.plan) n ≡ Some c → IsUntouched w n
+untouched_at_first : (w : World) → IsLegalByClauses w → IsFresh w → w.round ≡ 0 → (n : ℕ) (c : Placed)
+    → slice_get (commands_of w.plan) n ≡ Some c → IsUntouched w n
 untouched_at_first w k fresh is n c at = elim (eqb_tells c.round w.round) [
   | inl t ↦ fresh n c at t.1
   | inr f ↦ k.rounds.later n c at (let other = f.1 in omega arith)
 ]
 
 -- a world where nothing was done is begun
-blanks : (xs : List Placed) (os : List (Option Answer)) → length os ≡ length xs → ((n : ℕ) (o : Option Answer) → slice_get os n ≡ Some o → o ≡ None) → os ≡ map (λ (c : Placed). None) xs
+blanks : (xs : List Placed) (os : List (Option Answer)) → length os ≡ length xs
+    → ((n : ℕ) (o : Option Answer) → slice_get os n ≡ Some o → o ≡ None) → os ≡ map (λ (c : Placed). None) xs
 blanks [] [] long none = refl
 blanks [] (o ∷ os) long none = absurd (omega arith)
 blanks (x ∷ xs) [] long none = absurd (omega arith)
 blanks (x ∷ xs) (o ∷ os) long none = ap (λ (p : Option Answer). p ∷ os) (none 0 o refl) ∙ ap (λ (ps : List (Option Answer)). None ∷ ps) (blanks xs os (omega arith) (λ n q at. none (suc n) q at))
 
-blank_world : (w : World) → w.history ≡ [] → w.answers ≡ map (λ (c : Placed). None) (commands_of w.plan) → w.round ≡ 0 → w ≡ begun w.plan
+blank_world : (w : World) → w.history ≡ [] → w.answers ≡ map (λ (c : Placed). None) (commands_of w.plan) → w.round ≡ 0
+    → w ≡ begun w.plan
 blank_world w empty blank first =
     let world : List Entry → List (Option Answer) → ℕ → World = λ h os r. record { plan = w.plan; history = h; answers = os; round = r } in
     ap (λ (h : List Entry). world h w.answers w.round) empty ∙ ap (λ (os : List (Option Answer)). world [] os w.round) blank ∙ ap (world [] (map (λ (c : Placed). None) (commands_of w.plan))) first
@@ -218,7 +226,8 @@ by_round w (suc round) is k fresh =
     })
 
 -- an entry of the current round, where the last one isn't of it
-silent_after : (w : World) (before : List Entry) (e : Entry) (n : ℕ) (c : Placed) → IsLegalByClauses w → w.history ≡ before ++ e ∷ [] → IsEntryOf w.plan e n c → c.round ≢ w.round
+silent_after : (w : World) (before : List Entry) (e : Entry) (n : ℕ) (c : Placed) → IsLegalByClauses w
+    → w.history ≡ before ++ e ∷ [] → IsEntryOf w.plan e n c → c.round ≢ w.round
     → (m : ℕ) (d : Placed) → slice_get (commands_of w.plan) m ≡ Some d → d.round ≡ w.round → own_replies w m ≡ []
 silent_after w before e n c k split of_e other m d at current = elim (entry_or_none m w.history) [
   | inl none ↦ none
@@ -233,7 +242,8 @@ silent_after w before e n c k split of_e other m d at current = elim (entry_or_n
 ]
 
 -- the last entry's command is open
-open_at_last : (w : World) (before : List Entry) (e : Entry) (n : ℕ) (c : Placed) → IsLegalByClauses w → NoLastFrom w 0 → w.history ≡ before ++ e ∷ [] → IsEntryOf w.plan e n c → c.round ≡ w.round
+open_at_last : (w : World) (before : List Entry) (e : Entry) (n : ℕ) (c : Placed) → IsLegalByClauses w → NoLastFrom w 0
+    → w.history ≡ before ++ e ∷ [] → IsEntryOf w.plan e n c → c.round ≡ w.round
     → slice_get w.answers n ≡ Some None
 open_at_last w before e n c k none split of_e current = elim (answered_or_open w n (slice_get w.answers n) refl (rw k.long (slice_get_within (commands_of w.plan) n c of_e.there))) [
   | inl is_open ↦ is_open
@@ -253,7 +263,8 @@ open_at_last w before e n c k none split of_e current = elim (answered_or_open w
       ])
 ]
 
-back_entry : (w : World) (before : List Entry) (e : Entry) (n : ℕ) (c : Placed) → IsLegalByClauses w → NoLastFrom w 0 → w.history ≡ before ++ e ∷ [] → IsEntryOf w.plan e n c → c.round ≡ w.round → TakenBack w
+back_entry : (w : World) (before : List Entry) (e : Entry) (n : ℕ) (c : Placed) → IsLegalByClauses w → NoLastFrom w 0
+    → w.history ≡ before ++ e ∷ [] → IsEntryOf w.plan e n c → c.round ≡ w.round → TakenBack w
 back_entry w before e n c k none split of_e current =
     let v : World = record { plan = w.plan; history = before; answers = w.answers; round = w.round } in
     let is : with_entry v e ≡ w = ap (λ (h : List Entry). let u : World = record { plan = w.plan; history = h; answers = w.answers; round = w.round } in u) (sym split) in

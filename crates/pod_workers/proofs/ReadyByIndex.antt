@@ -25,14 +25,16 @@ is-answered None h = absurd (false≢true h)
 is-answered (Some None) h = absurd (false≢true h)
 is-answered (Some (Some a)) h = (a, refl)
 
-answered-is : (o : Option (Option Answer)) → ((x : Option Answer) → o ≡ Some x → x ≢ None) → o ≢ None → is_some (option_flatten o) ≡ true
+answered-is : (o : Option (Option Answer)) → ((x : Option Answer) → o ≡ Some x → x ≢ None) → o ≢ None
+    → is_some (option_flatten o) ≡ true
 answered-is None h some = absurd (some refl)
 answered-is (Some None) h some = absurd (h None refl refl)
 answered-is (Some (Some a)) h some = refl
 
 -- ---- a command that the index lets through is the first of its container
 
-clear-by : (w : World) (n : ℕ) (c : Placed) (previous : Option ℕ) → IsInOrder w → n < length w.answers → c.round ≡ w.round → IsLatest (commands_of w.plan) n c.round c.command.container previous
+clear-by : (w : World) (n : ℕ) (c : Placed) (previous : Option ℕ) → IsInOrder w → n < length w.answers
+    → c.round ≡ w.round → IsLatest (commands_of w.plan) n c.round c.command.container previous
     → lets_through w.answers previous ≡ true
     → (m : ℕ) (d : Placed) (o : Option Answer) → m < n → slice_get (commands_of w.plan) m ≡ Some d → slice_get w.answers m ≡ Some o → ¬ Blocks d o w.round c.command.container
 clear-by w n c None order within current latest through m d o less at_m answer blocks = latest m d (omega arith) less at_m (blocks.0.0 ∙ sym current, blocks.0.1)
@@ -51,7 +53,8 @@ clear-by w n c (Some k) order within current latest through m d o less at_m answ
       | inr (inr after) ↦ latest.2 m d (omega arith) less at_m of_
     ]
 
-through-by : (w : World) (n : ℕ) (c : Placed) (previous : Option ℕ) → n < length w.answers → IsReady w n c → IsLatest (commands_of w.plan) n c.round c.command.container previous → lets_through w.answers previous ≡ true
+through-by : (w : World) (n : ℕ) (c : Placed) (previous : Option ℕ) → n < length w.answers → IsReady w n c
+    → IsLatest (commands_of w.plan) n c.round c.command.container previous → lets_through w.answers previous ≡ true
 through-by w n c None within ready latest = refl
 through-by w n c (Some k) within ready latest =
     let less = latest.0 in
@@ -62,7 +65,8 @@ through-by w n c (Some k) within ready latest =
 
 -- ---- both ways
 
-ready-where : (w : World) (n : ℕ) (c : Placed) (p : Place) → IsInOrder w → n < length w.answers → slice_get (commands_of w.plan) n ≡ Some c → IsPlaced w.plan.pods.rounds (commands_of w.plan) n c p
+ready-where : (w : World) (n : ℕ) (c : Placed) (p : Place) → IsInOrder w → n < length w.answers
+    → slice_get (commands_of w.plan) n ≡ Some c → IsPlaced w.plan.pods.rounds (commands_of w.plan) n c p
     → may_step_by p w.answers w.round n ≡ true → IsReady w n c
 ready-where w n c p order within at_n placed passes =
     let a = and_parts (p.round == w.round) _ passes in
@@ -75,14 +79,16 @@ ready-where w n c p order within at_n placed passes =
       first = clear-by w n c p.previous order within current placed.previous b.1;
     }
 
-where-ready : (w : World) (n : ℕ) (c : Placed) (p : Place) → n < length w.answers → IsPlaced w.plan.pods.rounds (commands_of w.plan) n c p → IsReady w n c → may_step_by p w.answers w.round n ≡ true
+where-ready : (w : World) (n : ℕ) (c : Placed) (p : Place) → n < length w.answers
+    → IsPlaced w.plan.pods.rounds (commands_of w.plan) n c p → IsReady w n c → may_step_by p w.answers w.round n ≡ true
 where-ready w n c p within placed ready =
     let here : (p.round == w.round) ≡ true = eq-eqb p.round w.round (sym placed.round_is ∙ ready.current) in
     let unanswered : is_open (slice_get w.answers n) ≡ true = ap is_open ready.unanswered in
     let through = through-by w n c p.previous within ready placed.previous in
     rw (here, unanswered) through
 
-ready-by : (b : Bool) (w : World) (n : ℕ) (c : Placed) (p : Place) (number : ℕ) → number ≡ n + 1 → IsInOrder w → n < length w.answers → slice_get (commands_of w.plan) n ≡ Some c
+ready-by : (b : Bool) (w : World) (n : ℕ) (c : Placed) (p : Place) (number : ℕ) → number ≡ n + 1 → IsInOrder w
+    → n < length w.answers → slice_get (commands_of w.plan) n ≡ Some c
     → IsPlaced w.plan.pods.rounds (commands_of w.plan) n c p → b ≡ may_step_by p w.answers w.round n → MatchBool b (IsReadyNumber w number) (IsReadyNumber w number → ⊥)
 ready-by true w n c p number is order within at_n placed tells = (n, c, is, ready-where w n c p order within at_n placed (sym tells))
 ready-by false w n c p number is order within at_n placed tells = λ r.
@@ -96,7 +102,8 @@ placed-default [] n within = absurd (omega arith)
 placed-default (c ∷ cs) n within = c
 
 -- whether the command of this number may step
-pub ready-tells : (b : Bool) (host : Host) (slots : List (Option RunView)) (places : List Place) (before : ℕ) (w v : World) (p : Place) (number : ℕ) → IsKept host slots places before w → w ≡ v
+pub ready-tells : (b : Bool) (host : Host) (slots : List (Option RunView)) (places : List Place) (before : ℕ) (w v : World) (p : Place) (number : ℕ)
+    → IsKept host slots places before w → w ≡ v
     → at_number places number ≡ Some p → b ≡ may_step_by p w.answers w.round (number - 1) → MatchBool b (IsReadyNumber v number) (IsReadyNumber v number → ⊥)
 ready-tells b host slots places before w v p number kept same found tells =
     let at = numbered places number p found in
@@ -109,7 +116,8 @@ ready-tells b host slots places before w v p number kept same found tells =
     (ready-by b w n c p number at.0 (in_order w kept.legal) short at_n (kept.index.each n c p at_n at.1) tells)
 
 -- a command that has a place has room for its answer
-pub place-answered : (host : Host) (slots : List (Option RunView)) (places : List Place) (before : ℕ) (w : World) (p : Place) (number : ℕ) → IsKept host slots places before w → at_number places number ≡ Some p → number - 1 < length w.answers
+pub place-answered : (host : Host) (slots : List (Option RunView)) (places : List Place) (before : ℕ) (w : World) (p : Place) (number : ℕ)
+    → IsKept host slots places before w → at_number places number ≡ Some p → number - 1 < length w.answers
 place-answered host slots places before w p number kept found =
     let within = slice_get_within places (number - 1) p (numbered places number p found).1 in
     let a = kept.index.long in
@@ -117,7 +125,8 @@ place-answered host slots places before w p number kept found =
     omega arith
 
 -- a number with no place is no command's
-pub ready-nowhere : (host : Host) (slots : List (Option RunView)) (places : List Place) (before : ℕ) (w v : World) (number : ℕ) → IsKept host slots places before w → w ≡ v → at_number places number ≡ None → IsReadyNumber v number → ⊥
+pub ready-nowhere : (host : Host) (slots : List (Option RunView)) (places : List Place) (before : ℕ) (w v : World) (number : ℕ)
+    → IsKept host slots places before w → w ≡ v → at_number places number ≡ None → IsReadyNumber v number → ⊥
 ready-nowhere host slots places before w v number kept same none ready =
     let r = subst (λ u. IsReadyNumber u number) (sym same) ready in
     let within = slice_get_within (commands_of w.plan) r.0 r.1 r.3.there in
@@ -129,7 +138,9 @@ ready-nowhere host slots places before w v number kept same none ready =
 abbrev is_there : ℕ → Option Place → Bool
 is_there round p = option_map_or (λ (p : Place). p.round == round) p false
 
-place-in-round : (rounds : List (List Command)) (commands : List Placed) (places : List Place) (round k : ℕ) → IsIndex rounds commands places → (o : Option Placed) → slice_get commands k ≡ o → (q : Option Place) → slice_get places k ≡ q → is_there round q ≡ is_in_round round o
+place-in-round : (rounds : List (List Command)) (commands : List Placed) (places : List Place) (round k : ℕ)
+    → IsIndex rounds commands places → (o : Option Placed) → slice_get commands k ≡ o → (q : Option Place)
+    → slice_get places k ≡ q → is_there round q ≡ is_in_round round o
 place-in-round rounds commands places round k index (Some c) at_k (Some p) place_k = ap (λ r. r == round) (sym (index.each k c p at_k place_k).round_is)
 place-in-round rounds commands places round k index None at_k None place_k = refl
 place-in-round rounds commands places round k index (Some c) at_k None place_k =
@@ -142,23 +153,28 @@ where-numbered : (b : Bool) (o : Option Placed) (q : Option Place) (round : ℕ)
 where-numbered true o q round same = refl
 where-numbered false o q round same = same
 
-entry-in-round : (rounds : List (List Command)) (commands : List Placed) (places : List Place) (round : ℕ) (e : Entry) → IsIndex rounds commands places
+entry-in-round : (rounds : List (List Command)) (commands : List Placed) (places : List Place) (round : ℕ) (e : Entry)
+    → IsIndex rounds commands places
     → is_entry_in places round e ≡ is_in_round round (at_number commands e.command)
 entry-in-round rounds commands places round e index =
     where-numbered (e.command == 0) (slice_get commands (e.command - 1)) (slice_get places (e.command - 1)) round
     (place-in-round rounds commands places round (e.command - 1) index (slice_get commands (e.command - 1)) refl (slice_get places (e.command - 1)) refl)
 
 -- whether an entry is of the current round
-pub round-tells : (b : Bool) (host : Host) (slots : List (Option RunView)) (places : List Place) (before : ℕ) (w v : World) (e : Entry) → IsKept host slots places before w → w ≡ v
+pub round-tells : (b : Bool) (host : Host) (slots : List (Option RunView)) (places : List Place) (before : ℕ) (w v : World) (e : Entry)
+    → IsKept host slots places before w → w ≡ v
     → b ≡ is_entry_in places w.round e → b ≡ is_of_round v.plan v.round e
 round-tells b host slots places before w v e kept same tells =
     subst (λ u. b ≡ is_of_round u.plan u.round e) same (tells ∙ entry-in-round w.plan.pods.rounds (commands_of w.plan) places w.round e kept.index)
 
-cut-at : (w : World) (places : List Place) (stop_at : Option ℕ) (last : Option Entry) → IsIndex w.plan.pods.rounds (commands_of w.plan) places → is_cut_after stop_at w.history places w.round last ≡ is_cut_at stop_at w last
+cut-at : (w : World) (places : List Place) (stop_at : Option ℕ) (last : Option Entry)
+    → IsIndex w.plan.pods.rounds (commands_of w.plan) places
+    → is_cut_after stop_at w.history places w.round last ≡ is_cut_at stop_at w last
 cut-at w places None last index = refl
 cut-at w places (Some number) None index = refl
 cut-at w places (Some number) (Some e) index =
     ap (λ b. length w.history == number && b) (entry-in-round w.plan.pods.rounds (commands_of w.plan) places w.round e index)
 
-pub cut-is : (w : World) (places : List Place) (cut : Bool) → IsIndex w.plan.pods.rounds (commands_of w.plan) places → cut ≡ is_cut_by w.plan.stop_at w.history places w.round → cut ≡ is_cut w
+pub cut-is : (w : World) (places : List Place) (cut : Bool) → IsIndex w.plan.pods.rounds (commands_of w.plan) places
+    → cut ≡ is_cut_by w.plan.stop_at w.history places w.round → cut ≡ is_cut w
 cut-is w places cut index tells = tells ∙ cut-at w places w.plan.stop_at (last_entry w.history) index

@@ -31,27 +31,34 @@ OfRefusals P = (cause : Cause) → P (Over (Refused cause) [])
 abbrev pub OfUndoing : (State → Type 0) → Type 0
 OfUndoing P = (cause : Cause) → P (ReadingCache (Refused cause))
 
-pub by-begin : (P : State → Type 0) (list : NetList) (c : Command) (number : ℕ) (r : Reply) → OfRefusals P → P (before_leases list c (before_of list c)) → P (at_begin list c number r)
+pub by-begin : (P : State → Type 0) (list : NetList) (c : Command) (number : ℕ) (r : Reply) → OfRefusals P
+    → P (before_leases list c (before_of list c)) → P (at_begin list c number r)
 by-begin P list c number Done refused next = next
 by-begin P list c number _ refused next = refused _
 
-pub by-call_before : (P : State → Type 0) (list : NetList) (c : Command) (number : ℕ) (left : List Call) (r : Reply) → OfUndoing P → P (before_leases list c left) → P (at_call_before list c number left r)
+pub by-call_before : (P : State → Type 0) (list : NetList) (c : Command) (number : ℕ) (left : List Call) (r : Reply)
+    → OfUndoing P → P (before_leases list c left) → P (at_call_before list c number left r)
 by-call_before P list c number left Done undone next = next
 by-call_before P list c number left _ undone next = undone _
 
-pub by-lease : (P : State → Type 0) (list : NetList) (c : Command) (number : ℕ) (left : List RangeSet) (given : List Addr) (r : Reply) → OfUndoing P → ((addr : Addr) → P (leasing list c left (given ++ addr ∷ []))) → P (at_lease list c number left given r)
+pub by-lease : (P : State → Type 0) (list : NetList) (c : Command) (number : ℕ) (left : List RangeSet) (given : List Addr) (r : Reply)
+    → OfUndoing P → ((addr : Addr) → P (leasing list c left (given ++ addr ∷ [])))
+    → P (at_lease list c number left given r)
 by-lease P list c number left given (Leased addr) undone next = next addr
 by-lease P list c number left given _ undone next = undone _
 
-pub by-call_after : (P : State → Type 0) (number : ℕ) (left : List Call) (given : List Addr) (r : Reply) → OfUndoing P → P (after_leases left given) → P (at_call_after number left given r)
+pub by-call_after : (P : State → Type 0) (number : ℕ) (left : List Call) (given : List Addr) (r : Reply) → OfUndoing P
+    → P (after_leases left given) → P (at_call_after number left given r)
 by-call_after P number left given Done undone next = next
 by-call_after P number left given _ undone next = undone _
 
-pub by-cache : (P : State → Type 0) (list : NetList) (number : ℕ) (ending : Ending) (r : Reply) → P (Over (faulted number ending) []) → P (deleting (kinds_of list) ending) → P (at_cache list number ending r)
+pub by-cache : (P : State → Type 0) (list : NetList) (number : ℕ) (ending : Ending) (r : Reply)
+    → P (Over (faulted number ending) []) → P (deleting (kinds_of list) ending) → P (at_cache list number ending r)
 by-cache P list number ending Fault over next = over
 by-cache P list number ending _ over next = next
 
-pub by-gone : (P : State → Type 0) (number : ℕ) (kind : Kind) (left : List Kind) (ending : Ending) (b : Bool) → P (Deleting kind left ending) → P (deleting left ending) → P (at_deletion number kind left ending (Gone b))
+pub by-gone : (P : State → Type 0) (number : ℕ) (kind : Kind) (left : List Kind) (ending : Ending) (b : Bool)
+    → P (Deleting kind left ending) → P (deleting left ending) → P (at_deletion number kind left ending (Gone b))
 by-gone P number kind left ending true again next = again
 by-gone P number kind left ending false again next = next
 
@@ -61,19 +68,23 @@ by-deletion P number kind left ending (Gone b) over again next = by-gone P numbe
 by-deletion P number kind left ending Fault over again next = over
 by-deletion P number kind left ending _ over again next = again
 
-by-cached : (P : State → Type 0) (list : NetList) (c : Command) (o : Option Cached) → OfRefusals P → ((cached : Cached) → P (asking (check_questions list c cached))) → P (checking list c o)
+by-cached : (P : State → Type 0) (list : NetList) (c : Command) (o : Option Cached) → OfRefusals P
+    → ((cached : Cached) → P (asking (check_questions list c cached))) → P (checking list c o)
 by-cached P list c None refused next = refused _
 by-cached P list c (Some cached) refused next = next cached
 
-pub by-entry : (P : State → Type 0) (list : NetList) (c : Command) (number : ℕ) (r : Reply) → OfRefusals P → ((cached : Cached) → P (asking (check_questions list c cached))) → P (at_entry list c number r)
+pub by-entry : (P : State → Type 0) (list : NetList) (c : Command) (number : ℕ) (r : Reply) → OfRefusals P
+    → ((cached : Cached) → P (asking (check_questions list c cached))) → P (at_entry list c number r)
 by-entry P list c number (Entry o) refused next = by-cached P list c o refused next
 by-entry P list c number _ refused next = refused _
 
-by-has : (P : State → Type 0) (number : ℕ) (q : Question) (left : List Question) (b : Bool) → OfRefusals P → P (asking left) → P (at_question number q left (Has b))
+by-has : (P : State → Type 0) (number : ℕ) (q : Question) (left : List Question) (b : Bool) → OfRefusals P
+    → P (asking left) → P (at_question number q left (Has b))
 by-has P number q left true refused next = next
 by-has P number q left false refused next = refused _
 
-pub by-question : (P : State → Type 0) (number : ℕ) (q : Question) (left : List Question) (r : Reply) → OfRefusals P → P (asking left) → P (at_question number q left r)
+pub by-question : (P : State → Type 0) (number : ℕ) (q : Question) (left : List Question) (r : Reply) → OfRefusals P
+    → P (asking left) → P (at_question number q left r)
 by-question P number q left (Has b) refused next = by-has P number q left b refused next
 by-question P number q left _ refused next = refused _
 
@@ -92,11 +103,13 @@ pub record StaysTrue (list : NetList) (c : Command) (P : State → Type 0) : Typ
   pub asks : (next : Question) (left : List Question) → P (Asking next left) → P (asking left)
   pub collects : (work next : Work) (faults more : List ℕ) → P (Collecting work faults) → P (Collecting next more)
 
-of-deleting : (P : State → Type 0) (list : NetList) (c : Command) (ks : List Kind) (ending : Ending) → StaysTrue list c P → P (deleting ks ending)
+of-deleting : (P : State → Type 0) (list : NetList) (c : Command) (ks : List Kind) (ending : Ending)
+    → StaysTrue list c P → P (deleting ks ending)
 of-deleting P list c [] ending stays = stays.over ending []
 of-deleting P list c (k ∷ ks) ending stays = stays.deletes k ks ending
 
-pub true-advance : (P : State → Type 0) (list : NetList) (c : Command) (number : ℕ) (s : State) (r : Reply) → StaysTrue list c P → P s → P (advance list c number s r)
+pub true-advance : (P : State → Type 0) (list : NetList) (c : Command) (number : ℕ) (s : State) (r : Reply)
+    → StaysTrue list c P → P s → P (advance list c number s r)
 unfolding advance
 true-advance P list c number AtBegin r stays h = by-begin P list c number r (λ cause. stays.over (Refused cause) []) (stays.begun h)
 true-advance P list c number (BeforeLeases next left) r stays h = by-call_before P list c number left r (λ cause. stays.caches (Refused cause)) (stays.before next left h)
@@ -111,19 +124,23 @@ true-advance P list c number (Changing change) r stays h = stays.over (changed n
 true-advance P list c number (Collecting work faults) r stays h = stays.collects work _ faults _ h
 true-advance P list c number (Over ending given) r stays h = h
 
-pub true-from : (P : State → Type 0) (list : NetList) (c : Command) (made : ℕ) (s : State) (rs : List Reply) → StaysTrue list c P → P s → P (state_from list c made s rs)
+pub true-from : (P : State → Type 0) (list : NetList) (c : Command) (made : ℕ) (s : State) (rs : List Reply)
+    → StaysTrue list c P → P s → P (state_from list c made s rs)
 true-from P list c made s rs stays h = after_replies-keeps P (advance list c) made s rs (λ number t r was. true-advance P list c number t r stays was) h
 
 -- ---- the start
 
-pub by-unless : (P : State → Type 0) (o : Option Cause) (s : State) → OfRefusals P → (o ≡ None → P s) → P (unless_refused o s)
+pub by-unless : (P : State → Type 0) (o : Option Cause) (s : State) → OfRefusals P → (o ≡ None → P s)
+    → P (unless_refused o s)
 by-unless P None s refused h = h refl
 by-unless P (Some cause) s refused h = refused cause
 
-pub by-unless_old : (P : State → Type 0) (v : Version) (s : State) → OfRefusals P → P s → P (unless_ended (old_ending v) s)
+pub by-unless_old : (P : State → Type 0) (v : Version) (s : State) → OfRefusals P → P s
+    → P (unless_ended (old_ending v) s)
 by-unless_old P v s refused h = old_ending-cases v (λ early. P (unless_ended early s)) (λ old. refused _) (λ new. h)
 
-pub by-unless_early : (P : State → Type 0) (v : Version) (b : Bool) (s : State) → OfRefusals P → P (Over (Skipped skips.Gc) []) → P s → P (unless_ended (early_ending v b) s)
+pub by-unless_early : (P : State → Type 0) (v : Version) (b : Bool) (s : State) → OfRefusals P
+    → P (Over (Skipped skips.Gc) []) → P s → P (unless_ended (early_ending v b) s)
 by-unless_early P v b s refused skipped h = early_ending-cases v b (λ early. P (unless_ended early s)) (λ old. refused _) (λ new disabled. skipped) (λ new enabled. h)
 
 -- a verb that the list may disable
@@ -137,7 +154,8 @@ pub record StartsTrue (list : NetList) (c : Command) (P : State → Type 0) : Ty
   pub collecting : c.verb ≡ verbs.Gc → P (Collecting (start_work (gc_of list c)) [])
   pub status : P (asking (status_questions list c))
 
-true-start : (P : State → Type 0) (list : NetList) (c : Command) (v : Verb) → StaysTrue list c P → StartsTrue list c P → c.verb ≡ v → P (start_of list v c)
+true-start : (P : State → Type 0) (list : NetList) (c : Command) (v : Verb) → StaysTrue list c P → StartsTrue list c P
+    → c.verb ≡ v → P (start_of list v c)
 true-start P list c verbs.Add stays starts is = by-unless P (add_refusal c) AtBegin (λ cause. stays.over (Refused cause) []) starts.begins
 true-start P list c verbs.Del stays starts is = by-unless P (del_refusal c) (ReadingCache Yes) (λ cause. stays.over (Refused cause) []) (λ none. stays.caches Yes)
 true-start P list c verbs.Check stays starts is =
@@ -152,5 +170,6 @@ true-start P list c verbs.NsDel stays starts is = stays.over Yes []
 true-start P list c verbs.Drop stays starts is = stays.over Yes []
 true-start P list c verbs.Flush stays starts is = stays.over Yes []
 
-pub true-after : (P : State → Type 0) (list : NetList) (c : Command) (rs : List Reply) → StaysTrue list c P → StartsTrue list c P → P (state_after list c rs)
+pub true-after : (P : State → Type 0) (list : NetList) (c : Command) (rs : List Reply) → StaysTrue list c P
+    → StartsTrue list c P → P (state_after list c rs)
 true-after P list c rs stays starts = true-from P list c 0 (start_state list c) rs stays (true-start P list c c.verb stays starts refl)

@@ -28,7 +28,8 @@ use Rattle.pod_workers.proofs.{Rounds.rounds-before, Sound.fine, WellFormedPlans
 pub appends-none : (P : Entry → Type 0) (h : List Entry) → Appends h h (All P)
 appends-none P h = ([], sym (append-nil h), All-nil P)
 
-pub appends-more : (F G H : List Entry → Type 0) (g h k : List Entry) → ((xs ys : List Entry) → F xs → G ys → H (xs ++ ys)) → Appends g h F → Appends h k G → Appends g k H
+pub appends-more : (F G H : List Entry → Type 0) (g h k : List Entry)
+    → ((xs ys : List Entry) → F xs → G ys → H (xs ++ ys)) → Appends g h F → Appends h k G → Appends g k H
 appends-more F G H g h k both first more = (first.0 ++ more.0, more.1 ∙ ap (λ es. es ++ more.0) first.1 ∙ append_assoc g first.0 more.0, both first.0 more.0 first.2 more.2)
 
 -- ---- one world goes on from another
@@ -42,7 +43,8 @@ extends_refl w = record {
   others = λ n c at far. refl;
 }
 
-same-round : (u v : World) (es : List Entry) → v.plan ≡ u.plan → v.round ≡ u.round → All (IsOfRound v.plan v.round) es → All (IsOfRound u.plan u.round) es
+same-round : (u v : World) (es : List Entry) → v.plan ≡ u.plan → v.round ≡ u.round → All (IsOfRound v.plan v.round) es
+    → All (IsOfRound u.plan u.round) es
 same-round u v es plan_is round_is all = subst (λ p. All (IsOfRound p u.round) es) plan_is (subst (λ r. All (IsOfRound v.plan r) es) round_is all)
 
 pub extends_trans : (u v w : World) → Extends u v → Extends v w → Extends u w
@@ -70,7 +72,8 @@ answered_extends w n c a ready = record {
 same-is-in : (round : ℕ) (c : Placed) → c.round ≡ round → is_in_round round (Some c) ≡ true
 same-is-in round c is = elim (eqb_tells c.round round) [ inl t ↦ t.0 | inr f ↦ absurd (f.1 is) ]
 
-of-round : (p : Plan) (round n : ℕ) (c : Placed) (e : Entry) → e.command ≡ n + 1 → slice_get (commands_of p) n ≡ Some c → c.round ≡ round → IsOfRound p round e
+of-round : (p : Plan) (round n : ℕ) (c : Placed) (e : Entry) → e.command ≡ n + 1 → slice_get (commands_of p) n ≡ Some c
+    → c.round ≡ round → IsOfRound p round e
 of-round p round n c e number_is there round_is =
     ap (is_in_round round) (at_number-is (commands_of p) e.command n number_is ∙ there) ∙ same-is-in round c round_is
 
@@ -91,7 +94,8 @@ done_extends w n c (next.Call call faulty) ready =
 abbrev pub IsStepped : Result StepEnd NoMemory → World → World → ℕ → Type 0
 IsStepped r v w number = IfOk r (StepsTo v w number) × OnErr r (RunsOut v w number)
 
-pub step_extends : (r : Result StepEnd NoMemory) (v w : World) (number : ℕ) → IsReadyNumber v number → IsStepped r v w number → Extends v w
+pub step_extends : (r : Result StepEnd NoMemory) (v w : World) (number : ℕ) → IsReadyNumber v number
+    → IsStepped r v w number → Extends v w
 step_extends (Ok x) v w number ready is =
     subst (Extends v) (sym (is.0 ready.0 ready.1 ready.2 ready.3.there).0) (done_extends v ready.0 ready.1 (next_of v ready.1.command (own_replies v ready.0)) ready.3)
 step_extends (Err x) v w number ready is = subst (Extends v) (sym (is.1 ready.0 ready.1 ready.2 ready.3.there)) (answered_extends v ready.0 ready.1 OutOfMemory ready.3)
@@ -102,7 +106,8 @@ placed-all : (w : World) → commands_of w.plan ≡ placed_from 0 w.plan.pods.ro
 unfolding commands_of
 placed-all w = refl
 
-not-before : (rounds : List (List Command)) (round n : ℕ) (c : Placed) → slice_get (placed_from 0 rounds) n ≡ Some c → c.round ≡ round → length (placed_from 0 (take round rounds)) ≤ n
+not-before : (rounds : List (List Command)) (round n : ℕ) (c : Placed) → slice_get (placed_from 0 rounds) n ≡ Some c
+    → c.round ≡ round → length (placed_from 0 (take round rounds)) ≤ n
 not-before rounds round n c at_n is = elim (cases_lt n (length (placed_from 0 (take round rounds)))) [
   | inl less ↦
       let f = placed_from-prefix 0 round rounds in
@@ -112,7 +117,8 @@ not-before rounds round n c at_n is = elim (cases_lt n (length (placed_from 0 (t
 ]
 
 -- after the round's own commands come those of later rounds
-later-round : (r i : ℕ) (rounds : List (List Command)) (cs : List Command) → slice_get rounds i ≡ Some cs → (n : ℕ) (c : Placed) → slice_get (placed_from r rounds) n ≡ Some c
+later-round : (r i : ℕ) (rounds : List (List Command)) (cs : List Command) → slice_get rounds i ≡ Some cs
+    → (n : ℕ) (c : Placed) → slice_get (placed_from r rounds) n ≡ Some c
     → length (placed_from r (take i rounds)) + length cs ≤ n → r + i < c.round
 later-round r i [] cs is n c at_n past = absurd (none-some cs is)
 later-round r zero (x ∷ xs) cs is n c at_n past =
@@ -133,7 +139,8 @@ later-round r (suc i) (x ∷ xs) cs is n c at_n past =
     let rest = later-round (r + 1) i xs cs is k c there (omega (arith, long)) in
     omega arith
 
-pub numbers-of : (host : Host) (slots : List (Option RunView)) (places : List Place) (before : ℕ) (w v : World) (cs : List Command) → IsKept host slots places before w → w ≡ v
+pub numbers-of : (host : Host) (slots : List (Option RunView)) (places : List Place) (before : ℕ) (w v : World) (cs : List Command)
+    → IsKept host slots places before w → w ≡ v
     → slice_get w.plan.pods.rounds w.round ≡ Some cs → AreNumbersOf v (before + 1) (before + length cs + 1)
 numbers-of host slots places before w v cs kept same is = subst (λ u. AreNumbersOf u (before + 1) (before + length cs + 1)) same (record {
   ordered = omega arith;
@@ -161,7 +168,8 @@ earlier-stays v w n e earlier m d at_m less current =
     (a.0, e.answers_stand m a.0 a.1)
 
 -- a command of the round that may not step, though all before it are answered, has its answer
-answered-then : (w : World) (number n : ℕ) (c : Placed) → Legal w → AllBelow w number → (IsReadyNumber w number → ⊥) → number ≡ n + 1 → slice_get (commands_of w.plan) n ≡ Some c → c.round ≡ w.round → IsAnswered w n
+answered-then : (w : World) (number n : ℕ) (c : Placed) → Legal w → AllBelow w number → (IsReadyNumber w number → ⊥)
+    → number ≡ n + 1 → slice_get (commands_of w.plan) n ≡ Some c → c.round ≡ w.round → IsAnswered w n
 answered-then w number n c legal below not is at_n current = elim (open_or_answered w n c (in_order w legal) at_n) [
   | inl unanswered ↦
       absurd (not (
@@ -178,7 +186,8 @@ answered-then w number n c legal below not is at_n current = elim (open_or_answe
   | inr a ↦ a
 ]
 
-pub below-more : (v w : World) (number : ℕ) → Extends v w → Legal w → AllBelow v number → (IsReadyNumber w number → ⊥) → AllBelow w (number + 1)
+pub below-more : (v w : World) (number : ℕ) → Extends v w → Legal w → AllBelow v number → (IsReadyNumber w number → ⊥)
+    → AllBelow w (number + 1)
 below-more v w number e legal below not n c at_n less current =
     let stays = earlier-stays v w (number - 1) e below in
     elim (eqb_tells (n + 1) number) [
@@ -189,7 +198,8 @@ below-more v w number e legal below not n c at_n less current =
 pub none-below : (w : World) (first end : ℕ) → AreNumbersOf w first end → AllBelow w first
 none-below w first end numbers n c at_n less current = absurd (let low = (numbers.all n c at_n current).0 in omega arith)
 
-pub round-is-over : (v w : World) (first end number : ℕ) → AreNumbersOf v first end → Extends v w → end ≤ number → AllBelow w number → IsRoundOver w
+pub round-is-over : (v w : World) (first end number : ℕ) → AreNumbersOf v first end → Extends v w → end ≤ number
+    → AllBelow w number → IsRoundOver w
 round-is-over v w first end number numbers e past below n c at_n current =
     let high = (numbers.all n c (ap (λ p. slice_get (commands_of p) n) (sym e.plan_is) ∙ at_n) (current ∙ e.round_is)).1 in
     below n c at_n (omega arith) current
@@ -199,7 +209,8 @@ rounds-from v w u legal e over is = record { last = w; legal = legal; extends = 
 
 -- ---- the next round
 
-pub turned-keeps : (host : Host) (slots : List (Option RunView)) (places : List Place) (before : ℕ) (w : World) (cs : List Command) → IsKept host slots places before w → slice_get w.plan.pods.rounds w.round ≡ Some cs
+pub turned-keeps : (host : Host) (slots : List (Option RunView)) (places : List Place) (before : ℕ) (w : World) (cs : List Command)
+    → IsKept host slots places before w → slice_get w.plan.pods.rounds w.round ≡ Some cs
     → IsRoundOver w → IsKept host slots places (before + length cs) (next_round w)
 turned-keeps host slots places before w cs kept is over =
     let within : w.round < length w.plan.pods.rounds = slice_get_within w.plan.pods.rounds w.round cs is in
@@ -220,10 +231,12 @@ turned-keeps host slots places before w cs kept is over =
 
 -- ---- where the code reads a round
 
-pub round-there : {w v : World} {cs : List Command} → w ≡ v → slice_get v.plan.pods.rounds v.round ≡ Some cs → slice_get w.plan.pods.rounds w.round ≡ Some cs
+pub round-there : {w v : World} {cs : List Command} → w ≡ v → slice_get v.plan.pods.rounds v.round ≡ Some cs
+    → slice_get w.plan.pods.rounds w.round ≡ Some cs
 round-there {w} {v} {cs} same is = subst (λ u. slice_get u.plan.pods.rounds u.round ≡ Some cs) (sym same) is
 
-pub round-fits : (host : Host) (slots : List (Option RunView)) (places : List Place) (before : ℕ) (w : World) (cs : List Command) → IsKept host slots places before w → slice_get w.plan.pods.rounds w.round ≡ Some cs
+pub round-fits : (host : Host) (slots : List (Option RunView)) (places : List Place) (before : ℕ) (w : World) (cs : List Command)
+    → IsKept host slots places before w → slice_get w.plan.pods.rounds w.round ≡ Some cs
     → (before + length cs ≤ file_limit) × (w.round < file_limit)
 round-fits host slots places before w cs kept is =
     let fits = placed-fits w.plan.pods.rounds w.round cs is in
@@ -242,14 +255,16 @@ still-left v w e less =
 
 -- ---- the order of the file
 
-step-in-order : (r : Result StepEnd NoMemory) (v w : World) (number : ℕ) → IsReadyNumber v number → IsStepped r v w number → Legal v → IsInFileOrder v
+step-in-order : (r : Result StepEnd NoMemory) (v w : World) (number : ℕ) → IsReadyNumber v number
+    → IsStepped r v w number → Legal v → IsInFileOrder v
     → ((n : ℕ) → number ≡ n + 1 → EarlierAreAnswered v n) → IsInFileOrder w
 step-in-order (Ok x) v w number ready is legal order earlier =
     subst IsInFileOrder (sym (is.0 ready.0 ready.1 ready.2 ready.3.there).0) (file_order_stepped v ready.0 ready.1 legal order ready.3 (earlier ready.0 ready.2))
 step-in-order (Err x) v w number ready is legal order earlier = subst IsInFileOrder (sym (is.1 ready.0 ready.1 ready.2 ready.3.there)) (file_order_answered v ready.0 ready.1 OutOfMemory order ready.3)
 
 -- one step more of the first open command keeps the file's order
-pub order-more : (r : Result StepEnd NoMemory) (u v w : World) (number : ℕ) → IsReadyNumber v number → IsStepped r v w number → Legal v → Extends u v → IsInFileOrder v
+pub order-more : (r : Result StepEnd NoMemory) (u v w : World) (number : ℕ) → IsReadyNumber v number
+    → IsStepped r v w number → Legal v → Extends u v → IsInFileOrder v
     → ((n : ℕ) → number ≡ n + 1 → EarlierAreAnswered u n) → IsInFileOrder w
 order-more r u v w number ready is legal e order earlier = step-in-order r v w number ready is legal order (λ n n_is. earlier-stays u v n e (earlier n n_is))
 

@@ -23,14 +23,16 @@ placed_from-more r (suc i) (x ∷ xs) cs is =
     ∙ sym (append_assoc (map (in_round r) x) (placed_from (r + 1) (take i xs)) (map (in_round (r + suc i)) cs))
 
 -- the commands of the first rounds are a prefix of all
-pub placed_from-prefix : (r i : ℕ) (rounds : List (List Command)) → (rest : List Placed) × (placed_from r rounds ≡ placed_from r (take i rounds) ++ rest)
+pub placed_from-prefix : (r i : ℕ) (rounds : List (List Command))
+    → (rest : List Placed) × (placed_from r rounds ≡ placed_from r (take i rounds) ++ rest)
 placed_from-prefix r zero rounds = (placed_from r rounds, refl)
 placed_from-prefix r (suc i) [] = ([], refl)
 placed_from-prefix r (suc i) (x ∷ xs) =
     let f = placed_from-prefix (r + 1) i xs in
     (f.0, ap (λ rest. map (in_round r) x ++ rest) f.1 ∙ sym (append_assoc (map (in_round r) x) (placed_from (r + 1) (take i xs)) f.0))
 
-pub placed-fits : (rounds : List (List Command)) (i : ℕ) (cs : List Command) → slice_get rounds i ≡ Some cs → length (placed_from 0 (take i rounds)) + length cs ≤ length (placed_from 0 rounds)
+pub placed-fits : (rounds : List (List Command)) (i : ℕ) (cs : List Command) → slice_get rounds i ≡ Some cs
+    → length (placed_from 0 (take i rounds)) + length cs ≤ length (placed_from 0 rounds)
 placed-fits rounds i cs is =
     let f = placed_from-prefix 0 (suc i) rounds in
     let all = ap length f.1 in
@@ -40,13 +42,15 @@ placed-fits rounds i cs is =
     let long = length-map cs (in_round (0 + i)) in
     omega (arith, all, split, more, here, long)
 
-either-part : {X : Type 0} (xs ys : List X) (i : ℕ) (x : X) → slice_get (xs ++ ys) i ≡ Some x → (slice_get xs i ≡ Some x) ⊎ ((j : ℕ) × (i ≡ length xs + j) × (slice_get ys j ≡ Some x))
+either-part : {X : Type 0} (xs ys : List X) (i : ℕ) (x : X) → slice_get (xs ++ ys) i ≡ Some x
+    → (slice_get xs i ≡ Some x) ⊎ ((j : ℕ) × (i ≡ length xs + j) × (slice_get ys j ≡ Some x))
 either-part [] ys i x is = inr (i, omega arith, is)
 either-part (z ∷ zs) ys zero x is = inl is
 either-part (z ∷ zs) ys (suc i) x is = elim (either-part zs ys i x is) [ inl t ↦ inl t | inr t ↦ (let e = t.1 in inr (t.0, omega arith, t.2)) ]
 
 -- the command at a place is of this round's commands, or of those after them
-pub here_or_later : (round : ℕ) (cs : List Command) (later : List Placed) (n : ℕ) (c : Placed) → slice_get (map (in_round round) cs ++ later) n ≡ Some c
+pub here_or_later : (round : ℕ) (cs : List Command) (later : List Placed) (n : ℕ) (c : Placed)
+    → slice_get (map (in_round round) cs ++ later) n ≡ Some c
     → ((c.round ≡ round) × (slice_get cs n ≡ Some c.command)) ⊎ ((k : ℕ) × (n ≡ length cs + k) × (slice_get later k ≡ Some c))
 here_or_later round cs later n c at =
     elim (either-part (map (in_round round) cs) later n c at) [
@@ -55,7 +59,8 @@ here_or_later round cs later n c at =
     ]
 
 -- a command of the rounds from r on is of one of them
-pub round-of : (r : ℕ) (rounds : List (List Command)) (n : ℕ) (c : Placed) → slice_get (placed_from r rounds) n ≡ Some c → (r ≤ c.round) × (c.round < r + length rounds)
+pub round-of : (r : ℕ) (rounds : List (List Command)) (n : ℕ) (c : Placed) → slice_get (placed_from r rounds) n ≡ Some c
+    → (r ≤ c.round) × (c.round < r + length rounds)
 round-of r [] n c is = absurd (none-some c is)
 round-of r (x ∷ xs) n c is =
     elim (here_or_later r x (placed_from (r + 1) xs) n c is) [

@@ -27,7 +27,8 @@ split_snoc (y ∷ ys) (b ∷ bs) rest x e is =
     ]
 
 -- two elements of a list that is one longer: the second is the new one, or both are of the list
-pub two_snoc : {X : Type 0} (h before between rest : List X) (x e f : X) → h ++ x ∷ [] ≡ before ++ e ∷ (between ++ f ∷ rest)
+pub two_snoc : {X : Type 0} (h before between rest : List X) (x e f : X)
+    → h ++ x ∷ [] ≡ before ++ e ∷ (between ++ f ∷ rest)
     → ((h ≡ before ++ e ∷ between) × (x ≡ f)) ⊎ ((more : List X) × (h ≡ before ++ e ∷ (between ++ f ∷ more)))
 two_snoc h before between rest x e f is =
     elim (split_snoc h (before ++ e ∷ between) rest x f (is ∙ sym (append_assoc before (e ∷ between) (f ∷ rest)))) [

@@ -46,7 +46,8 @@ none-after_leases : (left : List Call) (given : List Addr) → IsNoCollection (a
 none-after_leases [] given = tt
 none-after_leases (x ∷ xs) given = tt
 
-none-leasing : (list : NetList) (c : Command) (left : List RangeSet) (given : List Addr) → IsNoCollection (leasing list c left given)
+none-leasing : (list : NetList) (c : Command) (left : List RangeSet) (given : List Addr)
+    → IsNoCollection (leasing list c left given)
 none-leasing list c [] given = none-after_leases (back_of list c given) given
 none-leasing list c (x ∷ xs) given = tt
 
@@ -109,11 +110,14 @@ pub record MayGo (host : Host) (call : Call) (faulty : Bool) : Type 0 where
   pub sound : IsSound host
   pub allowed : faulty ≡ false → IsAllowed host call
 
-pub host-made : (host : Host) (n : ℕ) (call : Call) → after_entry host (entry_of host n call false) ≡ (apply host call).0
+pub host-made : (host : Host) (n : ℕ) (call : Call)
+    → after_entry host (entry_of host n call false) ≡ (apply host call).0
 host-made host n call = ap (λ b. if b then host else (apply host call).0) (IsReplyOf-apply host call).no_fault
 
 -- each entry of a run that is no GC's lowers the calls that are left
-pub entry-falls : (most : ℕ) (list : NetList) (c : Command) (number n : ℕ) (s : State) (host : Host) (call : Call) (faulty : Bool) → AddsInAtMost list c most → MayGo host call faulty → LeftAreOfPlugins list c s → IsNoCollection s → turn c s ≡ Calls call
+pub entry-falls : (most : ℕ) (list : NetList) (c : Command) (number n : ℕ) (s : State) (host : Host) (call : Call) (faulty : Bool)
+    → AddsInAtMost list c most → MayGo host call faulty → LeftAreOfPlugins list c s → IsNoCollection s
+    → turn c s ≡ Calls call
     → calls_left most list c (advance list c number s (reply_to host call faulty)) (share_of (att_of c) (after_entry host (entry_of host n call faulty))) < calls_left most list c s (share_of (att_of c) host)
 entry-falls most list c number n s host call true in_most may of_plugins none is =
     falls-advance most list c number s Fault (share_of (att_of c) host) (share_of (att_of c) host) in_most (fault-as list c s host call (own-next list c s of_plugins none) is)
@@ -126,18 +130,21 @@ entry-falls most list c number n s host call false in_most may of_plugins none i
 abbrev in_state : NetList → Command → State → Host → ℕ
 in_state list c s host = calls_left (most_calls list c) list c s (share_of (att_of c) host) + collecting s host
 
-work-calls : (network faults : List ℕ) (js : List Job) (ss : List Sweep) (call : Call) → turn_of_work network js ss faults ≡ Calls call → call_of_work network js ss ≡ Some call
+work-calls : (network faults : List ℕ) (js : List Job) (ss : List Sweep) (call : Call)
+    → turn_of_work network js ss faults ≡ Calls call → call_of_work network js ss ≡ Some call
 work-calls network faults [] [] call is = cc
 work-calls network faults [] (s ∷ ss) call is = ap Some cc
 work-calls network faults (j ∷ js) ss call is = ap Some cc
 
-collecting-falls : (gc : Gc) (work : Work) (n : ℕ) (host : Host) (call : Call) (faulty : Bool) → call_of_work gc.network work.jobs work.sweeps ≡ Some call
+collecting-falls : (gc : Gc) (work : Work) (n : ℕ) (host : Host) (call : Call) (faulty : Bool)
+    → call_of_work gc.network work.jobs work.sweeps ≡ Some call
     → collection_left (work_after gc work.jobs work.sweeps (reply_to host call faulty)) (after_entry host (entry_of host n call faulty)) < collection_left work host
 collecting-falls gc work n host call true is = fault-falls gc work.jobs work.sweeps host call is
 collecting-falls gc work n host call false is =
     subst (λ k. collection_left (work_after gc work.jobs work.sweeps (apply host call).1) k < collection_left work host) (sym (host-made host n call)) (work-falls gc work.jobs work.sweeps host call is)
 
-state-falls : (list : NetList) (c : Command) (number n : ℕ) (s : State) (host : Host) (call : Call) (faulty : Bool) → MayGo host call faulty → LeftAreOfPlugins list c s → turn c s ≡ Calls call
+state-falls : (list : NetList) (c : Command) (number n : ℕ) (s : State) (host : Host) (call : Call) (faulty : Bool)
+    → MayGo host call faulty → LeftAreOfPlugins list c s → turn c s ≡ Calls call
     → in_state list c (advance list c number s (reply_to host call faulty)) (after_entry host (entry_of host n call faulty)) < in_state list c s host
 unfolding advance turn
 state-falls list c number n (Collecting work faults) host call faulty may of_plugins is =
@@ -149,13 +156,15 @@ state-falls list c number n s host call faulty may of_plugins is =
     let none = no-work (advance list c number s r) (after_entry host (entry_of host n call faulty)) (true-advance IsNoCollection list c number s r (none-stays list c) tt) in
     omega arith
 
-outside-falls : (number : ℕ) (c : Command) (s : State) (r : Reply) (call : Call) → LeftIsOutside c s → turn c s ≡ Calls call → outside_left (outside_advance number s r) < outside_left s
+outside-falls : (number : ℕ) (c : Command) (s : State) (r : Reply) (call : Call) → LeftIsOutside c s
+    → turn c s ≡ Calls call → outside_left (outside_advance number s r) < outside_left s
 unfolding turn
 outside-falls number c (Changing change) r call left is = omega arith
 outside-falls number c (Over ending given) r call left is = cc
 outside-falls number c _ r call left is = absurd left
 
-left-falls : (list : Option NetList) (c : Command) (rs : List Reply) (n : ℕ) (host : Host) (call : Call) (faulty : Bool) → MayGo host call faulty → turn_by list c rs ≡ Calls call
+left-falls : (list : Option NetList) (c : Command) (rs : List Reply) (n : ℕ) (host : Host) (call : Call) (faulty : Bool)
+    → MayGo host call faulty → turn_by list c rs ≡ Calls call
     → left_of list c (rs ++ reply_to host call faulty ∷ []) (after_entry host (entry_of host n call faulty)) < left_of list c rs host
 left-falls None c rs n host call faulty may is =
     let r = reply_to host call faulty in
@@ -177,20 +186,23 @@ steps_left_by w n _ _ = 0
 abbrev pub steps_left : World → ℕ → ℕ
 steps_left w number = steps_left_by w (number - 1) (slice_get (commands_of w.plan) (number - 1)) (slice_get w.answers (number - 1))
 
-left-at : (w : World) (n number : ℕ) (c : Option Placed) (o : Option (Option Answer)) → number ≡ n + 1 → slice_get (commands_of w.plan) n ≡ c → slice_get w.answers n ≡ o → steps_left w number ≡ steps_left_by w n c o
+left-at : (w : World) (n number : ℕ) (c : Option Placed) (o : Option (Option Answer)) → number ≡ n + 1
+    → slice_get (commands_of w.plan) n ≡ c → slice_get w.answers n ≡ o → steps_left w number ≡ steps_left_by w n c o
 left-at w n number c o is there answer =
     let place : number - 1 ≡ n = omega arith in
     ap (λ k. steps_left_by w k (slice_get (commands_of w.plan) k) (slice_get w.answers k)) place
     ∙ ap (λ x. steps_left_by w n x (slice_get w.answers n)) there
     ∙ ap (steps_left_by w n c) answer
 
-answer-takes : (w : World) (n number : ℕ) (c : Placed) (a : Answer) → IsReady w n c → number ≡ n + 1 → steps_left (answered w n a) number < steps_left w number
+answer-takes : (w : World) (n number : ℕ) (c : Placed) (a : Answer) → IsReady w n c → number ≡ n + 1
+    → steps_left (answered w n a) number < steps_left w number
 answer-takes w n number c a ready is =
     let before = left-at w n number (Some c) (Some None) is ready.there ready.unanswered in
     let now = left-at (answered w n a) n number (Some c) (Some (Some a)) is ready.there (slice_get-set_same w.answers n (Some a) (slice_get_within w.answers n None ready.unanswered)) in
     omega arith
 
-call-takes : (w : World) (n number : ℕ) (c : Placed) (call : Call) (faulty : Bool) → Legal w → IsReady w n c → number ≡ n + 1 → next_of w c.command (own_replies w n) ≡ next.Call call faulty
+call-takes : (w : World) (n number : ℕ) (c : Placed) (call : Call) (faulty : Bool) → Legal w → IsReady w n c
+    → number ≡ n + 1 → next_of w c.command (own_replies w n) ≡ next.Call call faulty
     → steps_left (with_entry w (entry_of (host_of w) n call faulty)) number < steps_left w number
 call-takes w n number c call faulty legal ready is goes =
     let list = list_for w.plan c.command in
@@ -207,13 +219,15 @@ call-takes w n number c call faulty legal ready is goes =
     ∙ ap (left_of list c.command (rs ++ e.reply ∷ [])) (after-append w.plan.pods.opening w.history e) in
     omega arith
 
-done-takes : (w : World) (n number : ℕ) (c : Placed) (x : Next) → Legal w → IsReady w n c → number ≡ n + 1 → next_of w c.command (own_replies w n) ≡ x
+done-takes : (w : World) (n number : ℕ) (c : Placed) (x : Next) → Legal w → IsReady w n c → number ≡ n + 1
+    → next_of w c.command (own_replies w n) ≡ x
     → steps_left (done w n x) number < steps_left w number
 done-takes w n number c (next.Answer a) legal ready is goes = answer-takes w n number c a ready is
 done-takes w n number c (next.Call call faulty) legal ready is goes = call-takes w n number c call faulty legal ready is goes
 
 -- whatever a step of a ready command gives, fewer steps are left to it
-pub step_takes : (r : Result StepEnd NoMemory) (v w : World) (number : ℕ) → Legal v → IsReadyNumber v number → IsStepped r v w number → steps_left w number < steps_left v number
+pub step_takes : (r : Result StepEnd NoMemory) (v w : World) (number : ℕ) → Legal v → IsReadyNumber v number
+    → IsStepped r v w number → steps_left w number < steps_left v number
 step_takes (Ok x) v w number legal ready is =
     subst (λ u. steps_left u number < steps_left v number) (sym (is.0 ready.0 ready.1 ready.2 ready.3.there).0)
     (done-takes v ready.0 number ready.1 (next_of v ready.1.command (own_replies v ready.0)) legal ready.3 ready.2 refl)

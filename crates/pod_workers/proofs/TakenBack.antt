@@ -27,24 +27,29 @@ pub record MayAnswer (v : World) (n : ℕ) (c : Placed) : Type 0 where
   pub is_open : slice_get v.answers n ≡ Some None
   pub last : (m : ℕ) (d : Placed) → n < m → slice_get (commands_of v.plan) m ≡ Some d → AreOfOneContainer c d → IsUntouched v m
 
-has_answer : (v : World) (n : ℕ) (a : Answer) → slice_get v.answers n ≡ Some None → slice_get (answered v n a).answers n ≡ Some (Some a)
+has_answer : (v : World) (n : ℕ) (a : Answer) → slice_get v.answers n ≡ Some None
+    → slice_get (answered v n a).answers n ≡ Some (Some a)
 has_answer v n a is = slice_get-set_same v.answers n (Some a) (slice_get_within v.answers n None is)
 
 answered-back : (v : World) (n m : ℕ) (a : Answer) → m ≢ n → IsAnswered (answered v n a) m → IsAnswered v m
 answered-back v n m a other is = (is.0, sym (slice_get-set_other v.answers n m (Some a) other) ∙ is.1)
 
-untouched-other : (v : World) (n m : ℕ) (a : Answer) → slice_get v.answers n ≡ Some None → IsUntouched (answered v n a) m → m ≢ n
+untouched-other : (v : World) (n m : ℕ) (a : Answer) → slice_get v.answers n ≡ Some None
+    → IsUntouched (answered v n a) m → m ≢ n
 untouched-other v n m a is u = λ same. none-some a (same_Some None (Some a) (sym u.no_answer ∙ ap (slice_get (slice_set v.answers n (Some a))) same ∙ has_answer v n a is))
 
 untouched-back : (v : World) (n m : ℕ) (a : Answer) → m ≢ n → IsUntouched (answered v n a) m → IsUntouched v m
 untouched-back v n m a other u = record { no_reply = u.no_reply; no_answer = sym (slice_get-set_other v.answers n m (Some a) other) ∙ u.no_answer }
 
-last_besides : (v : World) (n l m : ℕ) (c d x : Placed) → MayAnswer v n c → l ≡ n → l < m → slice_get (commands_of v.plan) l ≡ Some d → slice_get (commands_of v.plan) m ≡ Some x → AreOfOneContainer d x → IsUntouched v m
+last_besides : (v : World) (n l m : ℕ) (c d x : Placed) → MayAnswer v n c → l ≡ n → l < m
+    → slice_get (commands_of v.plan) l ≡ Some d → slice_get (commands_of v.plan) m ≡ Some x → AreOfOneContainer d x
+    → IsUntouched v m
 last_besides v n l m c d x may same less at_l at_m besides =
     let is : d ≡ c = same_Some d c (sym at_l ∙ ap (slice_get (commands_of v.plan)) same ∙ may.there) in
     may.last m x (omega arith) at_m (subst (λ q. AreOfOneContainer q x) is besides)
 
-pub clauses_before_answer : (v : World) (n : ℕ) (c : Placed) (a : Answer) → IsLegalByClauses (answered v n a) → MayAnswer v n c → IsLegalByClauses v
+pub clauses_before_answer : (v : World) (n : ℕ) (c : Placed) (a : Answer) → IsLegalByClauses (answered v n a)
+    → MayAnswer v n c → IsLegalByClauses v
 clauses_before_answer v n c a k may = record {
   plan = k.plan;
   long = sym (length-set v.answers n (Some a)) ∙ k.long;
@@ -78,7 +83,8 @@ clauses_before_answer v n c a k may = record {
       k.answers m d there b (slice_get-set_other v.answers n m (Some a) other ∙ at);
 }
 
-ready_before_answer : (v : World) (n : ℕ) (c : Placed) (a : Answer) → IsLegalByClauses (answered v n a) → MayAnswer v n c → IsReady v n c
+ready_before_answer : (v : World) (n : ℕ) (c : Placed) (a : Answer) → IsLegalByClauses (answered v n a)
+    → MayAnswer v n c → IsReady v n c
 ready_before_answer v n c a k may = record {
   there = may.there;
   current = may.current;
@@ -90,7 +96,8 @@ ready_before_answer v n c a k may = record {
 }
 
 -- where the entry that `stop_at` names is of the current round, it is the last one
-is_cut_now : (w : World) (stop : Option ℕ) → IsLegalByClauses w → w.plan.stop_at ≡ stop → EntryIsInRound w.plan w.history stop w.round → is_cut_at stop w (last_entry w.history) ≡ true
+is_cut_now : (w : World) (stop : Option ℕ) → IsLegalByClauses w → w.plan.stop_at ≡ stop
+    → EntryIsInRound w.plan w.history stop w.round → is_cut_at stop w (last_entry w.history) ≡ true
 is_cut_now w None k named is = absurd is
 is_cut_now w (Some number) k named (before, [], e, n, c, split, long, of_e, round) =
     let last : last_entry w.history ≡ Some e = ap last_entry split ∙ last_entry-append before e in
@@ -107,17 +114,21 @@ is_cut_now w (Some number) k named (before, f ∷ rest, e, n, c, split, long, of
     let less = k.stops.round before [] rest e f n follows.place c follows.by split of_e follows.of (named ∙ ap Some (sym long)) in
     absurd (has_reply follows.place w.history (before ++ e ∷ []) rest f at follows.of.number (k.rounds.later follows.place follows.by follows.of.there (let later : w.round < follows.by.round = omega arith in later)).no_reply)
 
-stops_now : (v : World) (n : ℕ) (c : Placed) (a : Answer) → IsStopOf v n c a → (is_stop c.command.stop (length (own_replies v n)) || is_cut v) ≡ true → next_of v c.command (own_replies v n) ≡ next.Answer a
+stops_now : (v : World) (n : ℕ) (c : Placed) (a : Answer) → IsStopOf v n c a
+    → (is_stop c.command.stop (length (own_replies v n)) || is_cut v) ≡ true
+    → next_of v c.command (own_replies v n) ≡ next.Answer a
 stops_now v n c a is stops =
     let made = length (own_replies v n) in
     ap (next_by (list_for v.plan c.command) c.command made (is_cut v)) is.1
     ∙ ap (λ (b : Bool). if b then next.Answer (Stopped made) else next.Call is.0 (is_faulty c.command made)) stops
     ∙ ap next.Answer (sym is.2)
 
-legal_by_step : (v : World) (n : ℕ) (c : Placed) (a : Answer) → Legal v → IsReady v n c → next_of v c.command (own_replies v n) ≡ next.Answer a → Legal (answered v n a)
+legal_by_step : (v : World) (n : ℕ) (c : Placed) (a : Answer) → Legal v → IsReady v n c
+    → next_of v c.command (own_replies v n) ≡ next.Answer a → Legal (answered v n a)
 legal_by_step v n c a legal ready is = steps v (answered v n a) n c legal ready (ap (done v n) (sym is))
 
-pub legal_answered : (v : World) (n : ℕ) (c : Placed) (a : Answer) → IsLegalByClauses (answered v n a) → MayAnswer v n c → Legal v → Legal (answered v n a)
+pub legal_answered : (v : World) (n : ℕ) (c : Placed) (a : Answer) → IsLegalByClauses (answered v n a) → MayAnswer v n c
+    → Legal v → Legal (answered v n a)
 legal_answered v n c a k may legal =
     let ready = ready_before_answer v n c a k may in
     let made = length (own_replies v n) in
@@ -141,7 +152,8 @@ pub record MayEnter (v : World) (e : Entry) (n : ℕ) (c : Placed) : Type 0 wher
   pub is_open : slice_get v.answers n ≡ Some None
   pub others : (m : ℕ) (d : Placed) → slice_get (commands_of v.plan) m ≡ Some d → d.round ≡ v.round → IsAnswered v m → IsDone (with_entry v e) m d
 
-each_two-shrinks : (p : Plan) (h : List Entry) (x : Entry) (Fit : (number m : ℕ) → Placed → ℕ → Placed → Type 0) → EachTwo p (h ++ x ∷ []) Fit → EachTwo p h Fit
+each_two-shrinks : (p : Plan) (h : List Entry) (x : Entry) (Fit : (number m : ℕ) → Placed → ℕ → Placed → Type 0)
+    → EachTwo p (h ++ x ∷ []) Fit → EachTwo p h Fit
 each_two-shrinks p h x Fit all = λ before between rest e f m n d c at of_e of_f.
     all before between (rest ++ x ∷ []) e f m n d c
     (ap (λ l. l ++ x ∷ []) at ∙ append_assoc before (e ∷ (between ++ f ∷ rest)) (x ∷ []) ∙ ap (λ l. before ++ e ∷ l) (append_assoc between (f ∷ rest) (x ∷ []))) of_e of_f
@@ -152,14 +164,17 @@ entered_has_reply v e n own none = has_reply n (v.history ++ e ∷ []) v.history
 no_reply-other : (v : World) (e : Entry) (n m : ℕ) → e.command ≡ n + 1 → own_replies (with_entry v e) m ≡ [] → m ≢ n
 no_reply-other v e n m own none = λ same. entered_has_reply v e n own (ap (own_replies (with_entry v e)) (sym same) ∙ none)
 
-replies-back : (v : World) (e : Entry) (n m : ℕ) → e.command ≡ n + 1 → m ≢ n → own_replies (with_entry v e) m ≡ own_replies v m
+replies-back : (v : World) (e : Entry) (n m : ℕ) → e.command ≡ n + 1 → m ≢ n
+    → own_replies (with_entry v e) m ≡ own_replies v m
 replies-back v e n m own other = replies_of-other m v.history e (other_number e n m own other)
 
-untouched_before : (v : World) (e : Entry) (n m : ℕ) → e.command ≡ n + 1 → IsUntouched (with_entry v e) m → IsUntouched v m
+untouched_before : (v : World) (e : Entry) (n m : ℕ) → e.command ≡ n + 1 → IsUntouched (with_entry v e) m
+    → IsUntouched v m
 untouched_before v e n m own u = record { no_reply = sym (replies-back v e n m own (no_reply-other v e n m own u.no_reply)) ∙ u.no_reply; no_answer = u.no_answer }
 
 -- the entry that cut this round stands here, or is the new one
-cut-back : (p : Plan) (h : List Entry) (e : Entry) (n : ℕ) (c : Placed) (stop : Option ℕ) (round : ℕ) → IsEntryOf p e n c → EntryIsInRound p (h ++ e ∷ []) stop round
+cut-back : (p : Plan) (h : List Entry) (e : Entry) (n : ℕ) (c : Placed) (stop : Option ℕ) (round : ℕ)
+    → IsEntryOf p e n c → EntryIsInRound p (h ++ e ∷ []) stop round
     → EntryIsInRound p h stop round ⊎ (c.round ≡ round)
 cut-back p h e n c None round of_e is = absurd is
 cut-back p h e n c (Some number) round of_e is = elim (split_snoc h is.0 is.1 e is.2 is.5) [
@@ -167,7 +182,9 @@ cut-back p h e n c (Some number) round of_e is = elim (split_snoc h is.0 is.1 e 
   | inr t ↦ inl (is.0, t.0, is.2, is.3, is.4, t.2, is.6, is.7, is.8)
 ]
 
-due-back : (v : World) (e : Entry) (n m : ℕ) (c d : Placed) (a : Answer) → MayEnter v e n c → m ≢ n → slice_get (commands_of v.plan) m ≡ Some d → slice_get v.answers m ≡ Some (Some a) → IsDue (with_entry v e) m d a → IsDue v m d a
+due-back : (v : World) (e : Entry) (n m : ℕ) (c d : Placed) (a : Answer) → MayEnter v e n c → m ≢ n
+    → slice_get (commands_of v.plan) m ≡ Some d → slice_get v.answers m ≡ Some (Some a) → IsDue (with_entry v e) m d a
+    → IsDue v m d a
 due-back v e n m c d a may other at given (inl scripts) = inl (let own = replies-back v e n m may.of_entry.number other in rw (← own) scripts)
 due-back v e n m c d a may other at given (inr (inr lacking)) = inr (inr lacking)
 due-back v e n m c d a may other at given (inr (inl stopped)) =
@@ -188,19 +205,22 @@ due-back v e n m c d a may other at given (inr (inl stopped)) =
       ]
     ]
 
-done-back : (v : World) (e : Entry) (n m : ℕ) (d : Placed) → e.command ≡ n + 1 → m ≢ n → IsDone (with_entry v e) m d → IsDone v m d
+done-back : (v : World) (e : Entry) (n m : ℕ) (d : Placed) → e.command ≡ n + 1 → m ≢ n → IsDone (with_entry v e) m d
+    → IsDone v m d
 done-back v e n m d own other is =
     let same = replies-back v e n m own other in
     (is.0, is.1, elim is.2 [ inl scripts ↦ inl (rw (← same) scripts) | inr (inl most) ↦ inr (inl (rw (← same) most)) | inr (inr lacking) ↦ inr (inr lacking) ])
 
-stop-back : (v : World) (e : Entry) (m : ℕ) (stop : Option ℕ) → IsUpToStop stop (length (own_replies (with_entry v e) m)) → IsUpToStop stop (length (own_replies v m))
+stop-back : (v : World) (e : Entry) (m : ℕ) (stop : Option ℕ)
+    → IsUpToStop stop (length (own_replies (with_entry v e) m)) → IsUpToStop stop (length (own_replies v m))
 stop-back v e m None within = tt
 stop-back v e m (Some most) within = let less : length (own_replies (with_entry v e) m) ≤ most = within in elim (eqb_tells e.command (m + 1)) [
   | inl t ↦ let longer = ap length (replies_of-own m v.history e t.1) ∙ length_push (own_replies v m) e.reply in omega arith
   | inr f ↦ let same = ap length (replies_of-other m v.history e f.1) in omega arith
 ]
 
-pub clauses_before_entry : (v : World) (e : Entry) (n : ℕ) (c : Placed) → IsLegalByClauses (with_entry v e) → MayEnter v e n c → IsLegalByClauses v
+pub clauses_before_entry : (v : World) (e : Entry) (n : ℕ) (c : Placed) → IsLegalByClauses (with_entry v e)
+    → MayEnter v e n c → IsLegalByClauses v
 clauses_before_entry v e n c k may = record {
   plan = k.plan;
   long = k.long;
@@ -228,7 +248,8 @@ clauses_before_entry v e n c k may = record {
       due-back v e n m c d a may other there at (k.answers m d there a at);
 }
 
-pub legal_entered : (v : World) (e : Entry) (n : ℕ) (c : Placed) → IsLegalByClauses (with_entry v e) → MayEnter v e n c → Legal v → Legal (with_entry v e)
+pub legal_entered : (v : World) (e : Entry) (n : ℕ) (c : Placed) → IsLegalByClauses (with_entry v e) → MayEnter v e n c
+    → Legal v → Legal (with_entry v e)
 legal_entered v e n c k may legal =
     let follows : Follows v.plan v.history e = k.entries v.history [] e refl in
     let of_e = follows.of in

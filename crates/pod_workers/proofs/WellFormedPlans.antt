@@ -31,20 +31,24 @@ each_apart [] all = refl
 each_apart (set ∷ sets) all =
     and_from _ _ (All-get_or IsWellFormedSet (set ∷ sets) 0 set (omega arith) all).apart (each_apart sets (All-drop IsWellFormedSet 1 (set ∷ sets) all))
 
-ipam_apart : (ipam : Option HostLocalConf) → IsWellFormedIpam ipam → list_all (λ set. are_apart set.ranges) (range_sets_of ipam) ≡ true
+ipam_apart : (ipam : Option HostLocalConf) → IsWellFormedIpam ipam
+    → list_all (λ set. are_apart set.ranges) (range_sets_of ipam) ≡ true
 ipam_apart None formed = refl
 ipam_apart (Some conf) formed = each_apart conf.sets formed.sets
 
-pub first_apart : (first : First) → IsWellFormedFirst first → list_all (λ set. are_apart set.ranges) (range_sets_of (ipam_of first)) ≡ true
+pub first_apart : (first : First) → IsWellFormedFirst first
+    → list_all (λ set. are_apart set.ranges) (range_sets_of (ipam_of first)) ≡ true
 first_apart first formed = ipam_apart (ipam_of first) (formed_ipam first formed)
 
 -- ---- the commands
 
-placed_commands : (round : ℕ) (commands : List Command) → map (λ (c : Placed). c.command) (map (in_round round) commands) ≡ commands
+placed_commands : (round : ℕ) (commands : List Command)
+    → map (λ (c : Placed). c.command) (map (in_round round) commands) ≡ commands
 placed_commands round [] = refl
 placed_commands round (c ∷ cs) = ap (λ xs. c ∷ xs) (placed_commands round cs)
 
-all_placed : (round : ℕ) (rounds : List (List Command)) → map (λ (c : Placed). c.command) (placed_from round rounds) ≡ in_file_order rounds
+all_placed : (round : ℕ) (rounds : List (List Command))
+    → map (λ (c : Placed). c.command) (placed_from round rounds) ≡ in_file_order rounds
 all_placed round [] = refl
 all_placed round (commands ∷ rounds) =
     map-append (λ (c : Placed). c.command) (map (in_round round) commands) (placed_from (round + 1) rounds)
@@ -55,7 +59,8 @@ file_order : (p : Plan) → map (λ (c : Placed). c.command) (commands_of p) ≡
 unfolding commands_of
 file_order p = all_placed 0 p.pods.rounds
 
-pub few_placed : (rounds : List (List Command)) → AreWellFormedRounds rounds → length (placed_from 0 rounds) ≤ file_limit
+pub few_placed : (rounds : List (List Command)) → AreWellFormedRounds rounds
+    → length (placed_from 0 rounds) ≤ file_limit
 few_placed rounds formed =
     let same : length (placed_from 0 rounds) ≡ length (in_file_order rounds) = sym (length-map (placed_from 0 rounds) (λ (c : Placed). c.command)) ∙ ap length (all_placed 0 rounds) in
     rw same formed.few_commands

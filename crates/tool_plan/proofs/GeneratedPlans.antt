@@ -12,7 +12,8 @@ use Rattle.pod_workers.specs.declared.plan.Plan.{Plan}
 use Rattle.tool_plan.specs.Verdict.{generated_plan}
 
 -- what holds of all commands holds of them with their rounds
-placed : (P : Command → Bool) (round : ℕ) (rounds : List (List Command)) → list_all P (in_file_order rounds) ≡ true → list_all (λ (c : Placed). P c.command) (placed_from round rounds) ≡ true
+placed : (P : Command → Bool) (round : ℕ) (rounds : List (List Command)) → list_all P (in_file_order rounds) ≡ true
+    → list_all (λ (c : Placed). P c.command) (placed_from round rounds) ≡ true
 placed P round [] all = refl
 placed P round (commands ∷ rounds) all =
     let Q : Placed → Bool = λ (c : Placed). P c.command in
@@ -31,13 +32,15 @@ has_its_list c is =
     let own : c.network ≡ network_name = (bytes_eq-Decides c.network network_name).0 is in
     subst (λ (n : List ℕ). not (is_of_network c.verb && not (has_list (generated_list ∷ []) n)) ≡ true) (sym own) (known (is_of_network c.verb))
 
-have_their_list : (cs : List Command) → list_all (λ (c : Command). bytes_eq c.network network_name) cs ≡ true → list_all (λ (c : Command). not (lacks_list (generated_list ∷ []) c)) cs ≡ true
+have_their_list : (cs : List Command) → list_all (λ (c : Command). bytes_eq c.network network_name) cs ≡ true
+    → list_all (λ (c : Command). not (lacks_list (generated_list ∷ []) c)) cs ≡ true
 have_their_list [] all = refl
 have_their_list (c ∷ cs) all =
     let parts = and_parts _ _ all in
     and_from _ _ (has_its_list c parts.0) (have_their_list cs parts.1)
 
-pub generated_is_well_formed : IsWellFormedList generated_list → ((n : ℕ) → n ≤ most_containers → IsWellFormedPods (generated n).pods)
+pub generated_is_well_formed : IsWellFormedList generated_list
+    → ((n : ℕ) → n ≤ most_containers → IsWellFormedPods (generated n).pods)
     → ((n : ℕ) → list_all (λ (c : Command). bytes_eq c.network network_name) (in_file_order (generated n).pods.rounds) ≡ true)
     → (stop_at : Option ℕ) (count : ℕ) → count ≤ most_containers → IsWellFormed (generated_plan stop_at count)
 unfolding generated_plan commands_of
@@ -51,7 +54,8 @@ generated_is_well_formed list pods networks stop_at count few =
     }
 
 -- a plan that has the generator's list alone, and its pods
-pub is_generated : (made : Generated) (lists : List NetList) (stop_at : Option ℕ) (count : ℕ) → made ≡ generated count → lists ≡ made.list ∷ []
+pub is_generated : (made : Generated) (lists : List NetList) (stop_at : Option ℕ) (count : ℕ) → made ≡ generated count
+    → lists ≡ made.list ∷ []
     → record { lists = lists; pods = made.pods; stop_at = stop_at } ≡ generated_plan stop_at count
 unfolding generated_plan
 is_generated made lists stop_at count is alone =

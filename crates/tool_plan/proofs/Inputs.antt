@@ -31,22 +31,26 @@ abbrev behind_pods : StoredFiles → Named → Pods → Judged Input
 behind_pods files named pods = stored_lists files named.lists >>= behind_lists files named pods
 
 -- what the files come to, where the pod file is taken
-by_pods : (files : StoredFiles) (named : Named) (pods : Judged Pods) → stored_pods files named.pods ≡ pods → input_of_files files named ≡ pods >>= behind_pods files named
+by_pods : (files : StoredFiles) (named : Named) (pods : Judged Pods) → stored_pods files named.pods ≡ pods
+    → input_of_files files named ≡ pods >>= behind_pods files named
 unfolding input_of_files
 by_pods files named pods is = ap (λ (t : Judged Pods). t >>= behind_pods files named) is
 
 -- where the lists are taken too
-by_lists : (files : StoredFiles) (named : Named) (pods : Pods) (raws : Judged (List RawView)) → stored_pods files named.pods ≡ Ok pods → stored_lists files named.lists ≡ raws
+by_lists : (files : StoredFiles) (named : Named) (pods : Pods) (raws : Judged (List RawView))
+    → stored_pods files named.pods ≡ Ok pods → stored_lists files named.lists ≡ raws
     → input_of_files files named ≡ raws >>= behind_lists files named pods
 by_lists files named pods raws is lists = by_pods files named (Ok pods) is ∙ ap (λ (t : Judged (List RawView)). t >>= behind_lists files named pods) lists
 
 -- and the packet file
-by_packets : (files : StoredFiles) (named : Named) (pods : Pods) (raws : List RawView) (packets : Judged (List Packet)) → stored_pods files named.pods ≡ Ok pods → stored_lists files named.lists ≡ Ok raws
+by_packets : (files : StoredFiles) (named : Named) (pods : Pods) (raws : List RawView) (packets : Judged (List Packet))
+    → stored_pods files named.pods ≡ Ok pods → stored_lists files named.lists ≡ Ok raws
     → stored_packets files named.packets ≡ packets → input_of_files files named ≡ packets >>= behind_packets named pods raws
 by_packets files named pods raws packets is lists probe =
     by_lists files named pods (Ok raws) is lists ∙ ap (λ (t : Judged (List Packet)). t >>= behind_packets named pods raws) probe
 
-by_plan : (files : StoredFiles) (named : Named) (pods : Pods) (raws : List RawView) (packets : List Packet) (plan : Judged Plan) → stored_pods files named.pods ≡ Ok pods → stored_lists files named.lists ≡ Ok raws
+by_plan : (files : StoredFiles) (named : Named) (pods : Pods) (raws : List RawView) (packets : List Packet) (plan : Judged Plan)
+    → stored_pods files named.pods ≡ Ok pods → stored_lists files named.lists ≡ Ok raws
     → stored_packets files named.packets ≡ Ok packets → judged_plan named pods (lists_of raws) ≡ plan
     → input_of_files files named ≡ plan >>= (λ (p : Plan). Ok (input_from named raws packets p))
 by_plan files named pods raws packets plan is lists probe joins =
@@ -57,11 +61,13 @@ is_ok r x is = subst (λ s. IsOk s) (sym is) refl
 
 -- ---- what was taken, by the names of the files
 
-pub taken_pods : (files : Option StoredFiles) (named : Named) (file : List ℕ) (pods : Pods) → file ≡ named.pods → WhereTold files (λ stored. stored_pods stored file ≡ Ok pods)
+pub taken_pods : (files : Option StoredFiles) (named : Named) (file : List ℕ) (pods : Pods) → file ≡ named.pods
+    → WhereTold files (λ stored. stored_pods stored file ≡ Ok pods)
     → WhereTold files (λ stored. stored_pods stored named.pods ≡ Ok pods)
 taken_pods files named file pods is read = λ stored told. ap (stored_pods stored) (sym is) ∙ read stored told
 
-pub taken_lists : (files later : Option StoredFiles) (named : Named) (names : List (List ℕ)) (raws : List RawView) → names ≡ named.lists → later ≡ files
+pub taken_lists : (files later : Option StoredFiles) (named : Named) (names : List (List ℕ)) (raws : List RawView)
+    → names ≡ named.lists → later ≡ files
     → WhereTold later (λ stored. stored_lists stored names ≡ Ok raws) → WhereTold files (λ stored. stored_lists stored named.lists ≡ Ok raws)
 taken_lists files later named names raws is same read = λ stored told. ap (stored_lists stored) (sym is) ∙ read stored (same ∙ told)
 
@@ -75,14 +81,16 @@ abbrev GivesInputOf : Option StoredFiles → ℕ → ℕ → Named → NoPlan �
 GivesInputOf files start now named none =
     GivesStored {X = Input} (λ input. input) files start now (ReachesFile files (Files named)) (λ stored. input_of_files stored named) (Err none)
 
-pub pods-stop : (files : Option StoredFiles) (start now : ℕ) (named : Named) (file : List ℕ) (none : NoPlan) → file ≡ named.pods
+pub pods-stop : (files : Option StoredFiles) (start now : ℕ) (named : Named) (file : List ℕ) (none : NoPlan)
+    → file ≡ named.pods
     → GivesStored {X = Pods} (λ pods. pods) files start now (λ name. name ≡ file) (λ stored. stored_pods stored file) (Err none) → GivesInputOf files start now named none
 pods-stop files start now named file none is gives =
     stops {X = Pods} {Y = Input} (λ pods. pods) (λ input. input) files files start start now (λ name. name ≡ file) (ReachesFile files (Files named)) (λ stored. stored_pods stored file)
     (λ stored. input_of_files stored named) none refl (omega arith) (λ name at. inl (at ∙ is))
     (λ stored told line e. by_pods stored named (Err line) (ap (stored_pods stored) (sym is) ∙ e)) gives
 
-pub lists-stop : (files later : Option StoredFiles) (start before now : ℕ) (named : Named) (names : List (List ℕ)) (pods : Pods) (none : NoPlan) → names ≡ named.lists → later ≡ files → start ≤ before
+pub lists-stop : (files later : Option StoredFiles) (start before now : ℕ) (named : Named) (names : List (List ℕ)) (pods : Pods) (none : NoPlan)
+    → names ≡ named.lists → later ≡ files → start ≤ before
     → WhereTold files (λ stored. stored_pods stored named.pods ≡ Ok pods)
     → GivesStored {X = List RawView} (λ raws. raws) later before now (ReachesList later names) (λ stored. stored_lists stored names) (Err none) → GivesInputOf files start now named none
 lists-stop files later start before now named names pods none is same up taken gives =
@@ -94,7 +102,8 @@ lists-stop files later start before now named names pods none is same up taken g
     ))
     (λ stored told line e. by_lists stored named pods (Err line) (taken stored told) (ap (stored_lists stored) (sym is) ∙ e)) gives
 
-pub packets-stop : (files later : Option StoredFiles) (start before now : ℕ) (named : Named) (pods : Pods) (raws : List RawView) (none : NoPlan) → later ≡ files → start ≤ before
+pub packets-stop : (files later : Option StoredFiles) (start before now : ℕ) (named : Named) (pods : Pods) (raws : List RawView) (none : NoPlan)
+    → later ≡ files → start ≤ before
     → WhereTold files (λ stored. stored_pods stored named.pods ≡ Ok pods) → WhereTold files (λ stored. stored_lists stored named.lists ≡ Ok raws)
     → GivesStored {X = List Packet} (λ packets. packets) later before now (λ name. named.packets ≡ Some name) (λ stored. stored_packets stored named.packets) (Err none) → GivesInputOf files start now named none
 packets-stop files later start before now named pods raws none same up taken lists gives =
@@ -125,16 +134,19 @@ input-made files named pods raws packets plan requests is taken lists probe join
     by_plan stored named pods raws packets (Ok plan) (taken stored told) (lists stored told) (probe stored told) joins
     ∙ ap (λ (o : Option (List RawView)). Ok (record { plan = plan; requests = o; packets = packets })) (sym is)
 
-mapped : (asked : Bool) (raws : List RawView) → option_map lists_of (then_some asked raws) ≡ then_some asked (lists_of raws)
+mapped : (asked : Bool) (raws : List RawView)
+    → option_map lists_of (then_some asked raws) ≡ then_some asked (lists_of raws)
 mapped true raws = refl
 mapped false raws = refl
 
 -- the lists with their plugins' objects that are kept are the plan's
-pub requests-are : (named : Named) (raws : List RawView) (plan : Plan) (requests : Option (List RawView)) → requests ≡ then_some named.requests raws → plan.lists ≡ lists_of raws
+pub requests-are : (named : Named) (raws : List RawView) (plan : Plan) (requests : Option (List RawView))
+    → requests ≡ then_some named.requests raws → plan.lists ≡ lists_of raws
     → AreRequestsOf (Files named) plan requests
 requests-are named raws plan requests is lists = ap (option_map lists_of) is ∙ mapped named.requests raws ∙ ap (then_some named.requests) (sym lists)
 
 -- one list more
-pub lists-one_more : (raws : List RawView) (i : ℕ) (raw : RawView) → i < length raws → raw ≡ slice_index_or raws i raw → lists_of (take (i + 1) raws) ≡ lists_of (take i raws) ++ raw.list ∷ []
+pub lists-one_more : (raws : List RawView) (i : ℕ) (raw : RawView) → i < length raws → raw ≡ slice_index_or raws i raw
+    → lists_of (take (i + 1) raws) ≡ lists_of (take i raws) ++ raw.list ∷ []
 lists-one_more raws i raw lt at =
     ap lists_of (take_more raws i raw lt ∙ ap (λ (r : RawView). take i raws ++ r ∷ []) (sym at)) ∙ map-append (λ (r : RawView). r.list) (take i raws) (raw ∷ [])

@@ -10,7 +10,8 @@ use Rattle.tool_plan.specs.Causes.{IsReadPods}
 abbrev pub PodsLaw : Type 0
 PodsLaw = (bytes : List ℕ) (pods : Pods) → pods_of bytes ≡ Ok pods → IsWellFormedPods pods
 
-pub read_plan_is_well_formed : PodsLaw → JoinedPlansAreWellFormed → (p q : Plan) → All IsWellFormedList p.lists → IsReadPods p.pods → joined p ≡ Ok q → IsWellFormed q
+pub read_plan_is_well_formed : PodsLaw → JoinedPlansAreWellFormed → (p q : Plan) → All IsWellFormedList p.lists
+    → IsReadPods p.pods → joined p ≡ Ok q → IsWellFormed q
 read_plan_is_well_formed pods_law joins p q lists pods is = joins p q is lists (pods_law pods.0 p.pods pods.1)
 
 unless-lists : (refusal : Option PlanError) (p q : Plan) → plan_unless refusal p ≡ Ok q → q.lists ≡ p.lists

@@ -24,7 +24,8 @@ abbrev by_first : StoredFiles → List (List ℕ) → Judged RawView → Judged 
 by_first files names first = first >>= (λ (raw : RawView). stored_lists files names >>= (λ (raws : List RawView). Ok (raw ∷ raws)))
 
 -- one list more
-lists-one_more : (files : StoredFiles) (front : List RawView) (name : List ℕ) (names : List (List ℕ)) (raw : RawView) → stored_list files name ≡ Ok raw
+lists-one_more : (files : StoredFiles) (front : List RawView) (name : List ℕ) (names : List (List ℕ)) (raw : RawView)
+    → stored_list files name ≡ Ok raw
     → behind front (stored_lists files (name ∷ names)) ≡ behind (front ++ raw ∷ []) (stored_lists files names)
 lists-one_more files front name names raw is = ap (λ (t : Judged RawView). behind front (by_first files names t)) is ∙ behind-cons front raw (stored_lists files names)
 
@@ -41,26 +42,31 @@ behind-none (Err line) = refl
 pub front-none : (files : Option StoredFiles) (names : List (List ℕ)) → Front files names [] 0
 front-none files names = λ stored told more. behind-none (stored_lists stored more)
 
-take-name : (names : List (List ℕ)) (i : ℕ) (name : List ℕ) (more : List (List ℕ)) → i < length names → name ≡ slice_index_or names i name
+take-name : (names : List (List ℕ)) (i : ℕ) (name : List ℕ) (more : List (List ℕ)) → i < length names
+    → name ≡ slice_index_or names i name
     → take (i + 1) names ++ more ≡ take i names ++ name ∷ more
 take-name names i name more lt at =
     ap (λ (ns : List (List ℕ)). ns ++ more) (take_more names i name lt ∙ ap (λ (n : List ℕ). take i names ++ n ∷ []) (sym at)) ∙ append_assoc (take i names) (name ∷ []) more
 
-pub front-next : (files : Option StoredFiles) (names : List (List ℕ)) (front : List RawView) (i : ℕ) (name : List ℕ) (raw : RawView) → i < length names → name ≡ slice_index_or names i name
+pub front-next : (files : Option StoredFiles) (names : List (List ℕ)) (front : List RawView) (i : ℕ) (name : List ℕ) (raw : RawView)
+    → i < length names → name ≡ slice_index_or names i name
     → Front files names front i → WhereTold files (λ stored. stored_list stored name ≡ Ok raw) → Front files names (front ++ raw ∷ []) (i + 1)
 front-next files names front i name raw lt at before read = λ stored told more.
     ap (stored_lists stored) (take-name names i name more lt at) ∙ before stored told (name ∷ more) ∙ lists-one_more stored front name more raw (read stored told)
 
-pub front-whole : (files : Option StoredFiles) (names : List (List ℕ)) (front : List RawView) (i : ℕ) → length names ≤ i → Front files names front i → WhereTold files (λ stored. stored_lists stored names ≡ Ok front)
+pub front-whole : (files : Option StoredFiles) (names : List (List ℕ)) (front : List RawView) (i : ℕ) → length names ≤ i
+    → Front files names front i → WhereTold files (λ stored. stored_lists stored names ≡ Ok front)
 front-whole files names front i all before = λ stored told.
     ap (stored_lists stored) (sym (append-nil names) ∙ ap (λ (ns : List (List ℕ)). ns ++ []) (sym (take_all i names all)))
     ∙ before stored told [] ∙ ap (λ (raws : List RawView). Ok raws) (append-nil front)
 
-split : (names : List (List ℕ)) (i : ℕ) (name : List ℕ) → i < length names → name ≡ slice_index_or names i name → names ≡ take i names ++ name ∷ drop (i + 1) names
+split : (names : List (List ℕ)) (i : ℕ) (name : List ℕ) → i < length names → name ≡ slice_index_or names i name
+    → names ≡ take i names ++ name ∷ drop (i + 1) names
 split names i name lt at =
     sym (take-append-drop i names) ∙ ap (λ (ns : List (List ℕ)). take i names ++ ns) (drop_more names i name lt ∙ ap (λ (n : List ℕ). n ∷ drop (i + 1) names) (sym at))
 
-reached : (files : Option StoredFiles) (names : List (List ℕ)) (front : List RawView) (i : ℕ) (name : List ℕ) → i < length names → name ≡ slice_index_or names i name
+reached : (files : Option StoredFiles) (names : List (List ℕ)) (front : List RawView) (i : ℕ) (name : List ℕ)
+    → i < length names → name ≡ slice_index_or names i name
     → Front files names front i → ReachesList files names name
 reached files names front i name lt at before = record {
   before = take i names;
@@ -71,7 +77,8 @@ reached files names front i name lt at before = record {
 }
 
 -- a list that isn't taken stops the others
-pub lists-stop : (files later : Option StoredFiles) (start before now : ℕ) (names : List (List ℕ)) (front : List RawView) (i : ℕ) (name : List ℕ) (none : NoPlan) → later ≡ files → start ≤ before
+pub lists-stop : (files later : Option StoredFiles) (start before now : ℕ) (names : List (List ℕ)) (front : List RawView) (i : ℕ) (name : List ℕ) (none : NoPlan)
+    → later ≡ files → start ≤ before
     → i < length names → name ≡ slice_index_or names i name → Front files names front i
     → GivesStored {X = RawView} (λ raw. raw) later before now (λ file. file ≡ name) (λ stored. stored_list stored name) (Err none)
     → GivesStored {X = List RawView} (λ raws. raws) files start now (ReachesList files names) (λ stored. stored_lists stored names) (Err none)

@@ -15,7 +15,8 @@ pub stored_unread : {X Y : Type 0} (view : X → Y) (files : Option StoredFiles)
     → line.items ≡ unread_line file → Rose before now → GivesStored view files before now (λ name. name ≡ file) wanted (Err (Unread line))
 stored_unread view files before now file wanted line has rose = record { file = file; reached = refl; rose = rose; says = has }
 
-pub judged_line : {X : Type 0} (line : Vec ℕ Global) (text : List ℕ) (wanted : Judged X) → line.items ≡ text → wanted ≡ Err text → GivesJudged {X = X} (Err (Line line)) wanted
+pub judged_line : {X : Type 0} (line : Vec ℕ Global) (text : List ℕ) (wanted : Judged X) → line.items ≡ text
+    → wanted ≡ Err text → GivesJudged {X = X} (Err (Line line)) wanted
 judged_line line text wanted has is = is ∙ ap (λ t. Err t) (sym has)
 
 pub ruleset stopping = (stored_line, stored_unread, judged_line)

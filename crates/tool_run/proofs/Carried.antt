@@ -8,7 +8,8 @@ use Rattle.tool_plan.specs.{Dues.IsDueOf, Seen.FilesSeen, Verdict.{IsAskedBy, ca
 use Rattle.tool_run.specs.{Reports.{CarriesOut, Settles}, Runs.AskForOneThread, declared.carry.CarriedOut.CarriedOut}
 
 -- what was due is what is to be reported
-pub settles_made : {K : Type 0} (words : List (List ℕ)) (files : FilesSeen) (due : Due) (made : CarriedOut K) → IsDueOf words files due → CarriesOut due made → Settles words files (Ok made)
+pub settles_made : {K : Type 0} (words : List (List ℕ)) (files : FilesSeen) (due : Due) (made : CarriedOut K)
+    → IsDueOf words files due → CarriesOut due made → Settles words files (Ok made)
 settles_made words files due made is carries = (
   due.asked,
   record {
@@ -22,12 +23,14 @@ settles_made words files due made is carries = (
   carries.text,
 )
 
-pub one_thread : (words : List (List ℕ)) (files : FilesSeen) (due : Due) → IsDueOf words files due → AskForOneThread words → due.threads ≡ 1
+pub one_thread : (words : List (List ℕ)) (files : FilesSeen) (due : Due) → IsDueOf words files due
+    → AskForOneThread words → due.threads ≡ 1
 one_thread words files due is asked = is.threads_are ∙ ap (λ (w : Words). w.threads) (same_Some is.by asked.0 (sym is.words_are ∙ asked.1)) ∙ asked.2
 
 -- ---- the text of a book
 
-pub carries_out : {K E : Type 0} (due : Due) (book : World) (r : Result (CarriedOut K) E) → book.plan ≡ due.plan → length book.plan.pods.rounds ≤ book.round → Legal book
+pub carries_out : {K E : Type 0} (due : Due) (book : World) (r : Result (CarriedOut K) E) → book.plan ≡ due.plan
+    → length book.plan.pods.rounds ≤ book.round → Legal book
     → IfOk r (λ (made : CarriedOut K). made.book ≡ book) → IfOk r (λ (made : CarriedOut K). made.text.items ≡ text_of book due.asked) → IfOk r (CarriesOut due)
 carries_out due book (Ok made) plan over legal is text = record {
   plan = ap (λ (b : World). b.plan) is ∙ plan;
@@ -37,6 +40,8 @@ carries_out due book (Ok made) plan over legal is text = record {
 }
 carries_out due book (Err none) plan over legal is text = tt
 
-pub in_order : {K E : Type 0} (book : World) (r : Result (CarriedOut K) E) → IfOk r (λ (made : CarriedOut K). made.book ≡ book) → IsInFileOrder book → IfOk r (λ (made : CarriedOut K). IsInFileOrder made.book)
+pub in_order : {K E : Type 0} (book : World) (r : Result (CarriedOut K) E)
+    → IfOk r (λ (made : CarriedOut K). made.book ≡ book) → IsInFileOrder book
+    → IfOk r (λ (made : CarriedOut K). IsInFileOrder made.book)
 in_order book (Ok made) is order = subst IsInFileOrder (sym is) order
 in_order book (Err none) is order = tt

@@ -33,14 +33,17 @@ written words files sink status meant book bytes report how = elim how [
   | inr g ↦ cut_short bytes meant (report meant refl) g.0 g.1 g.2
 ]
 
-pub ends : {K : Type 0} (words : List (List ℕ)) (files : FilesSeen) (sink : SinkSeen) (settled : Result (CarriedOut K) NoPlan) (o : Ended K) → Settles words files settled → Reported sink settled o → Ends words files sink o.status o.book
+pub ends : {K : Type 0} (words : List (List ℕ)) (files : FilesSeen) (sink : SinkSeen) (settled : Result (CarriedOut K) NoPlan) (o : Ended K)
+    → Settles words files settled → Reported sink settled o → Ends words files sink o.status o.book
 ends words files sink (Ok made) o settles rep = written words files sink o.status (status_of made.book.answers) o.book made.text.items (λ s is. of_book made.book settles.0 is rep.0 settles.1 settles.2) rep.1
 ends words files sink (Err no_plan.Usage) o settles rep = written words files sink o.status 2 o.book usage_line (λ s is. of_usage is rep.0 (record { not_taken = settles; says = refl })) rep.1
 ends words files sink (Err (no_plan.Line text)) o settles rep = written words files sink o.status 3 o.book text.items (λ s is. of_refusal is rep.0 settles) rep.1
 ends words files sink (Err (no_plan.Unread text)) o settles rep = written words files sink o.status 4 o.book text.items (λ s is. of_failed_read is rep.0 settles) rep.1
 ends words files sink (Err no_plan.NoMemory) o settles rep = out_of_memory rep.1.0 rep.0 rep.1.1
 
-pub ordered : {K : Type 0} (sink : SinkSeen) (settled : Result (CarriedOut K) NoPlan) (o : Ended K) → Reported sink settled o → IfOk settled (λ (made : CarriedOut K). IsInFileOrder made.book) → IfSome o.book IsInFileOrder
+pub ordered : {K : Type 0} (sink : SinkSeen) (settled : Result (CarriedOut K) NoPlan) (o : Ended K)
+    → Reported sink settled o → IfOk settled (λ (made : CarriedOut K). IsInFileOrder made.book)
+    → IfSome o.book IsInFileOrder
 ordered sink (Ok made) o rep kept = subst (λ (b : Option World). IfSome b IsInFileOrder) (sym rep.0) kept
 ordered sink (Err none) o rep kept = subst (λ (b : Option World). IfSome b IsInFileOrder) (sym rep.0) tt
 
@@ -50,33 +53,39 @@ ordered sink (Err none) o rep kept = subst (λ (b : Option World). IfSome b IsIn
 abbrev IsMade : List (List ℕ) → FilesSeen → World → Type 0
 IsMade words files book = (asked : Asked) × IsCarriedOut words files book asked
 
-if_book : (words : List (List ℕ)) (files : FilesSeen) (status : ℕ) (book : Option World) (bytes : List ℕ) → IsReport words files status book bytes → IfSome book (IsMade words files)
+if_book : (words : List (List ℕ)) (files : FilesSeen) (status : ℕ) (book : Option World) (bytes : List ℕ)
+    → IsReport words files status book bytes → IfSome book (IsMade words files)
 if_book words files status book bytes (of_usage st none given) = subst (λ (b : Option World). IfSome b (IsMade words files)) (sym none) tt
 if_book words files status book bytes (of_refusal st none refusal) = subst (λ (b : Option World). IfSome b (IsMade words files)) (sym none) tt
 if_book words files status book bytes (of_failed_read st none unread) = subst (λ (b : Option World). IfSome b (IsMade words files)) (sym none) tt
 if_book words files status book bytes (of_book b asked st some carried text) = subst (λ (x : Option World). IfSome x (IsMade words files)) (sym some) (asked, carried)
 
-if_made : (words : List (List ℕ)) (files : FilesSeen) (sink : SinkSeen) (status : ℕ) (book : Option World) → Ends words files sink status book → IfSome book (IsMade words files)
+if_made : (words : List (List ℕ)) (files : FilesSeen) (sink : SinkSeen) (status : ℕ) (book : Option World)
+    → Ends words files sink status book → IfSome book (IsMade words files)
 if_made words files sink status book (reported bytes report wrote) = if_book words files status book bytes report
 if_made words files sink status book (cut_short bytes meant report st fault front) = if_book words files meant book bytes report
 if_made words files sink status book (out_of_memory st none nothing) = subst (λ (b : Option World). IfSome b (IsMade words files)) (sym none) tt
 
-guaranteed : (words : List (List ℕ)) (files : FilesSeen) (sink : SinkSeen) (status : ℕ) (book : Option World) → EveryLegalHistoryIsGuaranteed → Ends words files sink status book → IfSome book IsGuaranteed
+guaranteed : (words : List (List ℕ)) (files : FilesSeen) (sink : SinkSeen) (status : ℕ) (book : Option World)
+    → EveryLegalHistoryIsGuaranteed → Ends words files sink status book → IfSome book IsGuaranteed
 guaranteed words files sink status None law how = tt
 guaranteed words files sink status (Some b) law how = law b (if_made words files sink status (Some b) how).1.legal
 
-packets_go : (words : List (List ℕ)) (files : FilesSeen) (sink : SinkSeen) (status : ℕ) (book : Option World) → EveryPacketGoesAsCached → Ends words files sink status book → IfSome book PacketsGoAsCached
+packets_go : (words : List (List ℕ)) (files : FilesSeen) (sink : SinkSeen) (status : ℕ) (book : Option World)
+    → EveryPacketGoesAsCached → Ends words files sink status book → IfSome book PacketsGoAsCached
 packets_go words files sink status None law how = tt
 packets_go words files sink status (Some b) law how = law b (if_made words files sink status (Some b) how).1.legal
 
 -- ---- a read that failed
 
 -- where no file is named, reading gets to none
-reaches_none : (files : Option StoredFiles) (source : Source) (file : List ℕ) → files_named source ≡ [] → ReachesFile files source file → ⊥
+reaches_none : (files : Option StoredFiles) (source : Source) (file : List ℕ) → files_named source ≡ []
+    → ReachesFile files source file → ⊥
 reaches_none files (Files named) file none at = cc
 reaches_none files (Generated count stop_at) file none at = at
 
-pub has_not_read : (words : List (List ℕ)) (files : FilesSeen) (bytes : List ℕ) → IsUnreadOf words files bytes → HasReadAll words files → ⊥
+pub has_not_read : (words : List (List ℕ)) (files : FilesSeen) (bytes : List ℕ) → IsUnreadOf words files bytes
+    → HasReadAll words files → ⊥
 has_not_read words files bytes un (inl none) =
     let named = ap (λ (w : Words). files_named w.source) (same_Some un.by none.0 (sym un.words_are ∙ none.1)) ∙ none.2 in
     reaches_none files.stored un.by.source un.unread.file named un.unread.reached
@@ -84,22 +93,26 @@ has_not_read words files bytes un (inr calm) = calm un.unread.rose
 
 -- ---- one outcome
 
-any-at : {X : Type 0} (p : X → Bool) (xs : List X) (i : ℕ) (x : X) → slice_get xs i ≡ Some x → p x ≡ true → list_any p xs ≡ true
+any-at : {X : Type 0} (p : X → Bool) (xs : List X) (i : ℕ) (x : X) → slice_get xs i ≡ Some x → p x ≡ true
+    → list_any p xs ≡ true
 any-at p [] i x at h = absurd (none-some x at)
 any-at p (y ∷ ys) zero x at h = let here : p y ≡ true = ap p (same_Some y x at) ∙ h in grind (arith, here)
 any-at p (y ∷ ys) (suc i) x at h = let later : list_any p ys ≡ true = any-at p ys i x at h in grind (arith, later)
 
-had_memory : (answers : List (Option Answer)) → status_of answers ≢ 8 → (n : ℕ) → slice_get answers n ≢ Some (Some OutOfMemory)
+had_memory : (answers : List (Option Answer)) → status_of answers ≢ 8 → (n : ℕ)
+    → slice_get answers n ≢ Some (Some OutOfMemory)
 had_memory answers not_eight n at =
     not_eight (ap (λ (b : Bool). cond b 8 (cond (list_any is_failure answers) 1 0)) (any-at is_out_of_memory answers n (Some OutOfMemory) at refl))
 
 -- what is printed is of the plan, the history and the answers, and not of the round
-part-any_round : (w : World) (round : ℕ) (part : CommandPart) → command_part part (record w { round = round }) ≡ command_part part w
+part-any_round : (w : World) (round : ℕ) (part : CommandPart)
+    → command_part part (record w { round = round }) ≡ command_part part w
 unfolding summary_data
 part-any_round w round Lines = refl
 part-any_round w round Summary = refl
 
-requests-any_round : (w : World) (round : ℕ) (raws : Option (List RawView)) → requests_asked raws (record w { round = round }) ≡ requests_asked raws w
+requests-any_round : (w : World) (round : ℕ) (raws : Option (List RawView))
+    → requests_asked raws (record w { round = round }) ≡ requests_asked raws w
 requests-any_round w round None = refl
 requests-any_round w round (Some raws) = refl
 
@@ -109,7 +122,8 @@ text-any_round w round asked =
     ap₂ (λ (part requests : List ℕ). part ++ requests ++ where_asked asked.trace (trace_lines w) ++ where_asked asked.dump (dump_of (host_of w)) ++ fates_from 0 (host_of w).rules asked.packets)
     (part-any_round w round asked.commands) (requests-any_round w round asked.requests)
 
-text-same : (v w : World) (asked : Asked) → v.plan ≡ w.plan → v.history ≡ w.history → v.answers ≡ w.answers → text_of v asked ≡ text_of w asked
+text-same : (v w : World) (asked : Asked) → v.plan ≡ w.plan → v.history ≡ w.history → v.answers ≡ w.answers
+    → text_of v asked ≡ text_of w asked
 text-same v w asked plan history answers =
     let T : Plan → List Entry → List (Option Answer) → List ℕ = λ p h a. text_of (record { plan = p; history = h; answers = a; round = v.round }) asked in
     ap (λ (p : Plan). T p v.history v.answers) plan ∙ ap (λ (h : List Entry). T w.plan h v.answers) history ∙ ap (λ (a : List (Option Answer)). T w.plan w.history a) answers ∙ text-any_round w v.round asked
@@ -130,7 +144,9 @@ one_asked : (p q : Plan) (a b : Asked) (v : Verdict) → v ≡ carry p a → v �
 unfolding asked_or
 one_asked p q a b v is also = ap (asked_or a) (sym is ∙ also)
 
-of-world : OneOutcome → (words : List (List ℕ)) (files : FilesSeen) (sink : SinkSeen) (status : ℕ) (stored : StoredFiles) → AreFiles words files stored → IsUndisturbed words files sink status
+of-world : OneOutcome
+    → (words : List (List ℕ)) (files : FilesSeen) (sink : SinkSeen) (status : ℕ) (stored : StoredFiles)
+    → AreFiles words files stored → IsUndisturbed words files sink status
     → (b w : World) (asks asked : Asked) (bytes : List ℕ) → status ≡ status_of b.answers → IsCarriedOut words files b asks → IsInFileOrder b → bytes ≡ text_of b asks → Wrote sink bytes
     → IsCarriedOut words files w asked → IsDoneInFileOrder w → ReportsWorld sink status w asked
 of-world law words files sink status stored told calm b w asks asked bytes st carried order text wrote comes done =
@@ -150,7 +166,9 @@ of-world law words files sink status stored told calm b w asks asked bytes st ca
       text = subst (Wrote sink) (text ∙ ap (text_of b) also ∙ text-same b w asked plan same.0 same.1) wrote;
     }
 
-of-report : OneOutcome → (words : List (List ℕ)) (files : FilesSeen) (sink : SinkSeen) (status : ℕ) (book : Option World) (bytes : List ℕ) (stored : StoredFiles) → AreFiles words files stored → IsUndisturbed words files sink status
+of-report : OneOutcome
+    → (words : List (List ℕ)) (files : FilesSeen) (sink : SinkSeen) (status : ℕ) (book : Option World) (bytes : List ℕ) (stored : StoredFiles)
+    → AreFiles words files stored → IsUndisturbed words files sink status
     → IfSome book IsInFileOrder → IsReport words files status book bytes → Wrote sink bytes → (w : World) (asked : Asked) → IsCarriedOut words files w asked → IsDoneInFileOrder w → ReportsWorld sink status w asked
 of-report law words files sink status book bytes stored told calm order (of_usage st none given) wrote w asked comes done = absurd (none-some comes.by (sym given.not_taken ∙ comes.words_are))
 of-report law words files sink status book bytes stored told calm order (of_refusal st none refusal) wrote w asked comes done = let is = sym (refusal.comes stored told) ∙ comes.comes stored told in cc
@@ -158,14 +176,16 @@ of-report law words files sink status book bytes stored told calm order (of_fail
 of-report law words files sink status book bytes stored told calm order (of_book b asks st some carried text) wrote w asked comes done =
     of-world law words files sink status stored told calm b w asks asked bytes st carried (subst (λ (x : Option World). IfSome x IsInFileOrder) some order) text wrote comes done
 
-determined : (words : List (List ℕ)) (files : FilesSeen) (sink : SinkSeen) (status : ℕ) (book : Option World) → OneOutcome → IfSome book IsInFileOrder → Ends words files sink status book → IsDetermined words files sink status
+determined : (words : List (List ℕ)) (files : FilesSeen) (sink : SinkSeen) (status : ℕ) (book : Option World)
+    → OneOutcome → IfSome book IsInFileOrder → Ends words files sink status book → IsDetermined words files sink status
 determined words files sink status book law order (reported bytes report wrote) = λ stored told calm. of-report law words files sink status book bytes stored told calm order report wrote
 determined words files sink status book law order (cut_short bytes meant report st fault front) = λ stored told calm. absurd (calm.writes fault)
 determined words files sink status book law order (out_of_memory st none nothing) = λ stored told calm. absurd (calm.memory st)
 
 -- ---- the run
 
-pub is_run : (words : List (List ℕ)) (files : FilesSeen) (sink : SinkSeen) (OneThread : Type 0) (status : ℕ) (book : Option World) → EveryLegalHistoryIsGuaranteed → EveryPacketGoesAsCached → OneOutcome
+pub is_run : (words : List (List ℕ)) (files : FilesSeen) (sink : SinkSeen) (OneThread : Type 0) (status : ℕ) (book : Option World)
+    → EveryLegalHistoryIsGuaranteed → EveryPacketGoesAsCached → OneOutcome
     → (OneThread → IfSome book IsInFileOrder) → Ends words files sink status book → IsRunOf words files sink OneThread status book
 is_run words files sink OneThread status book law of_packets one order how = record {
   ends = how;

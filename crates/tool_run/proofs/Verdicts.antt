@@ -26,10 +26,13 @@ status_is answers = go (list_any is_out_of_memory answers) (list_any is_failure 
     go false false = inl refl
 
 -- words that aren't taken come to usage
-of_no_words : (words : List (List ℕ)) (bytes : List ℕ) (stored : StoredFiles) (P : Verdict → Type 0) → IsUsage words bytes → P (verdict_if None stored) → P (verdict_of words stored)
+of_no_words : (words : List (List ℕ)) (bytes : List ℕ) (stored : StoredFiles) (P : Verdict → Type 0)
+    → IsUsage words bytes → P (verdict_if None stored) → P (verdict_of words stored)
 of_no_words words bytes stored P given holds = subst P (sym (ap (λ (o : Option Words). verdict_if o stored) given.not_taken)) holds
 
-report_status : (words : List (List ℕ)) (files : FilesSeen) (status : ℕ) (book : Option World) (bytes : List ℕ) (stored : StoredFiles) → AreFiles words files stored → HasReadAll words files → IsReport words files status book bytes → IsStatusOf (verdict_of words stored) status
+report_status : (words : List (List ℕ)) (files : FilesSeen) (status : ℕ) (book : Option World) (bytes : List ℕ) (stored : StoredFiles)
+    → AreFiles words files stored → HasReadAll words files → IsReport words files status book bytes
+    → IsStatusOf (verdict_of words stored) status
 report_status words files status book bytes stored told reads (of_usage st none given) = of_no_words words bytes stored (λ (v : Verdict). IsStatusOf v status) given st
 report_status words files status book bytes stored told reads (of_refusal st none refusal) = subst (λ (v : Verdict). IsStatusOf v status) (sym (refusal.comes stored told)) st
 report_status words files status book bytes stored told reads (of_failed_read st none unread) = absurd (has_not_read words files bytes unread reads)
@@ -41,7 +44,9 @@ each_status_is_of_its_verdict words files sink status book (reported bytes repor
 each_status_is_of_its_verdict words files sink status book (cut_short bytes meant report st fault front) stored told reads writes = absurd (writes fault)
 each_status_is_of_its_verdict words files sink status book (out_of_memory st none nothing) stored told reads writes = inr st
 
-report_book : (words : List (List ℕ)) (files : FilesSeen) (status : ℕ) (book : Option World) (bytes : List ℕ) (stored : StoredFiles) → AreFiles words files stored → HasReadAll words files → IsReport words files status book bytes → IsBookOf (verdict_of words stored) book
+report_book : (words : List (List ℕ)) (files : FilesSeen) (status : ℕ) (book : Option World) (bytes : List ℕ) (stored : StoredFiles)
+    → AreFiles words files stored → HasReadAll words files → IsReport words files status book bytes
+    → IsBookOf (verdict_of words stored) book
 report_book words files status book bytes stored told reads (of_usage st none given) = of_no_words words bytes stored (λ (v : Verdict). IsBookOf v book) given none
 report_book words files status book bytes stored told reads (of_refusal st none refusal) = subst (λ (v : Verdict). IsBookOf v book) (sym (refusal.comes stored told)) none
 report_book words files status book bytes stored told reads (of_failed_read st none unread) = absurd (has_not_read words files bytes unread reads)
@@ -67,7 +72,8 @@ refused_words_are_reported words files sink status book (out_of_memory st none n
 -- ---- a book that is over
 
 -- a command's round is one of the plan's
-round_is_past : (p : Plan) (n : ℕ) (c : Placed) (round : ℕ) → slice_get (commands_of p) n ≡ Some c → length p.pods.rounds ≤ round → c.round < round
+round_is_past : (p : Plan) (n : ℕ) (c : Placed) (round : ℕ) → slice_get (commands_of p) n ≡ Some c
+    → length p.pods.rounds ≤ round → c.round < round
 unfolding commands_of
 round_is_past p n c round at over = let within = (round-of 0 p.pods.rounds n c at).1 in omega (arith, within, over)
 

@@ -77,55 +77,68 @@ pub leased-push : (es : List Entry) (e : Entry) → leased_in (es ++ e ∷ []) �
 leased-push es e = ap leases_in (map-append (λ (x : Entry). x.reply) es (e ∷ [])) ∙ leases-push (replies_in es) e.reply
 
 -- an entry that leased nothing
-pub leased-same : (es : List Entry) (e : Entry) (given : List Addr) → leases_in (e.reply ∷ []) ≡ [] → leased_in es ≡ given → leased_in (es ++ e ∷ []) ≡ given
+pub leased-same : (es : List Entry) (e : Entry) (given : List Addr) → leases_in (e.reply ∷ []) ≡ []
+    → leased_in es ≡ given → leased_in (es ++ e ∷ []) ≡ given
 leased-same es e given none was = leased-push es e ∙ ap (λ l. leased_in es ++ l) none ∙ append-nil (leased_in es) ∙ was
 
-pub leased-done : (es : List Entry) (e : Entry) (given : List Addr) → e.reply ≡ Done → leased_in es ≡ given → leased_in (es ++ e ∷ []) ≡ given
+pub leased-done : (es : List Entry) (e : Entry) (given : List Addr) → e.reply ≡ Done → leased_in es ≡ given
+    → leased_in (es ++ e ∷ []) ≡ given
 leased-done es e given done was = leased-same es e given (ap (λ r. leases_in (r ∷ [])) done) was
 
 -- ---- where work is left
 
-to-after_leases : (list : NetList) (c : Command) (es : List Entry) (made left : List Call) (given : List Addr) (s : Share) → back_of list c given ≡ made ++ left → AreCandidates (sets_of list) given
+to-after_leases : (list : NetList) (c : Command) (es : List Entry) (made left : List Call) (given : List Addr) (s : Share)
+    → back_of list c given ≡ made ++ left → AreCandidates (sets_of list) given
     → s ≡ share_after_calls (with_leases list c given) made → leased_in es ≡ given → Achieved list c es (after_leases left given) s
 to-after_leases list c es made [] given s back fits is was =
     let all : back_of list c given ≡ made = back ∙ append-nil made in
     (was, fits, is ∙ ap (share_after_calls (with_leases list c given)) (sym all) ∙ makes-wanted list (att_of c) c.netns (mappings_of list c) given)
 to-after_leases list c es made (x ∷ xs) given s back fits is was = (made, back, fits, is, was)
 
-to-leasing : (list : NetList) (c : Command) (es : List Entry) (past left : List RangeSet) (given : List Addr) (s : Share) → sets_of list ≡ past ++ left → AreCandidates past given → s ≡ with_leases list c given → leased_in es ≡ given
+to-leasing : (list : NetList) (c : Command) (es : List Entry) (past left : List RangeSet) (given : List Addr) (s : Share)
+    → sets_of list ≡ past ++ left → AreCandidates past given → s ≡ with_leases list c given → leased_in es ≡ given
     → Achieved list c es (leasing list c left given) s
 to-leasing list c es past [] given s all fits is was = to-after_leases list c es [] (back_of list c given) given s refl (subst (λ l. AreCandidates l given) (sym (all ∙ append-nil past)) fits) is was
 to-leasing list c es past (x ∷ xs) given s all fits is was = (past, all, fits, is, was)
 
-pub no_leases : (first : First) (att : Att) (netns : List ℕ) → share_after_calls no_objects (calls_before first att netns) ≡ record (share_after_calls no_objects (calls_before first att netns)) { leases = [] }
+pub no_leases : (first : First) (att : Att) (netns : List ℕ)
+    → share_after_calls no_objects (calls_before first att netns) ≡ record (share_after_calls no_objects (calls_before first att netns)) { leases = [] }
 no_leases first att netns = adds-links first att netns no_objects ∙ ap (λ (s : Share). record s { leases = [] }) (sym (adds-links first att netns no_objects))
 
-to-before_leases : (list : NetList) (c : Command) (es : List Entry) (made left : List Call) (s : Share) → before_of list c ≡ made ++ left → s ≡ share_after_calls no_objects made → leased_in es ≡ [] → Achieved list c es (before_leases list c left) s
+to-before_leases : (list : NetList) (c : Command) (es : List Entry) (made left : List Call) (s : Share)
+    → before_of list c ≡ made ++ left → s ≡ share_after_calls no_objects made → leased_in es ≡ []
+    → Achieved list c es (before_leases list c left) s
 to-before_leases list c es made [] s all is was =
     to-leasing list c es [] (sets_of list) [] s refl tt (is ∙ ap (share_after_calls no_objects) (sym (all ∙ append-nil made)) ∙ no_leases list.first (att_of c) c.netns) was
 to-before_leases list c es made (x ∷ xs) s all is was = (made, all, is, was)
 
-pub achieved-end : (list : NetList) (c : Command) (es : List Entry) (ending : Ending) (given : List Addr) (s : Share) → IsNoResult ending → IsAddedWith list c es ending given s
+pub achieved-end : (list : NetList) (c : Command) (es : List Entry) (ending : Ending) (given : List Addr) (s : Share)
+    → IsNoResult ending → IsAddedWith list c es ending given s
 achieved-end list c es Added given s h = absurd h
 achieved-end list c es Yes given s h = tt
 achieved-end list c es (Skipped skip) given s h = tt
 achieved-end list c es Versions given s h = tt
 achieved-end list c es (Refused cause) given s h = tt
 
-not_added-faulted : (list : NetList) (c : Command) (es : List Entry) (number : ℕ) (e : Ending) (s : Share) → IsAddedWith list c es (faulted number e) [] s
+not_added-faulted : (list : NetList) (c : Command) (es : List Entry) (number : ℕ) (e : Ending) (s : Share)
+    → IsAddedWith list c es (faulted number e) [] s
 not_added-faulted list c es number e s = achieved-end list c es (faulted number e) [] s (faulted-no_result number e)
 
-to-deleting : (list : NetList) (c : Command) (es : List Entry) (ks : List Kind) (e : Ending) (s : Share) → IsNoResult e → Achieved list c es (deleting ks e) s
+to-deleting : (list : NetList) (c : Command) (es : List Entry) (ks : List Kind) (e : Ending) (s : Share) → IsNoResult e
+    → Achieved list c es (deleting ks e) s
 to-deleting list c es [] e s h = achieved-end list c es e [] s h
 to-deleting list c es (k ∷ ks) e s h = h
 
 -- ---- one entry, by its reply and by what it made of the share where it was done
 
-moves-at_begin : (list : NetList) (c : Command) (es : List Entry) (e : Entry) (number : ℕ) (r : Reply) (s : Share) → e.reply ≡ r → leased_in es ≡ [] → (r ≡ Done → s ≡ no_objects) → Achieved list c (es ++ e ∷ []) (at_begin list c number r) s
+moves-at_begin : (list : NetList) (c : Command) (es : List Entry) (e : Entry) (number : ℕ) (r : Reply) (s : Share)
+    → e.reply ≡ r → leased_in es ≡ [] → (r ≡ Done → s ≡ no_objects)
+    → Achieved list c (es ++ e ∷ []) (at_begin list c number r) s
 moves-at_begin list c es e number Done s is was h = to-before_leases list c (es ++ e ∷ []) [] (before_of list c) s refl (h refl) (leased-done es e [] is was)
 moves-at_begin list c es e number _ s is was h = tt
 
-moves-before : (list : NetList) (c : Command) (es : List Entry) (e : Entry) (number : ℕ) (x : Call) (xs : List Call) (r : Reply) (s t : Share) → e.reply ≡ r → Achieved list c es (BeforeLeases x xs) s → (r ≡ Done → t ≡ share_after_call s x)
+moves-before : (list : NetList) (c : Command) (es : List Entry) (e : Entry) (number : ℕ) (x : Call) (xs : List Call) (r : Reply) (s t : Share)
+    → e.reply ≡ r → Achieved list c es (BeforeLeases x xs) s → (r ≡ Done → t ≡ share_after_call s x)
     → Achieved list c (es ++ e ∷ []) (at_call_before list c number xs r) t
 moves-before list c es e number x xs Done s t is was h =
     let made = was.0 in
@@ -133,7 +146,8 @@ moves-before list c es e number x xs Done s t is was h =
     (h refl ∙ ap (λ u. share_after_call u x) was.2 ∙ sym (share_after_calls-append no_objects made (x ∷ []))) (leased-done es e [] is was.3)
 moves-before list c es e number x xs _ s t is was h = tt
 
-moves-lease : (list : NetList) (c : Command) (es : List Entry) (e : Entry) (number : ℕ) (set : RangeSet) (sets : List RangeSet) (given : List Addr) (r : Reply) (s t : Share) → e.reply ≡ r → Achieved list c es (Leasing set sets given) s
+moves-lease : (list : NetList) (c : Command) (es : List Entry) (e : Entry) (number : ℕ) (set : RangeSet) (sets : List RangeSet) (given : List Addr) (r : Reply) (s t : Share)
+    → e.reply ≡ r → Achieved list c es (Leasing set sets given) s
     → ((a : Addr) → r ≡ Leased a → is_candidate set a ≡ true) → ((a : Addr) → r ≡ Leased a → t ≡ record s { leases = s.leases ++ lease_of (att_of c) a ∷ [] }) → Achieved list c (es ++ e ∷ []) (at_lease list c number sets given r) t
 moves-lease list c es e number set sets given (Leased a) s t is was fits h =
     let past = was.0 in
@@ -144,7 +158,8 @@ moves-lease list c es e number set sets given (Leased a) s t is was fits h =
     (leased-push es e ∙ ap (λ q. leased_in es ++ leases_in (q ∷ [])) is ∙ ap (λ l. l ++ a ∷ []) was.4)
 moves-lease list c es e number set sets given _ s t is was fits h = tt
 
-moves-after : (list : NetList) (c : Command) (es : List Entry) (e : Entry) (number : ℕ) (x : Call) (xs : List Call) (given : List Addr) (r : Reply) (s t : Share) → e.reply ≡ r → Achieved list c es (AfterLeases x xs given) s → (r ≡ Done → t ≡ share_after_call s x)
+moves-after : (list : NetList) (c : Command) (es : List Entry) (e : Entry) (number : ℕ) (x : Call) (xs : List Call) (given : List Addr) (r : Reply) (s t : Share)
+    → e.reply ≡ r → Achieved list c es (AfterLeases x xs given) s → (r ≡ Done → t ≡ share_after_call s x)
     → Achieved list c (es ++ e ∷ []) (at_call_after number xs given r) t
 moves-after list c es e number x xs given Done s t is was h =
     let made = was.0 in
@@ -152,44 +167,57 @@ moves-after list c es e number x xs given Done s t is was h =
     (h refl ∙ ap (λ u. share_after_call u x) was.3 ∙ sym (share_after_calls-append (with_leases list c given) made (x ∷ []))) (leased-done es e given is was.4)
 moves-after list c es e number x xs given _ s t is was h = tt
 
-moves-cache : (list : NetList) (c : Command) (es : List Entry) (number : ℕ) (ending : Ending) (r : Reply) (t : Share) → IsNoResult ending → Achieved list c es (at_cache list number ending r) t
+moves-cache : (list : NetList) (c : Command) (es : List Entry) (number : ℕ) (ending : Ending) (r : Reply) (t : Share)
+    → IsNoResult ending → Achieved list c es (at_cache list number ending r) t
 moves-cache list c es number ending r t was = by-cache (λ st. Achieved list c es st t) list number ending r (not_added-faulted list c es number ending t) (to-deleting list c es (kinds_of list) ending t was)
 
-moves-deletion : (list : NetList) (c : Command) (es : List Entry) (number : ℕ) (k : Kind) (ks : List Kind) (ending : Ending) (r : Reply) (t : Share) → IsNoResult ending → Achieved list c es (at_deletion number k ks ending r) t
+moves-deletion : (list : NetList) (c : Command) (es : List Entry) (number : ℕ) (k : Kind) (ks : List Kind) (ending : Ending) (r : Reply) (t : Share)
+    → IsNoResult ending → Achieved list c es (at_deletion number k ks ending r) t
 moves-deletion list c es number k ks ending r t was = by-deletion (λ st. Achieved list c es st t) number k ks ending r (not_added-faulted list c es number ending t) was (to-deleting list c es ks ending t was)
 
 -- ---- runs that make no attachment
 
-achieved-aside : (list : NetList) (c : Command) (es : List Entry) (st : State) (s : Share) → IsAside st → Achieved list c es st s
+achieved-aside : (list : NetList) (c : Command) (es : List Entry) (st : State) (s : Share) → IsAside st
+    → Achieved list c es st s
 achieved-aside list c es st s = by-aside (λ x. Achieved list c es x s) tt (λ next left. tt) (λ change. tt) (λ work faults. tt) (λ ending given none. achieved-end list c es ending given s none) st
 
-achieved-next : (list : NetList) (c : Command) (es : List Entry) (number : ℕ) (st : State) (r : Reply) (s : Share) → IsAside st → Achieved list c es (advance list c number st r) s
+achieved-next : (list : NetList) (c : Command) (es : List Entry) (number : ℕ) (st : State) (r : Reply) (s : Share)
+    → IsAside st → Achieved list c es (advance list c number st r) s
 achieved-next list c es number st r s h = achieved-aside list c es (advance list c number st r) s (aside-advance list c number st r h)
 
 -- ---- what the call did
 
 -- the host after a call that was done, or that leased
-made_host : (k : Host) (n : ℕ) (call : Call) (faulty : Bool) (r : Reply) → (r ≡ Fault → ⊥) → reply_to k call faulty ≡ r → (after_entry k (entry_of k n call faulty) ≡ (apply k call).0) × ((apply k call).1 ≡ r)
+made_host : (k : Host) (n : ℕ) (call : Call) (faulty : Bool) (r : Reply) → (r ≡ Fault → ⊥) → reply_to k call faulty ≡ r
+    → (after_entry k (entry_of k n call faulty) ≡ (apply k call).0) × ((apply k call).1 ≡ r)
 made_host k n call true r not h = absurd (not (sym h))
 made_host k n call false r not h = (host-made k n call, h)
 
-pub own-made : (att : Att) (k : Host) (n : ℕ) (call : Call) (faulty : Bool) → is_plugin_call_of att call ≡ true → reply_to k call faulty ≡ Done → share_of att (after_entry k (entry_of k n call faulty)) ≡ share_after_call (share_of att k) call
+pub own-made : (att : Att) (k : Host) (n : ℕ) (call : Call) (faulty : Bool) → is_plugin_call_of att call ≡ true
+    → reply_to k call faulty ≡ Done
+    → share_of att (after_entry k (entry_of k n call faulty)) ≡ share_after_call (share_of att k) call
 own-made att k n call faulty own h = let d = made_host k n call faulty Done (λ e. cc) h in ap (share_of att) d.0 ∙ share-own att k call own d.1
 
-pub begun-none : (att : Att) (netns : List ℕ) (k : Host) (n : ℕ) (faulty : Bool) → reply_to k (Begin att netns) faulty ≡ Done → share_of att (after_entry k (entry_of k n (Begin att netns) faulty)) ≡ no_objects
+pub begun-none : (att : Att) (netns : List ℕ) (k : Host) (n : ℕ) (faulty : Bool)
+    → reply_to k (Begin att netns) faulty ≡ Done
+    → share_of att (after_entry k (entry_of k n (Begin att netns) faulty)) ≡ no_objects
 begun-none att netns k n faulty h = let d = made_host k n (Begin att netns) faulty Done (λ e. cc) h in ap (share_of att) d.0 ∙ share-begin att k netns d.1
 
-pub leases-one : (att : Att) (number : ℕ) (set : RangeSet) (k : Host) (n : ℕ) (faulty : Bool) (a : Addr) → reply_to k (LeaseNext att number set) faulty ≡ Leased a
+pub leases-one : (att : Att) (number : ℕ) (set : RangeSet) (k : Host) (n : ℕ) (faulty : Bool) (a : Addr)
+    → reply_to k (LeaseNext att number set) faulty ≡ Leased a
     → share_of att (after_entry k (entry_of k n (LeaseNext att number set) faulty)) ≡ record (share_of att k) { leases = (share_of att k).leases ++ lease_of att a ∷ [] }
 leases-one att number set k n faulty a h = let d = made_host k n (LeaseNext att number set) faulty (Leased a) (λ e. cc) h in ap (share_of att) d.0 ∙ share-lease att k number set a d.1
 
-pub lease-fits : (k : Host) (att : Att) (place : ℕ) (set : RangeSet) (faulty : Bool) (a : Addr) → reply_to k (LeaseNext att place set) faulty ≡ Leased a → is_candidate set a ≡ true
+pub lease-fits : (k : Host) (att : Att) (place : ℕ) (set : RangeSet) (faulty : Bool) (a : Addr)
+    → reply_to k (LeaseNext att place set) faulty ≡ Leased a → is_candidate set a ≡ true
 lease-fits k att place set true a h = cc
 lease-fits k att place set false a h = leased-candidate k att place set a h
 
 -- ---- every run
 
-achieved-own : (list : NetList) (c : Command) (es : List Entry) (st : State) (k : Host) (n : ℕ) (faulty : Bool) (call : Call) → LeftAreOfPlugins list c st → turn c st ≡ Calls call → Achieved list c es st (share_of (att_of c) k) → AfterEntry Achieved list c es st k n faulty call
+achieved-own : (list : NetList) (c : Command) (es : List Entry) (st : State) (k : Host) (n : ℕ) (faulty : Bool) (call : Call)
+    → LeftAreOfPlugins list c st → turn c st ≡ Calls call → Achieved list c es st (share_of (att_of c) k)
+    → AfterEntry Achieved list c es st k n faulty call
 unfolding turn advance
 achieved-own list c es AtBegin k n faulty call left is was =
     subst (AfterEntry Achieved list c es AtBegin k n faulty) (let e : Begin (att_of c) c.netns ≡ call = cc in e)

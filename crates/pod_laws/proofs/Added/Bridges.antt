@@ -51,12 +51,15 @@ PassesBridges p = (l : Link) → p l ≡ true → is_bridge l.kind ≡ true
 pub passes-host_bridges : (name : List ℕ) → PassesBridges (is_host_bridge name)
 passes-host_bridges name = λ l is. (and_parts (is_host_link name l) (is_bridge l.kind) is).1
 
-bridge-unowned : (p : Link → Bool) → PassesBridges p → (l : Link) (t : Tag) → link_fits_tag l t ≡ true → (p l && not (not (is_owned t))) ≡ false
+bridge-unowned : (p : Link → Bool) → PassesBridges p → (l : Link) (t : Tag) → link_fits_tag l t ≡ true
+    → (p l && not (not (is_owned t))) ≡ false
 bridge-unowned p bridges l tags.Outside h = and-false (p l)
 bridge-unowned p bridges l tags.Base h = and-false (p l)
 bridge-unowned p bridges l (tags.Own att) h = and-true (p l) ∙ false_from_ne_true (p l) (λ passes. both_ways (is_bridge l.kind) (owned_no_bridge l.ns l.kind h) (bridges l passes))
 
-stays-unshared : (p : Link → Bool) → PassesBridges p → (host : Host) (call : Call) → IsSound host → IsAllowed host call → is_from_outside call ≡ false → ensures_shared call ≡ false → list_any p host.links ≡ true → list_any p (apply host call).0.links ≡ true
+stays-unshared : (p : Link → Bool) → PassesBridges p → (host : Host) (call : Call) → IsSound host → IsAllowed host call
+    → is_from_outside call ≡ false → ensures_shared call ≡ false → list_any p host.links ≡ true
+    → list_any p (apply host call).0.links ≡ true
 stays-unshared p bridges host call sound allowed inside own there =
     let new = (apply host call).0 in
     let keeps = KeepsUnowned-Touches call host new inside own (Touches-apply host call sound allowed) in
@@ -65,10 +68,13 @@ stays-unshared p bridges host call sound allowed inside own there =
     let kept = list_any-kept p (λ l. not (is_owned l.tag)) host.links there none in
     any-filtered p (λ l. not (is_owned l.tag)) new.links (ap (list_any p) keeps.links ∙ kept)
 
-same-links : (p : Link → Bool) (old new : Host) → new.links ≡ old.links → list_any p old.links ≡ true → list_any p new.links ≡ true
+same-links : (p : Link → Bool) (old new : Host) → new.links ≡ old.links → list_any p old.links ≡ true
+    → list_any p new.links ≡ true
 same-links p old new e there = ap (list_any p) e ∙ there
 
-pub bridge-stays : (p : Link → Bool) → PassesBridges p → (host : Host) (call : Call) → IsSound host → IsAllowed host call → is_from_outside call ≡ false → list_any p host.links ≡ true → list_any p (apply host call).0.links ≡ true
+pub bridge-stays : (p : Link → Bool) → PassesBridges p → (host : Host) (call : Call) → IsSound host
+    → IsAllowed host call → is_from_outside call ≡ false → list_any p host.links ≡ true
+    → list_any p (apply host call).0.links ≡ true
 bridge-stays p bridges host (BridgeEnsure bridge mtu promisc) sound allowed inside there =
     elim (Touches-apply host (BridgeEnsure bridge mtu promisc) sound allowed) [
       | inl e ↦ same-links p host (apply host (BridgeEnsure bridge mtu promisc)).0 (ap (λ (k : Host). k.links) e) there
@@ -98,7 +104,9 @@ call-inside att _ is = refl
 abbrev pub BridgeIn : First → Host → Type 0
 BridgeIn first host = master_is_bridge_or_none host (bridge_of first) ≡ true
 
-bridge-in-stays : (o : Option (List ℕ)) (host : Host) (call : Call) → IsSound host → IsAllowed host call → is_from_outside call ≡ false → master_is_bridge_or_none host o ≡ true → master_is_bridge_or_none (apply host call).0 o ≡ true
+bridge-in-stays : (o : Option (List ℕ)) (host : Host) (call : Call) → IsSound host → IsAllowed host call
+    → is_from_outside call ≡ false → master_is_bridge_or_none host o ≡ true
+    → master_is_bridge_or_none (apply host call).0 o ≡ true
 bridge-in-stays None host call sound allowed inside there = refl
 bridge-in-stays (Some name) host call sound allowed inside there = bridge-stays (is_host_bridge name) (passes-host_bridges name) host call sound allowed inside there
 
@@ -121,7 +129,9 @@ turn-inside c call (inl own) = call-inside (att_of c) call own
 turn-inside c call (inr (inl asked)) = question-inside call asked
 turn-inside c call (inr (inr collected)) = ap is_from_outside (sym collected.deletes) ∙ deletion-inside collected.att collected.kind
 
-pub bridge-entered : (first : First) (w : World) (n : ℕ) (c : Placed) (list : NetList) (call : Call) (faulty : Bool) → GoesOn w n c list call faulty → BridgeIn first (host_of w) → BridgeIn first (after_entry (host_of w) (entry_of (host_of w) n call faulty))
+pub bridge-entered : (first : First) (w : World) (n : ℕ) (c : Placed) (list : NetList) (call : Call) (faulty : Bool)
+    → GoesOn w n c list call faulty → BridgeIn first (host_of w)
+    → BridgeIn first (after_entry (host_of w) (entry_of (host_of w) n call faulty))
 bridge-entered first w n c list call faulty on there =
     on-entry (BridgeIn first) (host_of w) n call faulty there
     (λ f. bridge-in-stays (bridge_of first) (host_of w) call (sound_host w on.legal) (on.allowed f) (turn-inside c.command call (turn-of w n c list call faulty on)) there)
@@ -151,7 +161,8 @@ done-bridge : (b : Bool) (t : Tag) → (if b then Done else Taken t) ≡ Done �
 done-bridge true t h = refl
 done-bridge false t h = cc
 
-ensured : (host : Host) (name : List ℕ) (o : Option Link) (mtu : ℕ) (promisc : Bool) → find (is_host_link name) host.links ≡ o → (bridge_or_new host o (new_bridge name mtu promisc)).1 ≡ Done
+ensured : (host : Host) (name : List ℕ) (o : Option Link) (mtu : ℕ) (promisc : Bool)
+    → find (is_host_link name) host.links ≡ o → (bridge_or_new host o (new_bridge name mtu promisc)).1 ≡ Done
     → has_host_bridge (bridge_or_new host o (new_bridge name mtu promisc)).0 name ≡ true
 ensured host name None mtu promisc found done =
     list_any-append_right (is_host_bridge name) host.links (new_bridge name mtu promisc ∷ []) (grind (arith, nat_list_eq_equiv.refl name))
@@ -160,51 +171,64 @@ ensured host name (Some link) mtu promisc found done =
     let bridge : is_bridge link.kind ≡ true = done-bridge (is_bridge link.kind) link.tag done in
     any-found (is_host_link name) (is_host_bridge name) host.links link found (grind (arith, there, bridge))
 
-in-bridge : (bridge name : List ℕ) (host : Host) → bytes_eq name bridge ≡ true → has_host_bridge host name ≡ true → has_host_bridge host bridge ≡ true
+in-bridge : (bridge name : List ℕ) (host : Host) → bytes_eq name bridge ≡ true → has_host_bridge host name ≡ true
+    → has_host_bridge host bridge ≡ true
 in-bridge bridge name host same there = ap (has_host_bridge host) (sym ((bytes_eq-Decides name bridge).0 same)) ∙ there
 
-ensured-made : (bridge : Option (List ℕ)) (host : Host) (call : Call) → ensures_bridge bridge call ≡ true → (apply host call).1 ≡ Done → master_is_bridge_or_none (apply host call).0 bridge ≡ true
+ensured-made : (bridge : Option (List ℕ)) (host : Host) (call : Call) → ensures_bridge bridge call ≡ true
+    → (apply host call).1 ≡ Done → master_is_bridge_or_none (apply host call).0 bridge ≡ true
 ensured-made None host call is done = refl
 ensured-made (Some bridge) host (BridgeEnsure name mtu promisc) is done =
     in-bridge bridge name (apply host (BridgeEnsure name mtu promisc)).0 is (ensured host name (find (is_host_link name) host.links) mtu promisc refl done)
 ensured-made (Some bridge) host _ is done = cc
 
-ensured-entered : (first : First) (k : Host) (n : ℕ) (call : Call) (faulty : Bool) → ensures_bridge (bridge_of first) call ≡ true → reply_to k call faulty ≡ Done → BridgeIn first (after_entry k (entry_of k n call faulty))
+ensured-entered : (first : First) (k : Host) (n : ℕ) (call : Call) (faulty : Bool)
+    → ensures_bridge (bridge_of first) call ≡ true → reply_to k call faulty ≡ Done
+    → BridgeIn first (after_entry k (entry_of k n call faulty))
 ensured-entered first k n call true is done = cc
 ensured-entered first k n call false is done = subst (BridgeIn first) (sym (host-made k n call)) (ensured-made (bridge_of first) k call is done)
 
 -- the calls before the leases ensure it first
-to-come : (bridge : Option (List ℕ)) (calls : List Call) (host : Host) → is_ensured bridge calls ≡ true → (list_any (ensures_bridge bridge) calls ≡ true) ⊎ (master_is_bridge_or_none host bridge ≡ true)
+to-come : (bridge : Option (List ℕ)) (calls : List Call) (host : Host) → is_ensured bridge calls ≡ true
+    → (list_any (ensures_bridge bridge) calls ≡ true) ⊎ (master_is_bridge_or_none host bridge ≡ true)
 to-come None calls host h = inr refl
 to-come (Some bridge) calls host h = inl h
 
-comes-before : (first : First) (att : Att) (netns : List ℕ) (host : Host) → BridgeComes first (calls_before first att netns) host
+comes-before : (first : First) (att : Att) (netns : List ℕ) (host : Host)
+    → BridgeComes first (calls_before first att netns) host
 comes-before first att netns host = to-come (bridge_of first) (calls_before first att netns) host ((first_laws first).before att netns).ensured
 
 -- ---- one entry
 
-to-after_leases : (list : NetList) (left : List Call) (given : List Addr) (host : Host) → BridgeIn list.first host → HasBridge list (after_leases left given) host
+to-after_leases : (list : NetList) (left : List Call) (given : List Addr) (host : Host) → BridgeIn list.first host
+    → HasBridge list (after_leases left given) host
 to-after_leases list [] given host h = tt
 to-after_leases list (x ∷ xs) given host h = h
 
-to-leasing : (list : NetList) (c : Command) (left : List RangeSet) (given : List Addr) (host : Host) → BridgeIn list.first host → HasBridge list (leasing list c left given) host
+to-leasing : (list : NetList) (c : Command) (left : List RangeSet) (given : List Addr) (host : Host)
+    → BridgeIn list.first host → HasBridge list (leasing list c left given) host
 to-leasing list c [] given host h = to-after_leases list (back_of list c given) given host h
 to-leasing list c (x ∷ xs) given host h = h
 
-to-before_leases : (list : NetList) (c : Command) (left : List Call) (host : Host) → BridgeComes list.first left host → HasBridge list (before_leases list c left) host
+to-before_leases : (list : NetList) (c : Command) (left : List Call) (host : Host) → BridgeComes list.first left host
+    → HasBridge list (before_leases list c left) host
 to-before_leases list c [] host h = elim h [ inl none ↦ cc | inr there ↦ to-leasing list c (sets_of list) [] host there ]
 to-before_leases list c (x ∷ xs) host h = h
 
-to-deleting : (list : NetList) (ks : List Kind) (ending : Ending) (host : Host) → HasBridge list (deleting ks ending) host
+to-deleting : (list : NetList) (ks : List Kind) (ending : Ending) (host : Host)
+    → HasBridge list (deleting ks ending) host
 to-deleting list [] ending host = tt
 to-deleting list (k ∷ ks) ending host = tt
 
-bridge-before : (list : NetList) (c : Command) (number : ℕ) (left : List Call) (r : Reply) (host : Host) → (r ≡ Done → BridgeComes list.first left host) → HasBridge list (at_call_before list c number left r) host
+bridge-before : (list : NetList) (c : Command) (number : ℕ) (left : List Call) (r : Reply) (host : Host)
+    → (r ≡ Done → BridgeComes list.first left host) → HasBridge list (at_call_before list c number left r) host
 bridge-before list c number left Done host h = to-before_leases list c left host (h refl)
 bridge-before list c number left _ host h = tt
 
 -- a call before the leases that was done
-comes-done : (first : First) (k : Host) (n : ℕ) (x : Call) (xs : List Call) (faulty : Bool) → (BridgeIn first k → BridgeIn first (after_entry k (entry_of k n x faulty))) → BridgeComes first (x ∷ xs) k → reply_to k x faulty ≡ Done
+comes-done : (first : First) (k : Host) (n : ℕ) (x : Call) (xs : List Call) (faulty : Bool)
+    → (BridgeIn first k → BridgeIn first (after_entry k (entry_of k n x faulty))) → BridgeComes first (x ∷ xs) k
+    → reply_to k x faulty ≡ Done
     → BridgeComes first xs (after_entry k (entry_of k n x faulty))
 comes-done first k n x xs faulty stays (inr there) done = inr (stays there)
 comes-done first k n x xs faulty stays (inl left) done = elim (cases_Bool (ensures_bridge (bridge_of first) x)) [
@@ -215,7 +239,9 @@ comes-done first k n x xs faulty stays (inl left) done = elim (cases_Bool (ensur
 bridge-aside : (list : NetList) (st : State) (host : Host) → IsAside st → HasBridge list st host
 bridge-aside list st host = by-aside (λ x. HasBridge list x host) tt (λ next left. tt) (λ change. tt) (λ work faults. tt) (λ ending given none. tt) st
 
-bridge-advance : (list : NetList) (c : Command) (number : ℕ) (st : State) (k : Host) (n : ℕ) (call : Call) (faulty : Bool) → turn c st ≡ Calls call → (BridgeIn list.first k → BridgeIn list.first (after_entry k (entry_of k n call faulty))) → HasBridge list st k
+bridge-advance : (list : NetList) (c : Command) (number : ℕ) (st : State) (k : Host) (n : ℕ) (call : Call) (faulty : Bool)
+    → turn c st ≡ Calls call → (BridgeIn list.first k → BridgeIn list.first (after_entry k (entry_of k n call faulty)))
+    → HasBridge list st k
     → HasBridge list (advance list c number st (reply_to k call faulty)) (after_entry k (entry_of k n call faulty))
 unfolding turn advance
 bridge-advance list c number AtBegin k n call faulty is stays was =
@@ -243,7 +269,8 @@ bridge-advance list c number st k n call faulty is stays was =
 
 -- ---- every history
 
-bridge-stands : (list : NetList) (st : State) (old new : Host) → (BridgeIn list.first old → BridgeIn list.first new) → HasBridge list st old → HasBridge list st new
+bridge-stands : (list : NetList) (st : State) (old new : Host) → (BridgeIn list.first old → BridgeIn list.first new)
+    → HasBridge list st old → HasBridge list st new
 bridge-stands list AtBegin old new stays was = tt
 bridge-stands list (BeforeLeases x xs) old new stays was = elim was [ inl left ↦ inl left | inr there ↦ inr (stays there) ]
 bridge-stands list (Leasing set sets given) old new stays was = stays was
@@ -260,7 +287,9 @@ bridge-begun p h m d none = λ list listed.
     let no_entry : own_entries m h ≡ [] = no-entries (own_entries m h) none in
     subst (λ es. HasBridge list (state_by list d.command es) (after p.pods.opening h)) (sym no_entry) (by-start (λ st. HasBridge list st (after p.pods.opening h)) list d.command d.command.verb (λ st aside. bridge-aside list st (after p.pods.opening h) aside) tt tt)
 
-bridge-own : (w : World) (n m : ℕ) (c d : Placed) (list : NetList) (call : Call) (faulty : Bool) → GoesOn w n c list call faulty → m ≡ n → slice_get (commands_of w.plan) m ≡ Some d → AllOpen RunBridge w → RunBridge w.plan (w.history ++ entry_of (host_of w) n call faulty ∷ []) m d
+bridge-own : (w : World) (n m : ℕ) (c d : Placed) (list : NetList) (call : Call) (faulty : Bool)
+    → GoesOn w n c list call faulty → m ≡ n → slice_get (commands_of w.plan) m ≡ Some d → AllOpen RunBridge w
+    → RunBridge w.plan (w.history ++ entry_of (host_of w) n call faulty ∷ []) m d
 bridge-own w n m c d list call faulty on here at was = λ other listed.
     let h = w.history in
     let k = host_of w in
@@ -276,7 +305,9 @@ bridge-own w n m c d list call faulty on here at was = λ other listed.
     (subst (λ st. HasBridge list st (after_entry k e)) (sym (state_by-append list c.command es e)) now)) in
     at_its_place w n c list call faulty on Q m d other here at listed mine
 
-bridge-other : (w : World) (n m : ℕ) (c d : Placed) (list : NetList) (call : Call) (faulty : Bool) → GoesOn w n c list call faulty → m ≢ n → RunBridge w.plan w.history m d → RunBridge w.plan (w.history ++ entry_of (host_of w) n call faulty ∷ []) m d
+bridge-other : (w : World) (n m : ℕ) (c d : Placed) (list : NetList) (call : Call) (faulty : Bool)
+    → GoesOn w n c list call faulty → m ≢ n → RunBridge w.plan w.history m d
+    → RunBridge w.plan (w.history ++ entry_of (host_of w) n call faulty ∷ []) m d
 bridge-other w n m c d list call faulty on differs was = λ other listed.
     let h = w.history in
     let k = host_of w in
@@ -287,7 +318,8 @@ bridge-other w n m c d list call faulty on differs was = λ other listed.
     (bridge-stands other (state_by other d.command (own_entries m h)) k (after_entry k e) (bridge-entered other.first w n c list call faulty on) (was other listed)))
 
 -- a command with a list has no entry from outside
-bridge-unlisted : (w : World) (n m : ℕ) (c d : Placed) (call : Call) (faulty : Bool) → Changes w n c call faulty → m ≡ n → slice_get (commands_of w.plan) m ≡ Some d → (h : List Entry) → RunBridge w.plan h m d
+bridge-unlisted : (w : World) (n m : ℕ) (c d : Placed) (call : Call) (faulty : Bool) → Changes w n c call faulty → m ≡ n
+    → slice_get (commands_of w.plan) m ≡ Some d → (h : List Entry) → RunBridge w.plan h m d
 bridge-unlisted w n m c d call faulty on here at h = λ list listed. absurd (no_list_there w n c call faulty on m d list here at listed)
 
 bridge-kept : IsOpenKept RunBridge

@@ -42,7 +42,9 @@ abbrev pub IsMacvlan : Call → Type 0
 IsMacvlan call = (link : Link) × (call ≡ MacvlanAdd link)
 
 -- a plugin's call whose links and bridge are there gets NoLink only where it is `macvlan`'s
-pub no_link-macvlan : (att : Att) (host : Host) (call : Call) → is_plugin_call_of att call ≡ true → lies_on host.links call ≡ true → master_is_bridge_or_none host (bridge_for call) ≡ true → (apply host call).1 ≡ NoLink → IsMacvlan call
+pub no_link-macvlan : (att : Att) (host : Host) (call : Call) → is_plugin_call_of att call ≡ true
+    → lies_on host.links call ≡ true → master_is_bridge_or_none host (bridge_for call) ≡ true
+    → (apply host call).1 ≡ NoLink → IsMacvlan call
 no_link-macvlan att host (MacvlanAdd link) is lies bridge got = (link, refl)
 no_link-macvlan att host (BridgeEnsure name mtu promisc) is lies bridge got = absurd (bridge-found host (find (is_host_link name) host.links) (new_bridge name mtu promisc) got)
 no_link-macvlan att host (GatewayEnsure name cidr) is lies bridge got =
@@ -93,7 +95,8 @@ place-link_of ns name tag att key mac mtu tx_qlen promisc allmulti l = set-link_
 place-own_at : (own : Att) (at : LinkKey) → IsPlaceTest (is_own_at own at)
 place-own_at own at att key mac mtu tx_qlen promisc allmulti l = set-own_at own at (is_own_at att key l) mac mtu tx_qlen promisc allmulti l
 
-any-call : (p : Link → Bool) (s : Share) (call : Call) → IsPlaceTest p → list_any p s.links ≡ true → list_any p (share_after_call s call).links ≡ true
+any-call : (p : Link → Bool) (s : Share) (call : Call) → IsPlaceTest p → list_any p s.links ≡ true
+    → list_any p (share_after_call s call).links ≡ true
 any-call p s (VethAdd h i) place there = list_any-append_left p s.links (h ∷ i ∷ []) there
 any-call p s (MacvlanAdd l) place there = list_any-append_left p s.links (l ∷ []) there
 any-call p s (LinkSet att key mac mtu tx_qlen promisc allmulti) place there =
@@ -101,19 +104,22 @@ any-call p s (LinkSet att key mac mtu tx_qlen promisc allmulti) place there =
     ∙ list_any-same_test (λ l. p (set_link att key mac mtu tx_qlen promisc allmulti l)) p (place att key mac mtu tx_qlen promisc allmulti) s.links ∙ there
 any-call p s _ place there = there
 
-any-calls : (p : Link → Bool) (s : Share) (calls : List Call) → IsPlaceTest p → list_any p s.links ≡ true → list_any p (share_after_calls s calls).links ≡ true
+any-calls : (p : Link → Bool) (s : Share) (calls : List Call) → IsPlaceTest p → list_any p s.links ≡ true
+    → list_any p (share_after_calls s calls).links ≡ true
 any-calls p s [] place there = there
 any-calls p s (x ∷ xs) place there = any-calls p (share_after_call s x) xs place (any-call p s x place there)
 
 -- what a call lies on stays there while more is made
-pub lies-calls : (s : Share) (calls : List Call) (call : Call) → lies_on s.links call ≡ true → lies_on (share_after_calls s calls).links call ≡ true
+pub lies-calls : (s : Share) (calls : List Call) (call : Call) → lies_on s.links call ≡ true
+    → lies_on (share_after_calls s calls).links call ≡ true
 lies-calls s calls (AddrAdd obj) h = any-calls (is_link_of obj.ns obj.link obj.tag) s calls (place-link_of obj.ns obj.link obj.tag) h
 lies-calls s calls (RouteAdd obj) h = any-calls (is_link_of obj.ns obj.link obj.tag) s calls (place-link_of obj.ns obj.link obj.tag) h
 lies-calls s calls (LinkSet att key mac mtu tx_qlen promisc allmulti) h = any-calls (is_own_at att key) s calls (place-own_at att key) h
 lies-calls s calls _ h = refl
 
 -- what is in the share is in the host
-pub lies-host : (att : Att) (host : Host) (call : Call) → lies_on (share_of att host).links call ≡ true → lies_on host.links call ≡ true
+pub lies-host : (att : Att) (host : Host) (call : Call) → lies_on (share_of att host).links call ≡ true
+    → lies_on host.links call ≡ true
 lies-host att host (AddrAdd obj) h = any-filtered (is_link_of obj.ns obj.link obj.tag) (λ l. is_own att l.tag) host.links h
 lies-host att host (RouteAdd obj) h = any-filtered (is_link_of obj.ns obj.link obj.tag) (λ l. is_own att l.tag) host.links h
 lies-host att host (LinkSet own key mac mtu tx_qlen promisc allmulti) h = any-filtered (is_own_at own key) (λ l. is_own att l.tag) host.links h
@@ -121,11 +127,13 @@ lies-host att host _ h = refl
 
 -- ---- the calls of plugins lie on the links that were made before the leases
 
-stands-lies : (links : List Link) (bridge : Option (List ℕ)) (call : Call) → stands_on links bridge call ≡ true → lies_on links call ≡ true
+stands-lies : (links : List Link) (bridge : Option (List ℕ)) (call : Call) → stands_on links bridge call ≡ true
+    → lies_on links call ≡ true
 stands-lies links bridge call h = (and_parts (lies_on links call) (is_none_or (bridge_for call) bridge) h).0
 
 -- each call after the leases
-pub lie-back : (list : NetList) (att : Att) (netns : List ℕ) (mappings : List PortMapping) (addrs : List Addr) → list_all (lies_on (links_made list att netns)) (back_calls list att netns mappings addrs) ≡ true
+pub lie-back : (list : NetList) (att : Att) (netns : List ℕ) (mappings : List PortMapping) (addrs : List Addr)
+    → list_all (lies_on (links_made list att netns)) (back_calls list att netns mappings addrs) ≡ true
 lie-back list att netns mappings addrs =
     let links = links_made list att netns in
     let laws = first_laws list.first in
@@ -135,5 +143,6 @@ lie-back list att netns mappings addrs =
     (λ c ips. list_all-weaker (stands_on links None) (lies_on links) (stands-lies links None) (chained_calls c att netns mappings ips) (((chained_laws c).calls att netns mappings ips).stand links (laws.inner att netns)))) (λ cached. refl)
 
 -- those before them lie on none
-pub lie-before : (first : First) (att : Att) (netns : List ℕ) (links : List Link) → list_all (lies_on links) (calls_before first att netns) ≡ true
+pub lie-before : (first : First) (att : Att) (netns : List ℕ) (links : List Link)
+    → list_all (lies_on links) (calls_before first att netns) ≡ true
 lie-before first att netns links = list_all-weaker (makes_interface (bridge_of first)) (lies_on links) (interface-lies links (bridge_of first)) (calls_before first att netns) ((first_laws first).before att netns).make_interface

@@ -50,15 +50,18 @@ among-prefix long short h = subst (AreAmong short) (sym h.1) (among-append short
 
 -- ---- what is left of a list is among what it was among
 
-among-if : {X : Type 0} (b : Bool) (x : X) (xs all : List X) → AreAmong (if b then x ∷ xs else xs) all → (b ≡ true → IsAmong x all) × AreAmong xs all
+among-if : {X : Type 0} (b : Bool) (x : X) (xs all : List X) → AreAmong (if b then x ∷ xs else xs) all
+    → (b ≡ true → IsAmong x all) × AreAmong xs all
 among-if true x xs all h = (λ t. h.0, h.1)
 among-if false x xs all h = (λ t. cc, h)
 
-if-among : {X : Type 0} (b : Bool) (x : X) (xs all : List X) → (b ≡ true → IsAmong x all) → AreAmong xs all → AreAmong (if b then x ∷ xs else xs) all
+if-among : {X : Type 0} (b : Bool) (x : X) (xs all : List X) → (b ≡ true → IsAmong x all) → AreAmong xs all
+    → AreAmong (if b then x ∷ xs else xs) all
 if-among true x xs all h g = (h refl, g)
 if-among false x xs all h g = g
 
-among-drops : {X : Type 0} (p gone : X → Bool) (all old new : List X) → DropsOnly gone old new → AreAmong (filter p old) all → AreAmong (filter p new) all
+among-drops : {X : Type 0} (p gone : X → Bool) (all old new : List X) → DropsOnly gone old new
+    → AreAmong (filter p old) all → AreAmong (filter p new) all
 among-drops p gone all [] new d h = subst (λ l. AreAmong (filter p l) all) (sym d) tt
 among-drops p gone all (x ∷ old) [] d h = tt
 among-drops p gone all (x ∷ old) (y ∷ new) d h =
@@ -105,7 +108,8 @@ prefix-calls : (s : Share) (calls : List Call) → IsPrefix s (share_after_calls
 prefix-calls s [] = prefix-same s
 prefix-calls s (c ∷ cs) = prefix-on s (share_after_call s c) (share_after_calls (share_after_call s c) cs) (prefix-call s c) (prefix-calls (share_after_call s c) cs)
 
-prefix-part : (s t : Share) (all made left : List Call) → all ≡ made ++ left → share_after_calls s all ≡ t → IsPrefix (share_after_calls s made) t
+prefix-part : (s t : Share) (all made left : List Call) → all ≡ made ++ left → share_after_calls s all ≡ t
+    → IsPrefix (share_after_calls s made) t
 prefix-part s t all made left is makes =
     let whole : share_after_calls (share_after_calls s made) left ≡ t = sym (share_after_calls-append s made left) ∙ ap (share_after_calls s) (sym is) ∙ makes in
     subst (IsPrefix (share_after_calls s made)) whole (prefix-calls (share_after_calls s made) left)
@@ -116,20 +120,23 @@ front-none : {X : Type 0} (xs ys : List X) → [] ≡ xs ++ ys → xs ≡ []
 front-none [] ys e = refl
 front-none (x ∷ xs) ys e = cc
 
-pub none_cached-before : (list : NetList) (c : Command) (made left : List Call) → before_of list c ≡ made ++ left → (share_after_calls no_objects made).cached ≡ []
+pub none_cached-before : (list : NetList) (c : Command) (made left : List Call) → before_of list c ≡ made ++ left
+    → (share_after_calls no_objects made).cached ≡ []
 none_cached-before list c made left part =
     let front = (prefix-part no_objects (record no_objects { links = links_made list (att_of c) c.netns }) (before_of list c) made left part (adds-links list.first (att_of c) c.netns no_objects)).cached in
     front-none (share_after_calls no_objects made).cached front.0 front.1
 
 -- ---- links
 
-links-call : (s t : Share) (call : Call) → s.links ≡ t.links → (share_after_call s call).links ≡ (share_after_call t call).links
+links-call : (s t : Share) (call : Call) → s.links ≡ t.links
+    → (share_after_call s call).links ≡ (share_after_call t call).links
 links-call s t (VethAdd h i) e = ap (λ l. l ++ h ∷ i ∷ []) e
 links-call s t (MacvlanAdd x) e = ap (λ l. l ++ x ∷ []) e
 links-call s t (LinkSet a b d f g i j) e = ap (map (set_link a b d f g i j)) e
 links-call s t _ e = e
 
-pub links-calls : (s t : Share) (calls : List Call) → s.links ≡ t.links → (share_after_calls s calls).links ≡ (share_after_calls t calls).links
+pub links-calls : (s t : Share) (calls : List Call) → s.links ≡ t.links
+    → (share_after_calls s calls).links ≡ (share_after_calls t calls).links
 links-calls s t [] e = e
 links-calls s t (x ∷ xs) e = links-calls (share_after_call s x) (share_after_call t x) xs (links-call s t x e)
 
@@ -138,7 +145,8 @@ abbrev appends_links : Call → Bool
 appends_links (LinkSet a b d f g i j) = false
 appends_links _ = true
 
-links-appended : (s : Share) (call : Call) → appends_links call ≡ true → GrowsAtEnd s.links (share_after_call s call).links
+links-appended : (s : Share) (call : Call) → appends_links call ≡ true
+    → GrowsAtEnd s.links (share_after_call s call).links
 links-appended s (VethAdd h i) e = grows-more s.links (h ∷ i ∷ [])
 links-appended s (MacvlanAdd x) e = grows-more s.links (x ∷ [])
 links-appended s (LinkSet a b d f g i j) e = cc
@@ -146,7 +154,8 @@ links-appended s _ e = grows-same s.links
 
 -- ---- what a run has is asked for
 
-asked-prefix : (list : NetList) (c : Command) (given : List Addr) (s : Share) → AreLinksOf list c given s.links → IsPrefix s (wanted_by list c given) → AreAskedFor list c given s
+asked-prefix : (list : NetList) (c : Command) (given : List Addr) (s : Share) → AreLinksOf list c given s.links
+    → IsPrefix s (wanted_by list c given) → AreAskedFor list c given s
 asked-prefix list c given s links front = record {
   links = links;
   addresses = part-prefix _ s.addresses front.addresses;
@@ -157,11 +166,13 @@ asked-prefix list c given s links front = record {
   cached = part-prefix _ s.cached front.cached;
 }
 
-pub links_made-leased : (list : NetList) (c : Command) (given : List Addr) → (with_leases list c given).links ≡ links_made list (att_of c) c.netns
+pub links_made-leased : (list : NetList) (c : Command) (given : List Addr)
+    → (with_leases list c given).links ≡ links_made list (att_of c) c.netns
 links_made-leased list c given = ap (λ (u : Share). u.links) (adds-links list.first (att_of c) c.netns no_objects)
 
 -- after the leases
-pub asked-after_leases : (list : NetList) (c : Command) (given : List Addr) (made left : List Call) → back_of list c given ≡ made ++ left → AreAskedFor list c given (share_after_calls (with_leases list c given) made)
+pub asked-after_leases : (list : NetList) (c : Command) (given : List Addr) (made left : List Call)
+    → back_of list c given ≡ made ++ left → AreAskedFor list c given (share_after_calls (with_leases list c given) made)
 asked-after_leases list c given made left part =
     let s = share_after_calls (with_leases list c given) made in
     let links : s.links ≡ links_after_part list c made = links-calls (with_leases list c given) (record no_objects { links = links_made list (att_of c) c.netns }) made (links_made-leased list c given) in
@@ -170,25 +181,30 @@ asked-after_leases list c given made left part =
     (prefix-part (with_leases list c given) (wanted_by list c given) (back_of list c given) made left part (makes-wanted list (att_of c) c.netns (mappings_of list c) given))
 
 -- while they are leased
-pub asked-leasing : (list : NetList) (c : Command) (given : List Addr) → AreAskedFor list c given (with_leases list c given)
+pub asked-leasing : (list : NetList) (c : Command) (given : List Addr)
+    → AreAskedFor list c given (with_leases list c given)
 asked-leasing list c given = asked-after_leases list c given [] (back_of list c given) refl
 
 -- ---- before the leases
 
-links-appended_all : (s : Share) (calls : List Call) → list_all appends_links calls ≡ true → GrowsAtEnd s.links (share_after_calls s calls).links
+links-appended_all : (s : Share) (calls : List Call) → list_all appends_links calls ≡ true
+    → GrowsAtEnd s.links (share_after_calls s calls).links
 links-appended_all s [] h = grows-same s.links
 links-appended_all s (x ∷ xs) h =
     let both = and_parts (appends_links x) (list_all appends_links xs) h in
     grows-on s.links (share_after_call s x).links (share_after_calls (share_after_call s x) xs).links (links-appended s x both.0) (links-appended_all (share_after_call s x) xs both.1)
 
-interface-appends : (bridge : Option (List ℕ)) (call : Call) → makes_interface bridge call ≡ true → appends_links call ≡ true
+interface-appends : (bridge : Option (List ℕ)) (call : Call) → makes_interface bridge call ≡ true
+    → appends_links call ≡ true
 interface-appends bridge (LinkSet att key mac mtu tx_qlen promisc allmulti) h = cc
 interface-appends bridge _ h = refl
 
-before-appends : (first : First) (att : Att) (netns : List ℕ) → list_all appends_links (calls_before first att netns) ≡ true
+before-appends : (first : First) (att : Att) (netns : List ℕ)
+    → list_all appends_links (calls_before first att netns) ≡ true
 before-appends first att netns = list_all-weaker (makes_interface (bridge_of first)) appends_links (interface-appends (bridge_of first)) (calls_before first att netns) ((first_laws first).before att netns).make_interface
 
-pub asked-before_leases : (list : NetList) (c : Command) (made left : List Call) → before_of list c ≡ made ++ left → AreAskedFor list c [] (share_after_calls no_objects made)
+pub asked-before_leases : (list : NetList) (c : Command) (made left : List Call) → before_of list c ≡ made ++ left
+    → AreAskedFor list c [] (share_after_calls no_objects made)
 asked-before_leases list c made left part =
     let s = share_after_calls no_objects made in
     let all : list_all appends_links (made ++ left) ≡ true = ap (list_all appends_links) (sym part) ∙ before-appends list.first (att_of c) c.netns in
@@ -203,7 +219,8 @@ asked-before_leases list c made left part =
 
 -- ---- what a removal leaves
 
-pub asked-removes : (list : NetList) (c : Command) (given : List Addr) (att : Att) (old new : Host) → OnlyRemoves old new → AreAskedFor list c given (share_of att old) → AreAskedFor list c given (share_of att new)
+pub asked-removes : (list : NetList) (c : Command) (given : List Addr) (att : Att) (old new : Host)
+    → OnlyRemoves old new → AreAskedFor list c given (share_of att old) → AreAskedFor list c given (share_of att new)
 asked-removes list c given att old new d a = record {
   links = record { made = a.links.made; left = a.links.left; part = a.links.part; among = among-drops (λ l. is_own att l.tag) (λ l. true) (links_after_part list c a.links.made) old.links new.links d.links a.links.among };
   addresses = part-left (λ l. is_own att l.tag) (λ l. true) _ old.addresses new.addresses d.addresses a.addresses;

@@ -37,7 +37,8 @@ use Rattle.pod_laws.proofs.{Histories.Turns.{AsksOrCollects, work-turn}, Tests.m
 abbrev is_bridged : First → Call → Bool
 is_bridged first call = is_none_or (bridge_for call) (bridge_of first)
 
-named : (host : Host) (o bridge : Option (List ℕ)) → is_none_or o bridge ≡ true → master_is_bridge_or_none host bridge ≡ true → master_is_bridge_or_none host o ≡ true
+named : (host : Host) (o bridge : Option (List ℕ)) → is_none_or o bridge ≡ true
+    → master_is_bridge_or_none host bridge ≡ true → master_is_bridge_or_none host o ≡ true
 named host None bridge h there = refl
 named host (Some name) None h there = cc
 named host (Some name) (Some bridge) h there = ap (has_host_bridge host) ((bytes_eq-Decides name bridge).0 h) ∙ there
@@ -47,10 +48,12 @@ none-bridge None bridge h = refl
 none-bridge (Some name) bridge h = cc
 
 -- what stands under no bridge but this, or under none
-stands-bridged : (links : List Link) (bridge : Option (List ℕ)) (call : Call) → stands_on links bridge call ≡ true → is_none_or (bridge_for call) bridge ≡ true
+stands-bridged : (links : List Link) (bridge : Option (List ℕ)) (call : Call) → stands_on links bridge call ≡ true
+    → is_none_or (bridge_for call) bridge ≡ true
 stands-bridged links bridge call h = (and_parts (lies_on links call) (is_none_or (bridge_for call) bridge) h).1
 
-bridged-back : (list : NetList) (att : Att) (netns : List ℕ) (mappings : List PortMapping) (addrs : List Addr) → list_all (is_bridged list.first) (back_calls list att netns mappings addrs) ≡ true
+bridged-back : (list : NetList) (att : Att) (netns : List ℕ) (mappings : List PortMapping) (addrs : List Addr)
+    → list_all (is_bridged list.first) (back_calls list att netns mappings addrs) ≡ true
 bridged-back list att netns mappings addrs =
     let links = links_made list att netns in
     let bridge = bridge_of list.first in
@@ -63,18 +66,23 @@ bridged-back list att netns mappings addrs =
 
 -- ---- the bridge of a call before the leases
 
-first-rest : (bridge : Option (List ℕ)) (made xs : List Call) → is_ensured_first bridge (made ++ xs) ≡ true → is_ensured_first bridge xs ≡ true
+first-rest : (bridge : Option (List ℕ)) (made xs : List Call) → is_ensured_first bridge (made ++ xs) ≡ true
+    → is_ensured_first bridge xs ≡ true
 first-rest bridge [] xs h = h
 first-rest bridge (m ∷ ms) xs h =
     first-rest bridge ms xs (and_parts (is_none (bridge_for m) || (is_none_or (bridge_for m) bridge && not (list_any (ensures_bridge bridge) (m ∷ (ms ++ xs))))) (is_ensured_first bridge (ms ++ xs)) h).1
 
 -- it stands under none, or under this, which nothing is left to ensure
-under : (host : Host) (o bridge : Option (List ℕ)) (left : Bool) → (is_none o || (is_none_or o bridge && not left)) ≡ true → (left ≡ true) ⊎ (master_is_bridge_or_none host bridge ≡ true) → master_is_bridge_or_none host o ≡ true
+under : (host : Host) (o bridge : Option (List ℕ)) (left : Bool)
+    → (is_none o || (is_none_or o bridge && not left)) ≡ true
+    → (left ≡ true) ⊎ (master_is_bridge_or_none host bridge ≡ true) → master_is_bridge_or_none host o ≡ true
 under host None bridge left h comes = refl
 under host (Some name) bridge left h (inr there) = named host (Some name) bridge (and_parts (is_none_or (Some name) bridge) (not left) h).0 there
 under host (Some name) bridge left h (inl is) = absurd (both_ways left (not-true left (and_parts (is_none_or (Some name) bridge) (not left) h).1) is)
 
-bridge-first : (first : First) (att : Att) (netns : List ℕ) (host : Host) (made xs : List Call) (x : Call) → calls_before first att netns ≡ made ++ x ∷ xs → BridgeComes first (x ∷ xs) host → master_is_bridge_or_none host (bridge_for x) ≡ true
+bridge-first : (first : First) (att : Att) (netns : List ℕ) (host : Host) (made xs : List Call) (x : Call)
+    → calls_before first att netns ≡ made ++ x ∷ xs → BridgeComes first (x ∷ xs) host
+    → master_is_bridge_or_none host (bridge_for x) ≡ true
 bridge-first first att netns host made xs x part comes =
     let bridge = bridge_of first in
     let ordered : is_ensured_first bridge (x ∷ xs) ≡ true = first-rest bridge made (x ∷ xs) (ap (is_ensured_first bridge) (sym part) ∙ ((first_laws first).before att netns).in_order) in
@@ -87,13 +95,17 @@ pub record IsFooted (host : Host) (call : Call) : Type 0 where
   pub lies : lies_on host.links call ≡ true
   pub bridge : master_is_bridge_or_none host (bridge_for call) ≡ true
 
-footed-before : (list : NetList) (c : Command) (es : List Entry) (x : Call) (xs : List Call) (host : Host) → Achieved list c es (BeforeLeases x xs) (share_of (att_of c) host) → BridgeComes list.first (x ∷ xs) host → IsFooted host x
+footed-before : (list : NetList) (c : Command) (es : List Entry) (x : Call) (xs : List Call) (host : Host)
+    → Achieved list c es (BeforeLeases x xs) (share_of (att_of c) host) → BridgeComes list.first (x ∷ xs) host
+    → IsFooted host x
 footed-before list c es x xs host ach comes = record {
   lies = middle-passes (lies_on host.links) ach.0 x xs (ap (list_all (lies_on host.links)) (sym ach.1) ∙ lie-before list.first (att_of c) c.netns host.links);
   bridge = bridge-first list.first (att_of c) c.netns host ach.0 xs x ach.1 comes;
 }
 
-footed-after : (list : NetList) (c : Command) (es : List Entry) (x : Call) (xs : List Call) (given : List Addr) (host : Host) → Achieved list c es (AfterLeases x xs given) (share_of (att_of c) host) → BridgeIn list.first host → IsFooted host x
+footed-after : (list : NetList) (c : Command) (es : List Entry) (x : Call) (xs : List Call) (given : List Addr) (host : Host)
+    → Achieved list c es (AfterLeases x xs given) (share_of (att_of c) host) → BridgeIn list.first host
+    → IsFooted host x
 footed-after list c es x xs given host ach there =
     let att = att_of c in
     let made = ach.0 in
@@ -125,11 +137,14 @@ footed-question att host (PoolFree network set) asked = λ own. cc
 footed-question att host _ asked = cc
 
 -- what only asks or deletes is no plugin's call
-footed-aside : (att : Att) (host : Host) (c : Command) (call : Call) → AsksOrCollects c call → FootedIfPlugin att host call
+footed-aside : (att : Att) (host : Host) (c : Command) (call : Call) → AsksOrCollects c call
+    → FootedIfPlugin att host call
 footed-aside att host c call (inl asked) = footed-question att host call asked
 footed-aside att host c call (inr collected) = subst (FootedIfPlugin att host) collected.deletes (footed-deletion att collected.att host collected.kind)
 
-footed-turn : (list : NetList) (c : Command) (es : List Entry) (st : State) (host : Host) (call : Call) → LeftFit list c st → turn c st ≡ Calls call → Achieved list c es st (share_of (att_of c) host) → HasBridge list st host → FootedIfPlugin (att_of c) host call
+footed-turn : (list : NetList) (c : Command) (es : List Entry) (st : State) (host : Host) (call : Call)
+    → LeftFit list c st → turn c st ≡ Calls call → Achieved list c es st (share_of (att_of c) host)
+    → HasBridge list st host → FootedIfPlugin (att_of c) host call
 unfolding turn
 footed-turn list c es AtBegin host call fit is ach bridge = subst (FootedIfPlugin (att_of c) host) (let e : Begin (att_of c) c.netns ≡ call = cc in e) (λ own. cc)
 footed-turn list c es (BeforeLeases x xs) host call fit is ach bridge = subst (FootedIfPlugin (att_of c) host) (let e : x ≡ call = cc in e) (λ own. footed-before list c es x xs host ach bridge)
@@ -144,7 +159,9 @@ footed-turn list c es (Collecting work faults) host call fit is ach bridge = foo
 footed-turn list c es (Over ending given) host call fit is ach bridge = cc
 
 -- so a run's call gets NoLink only where it is `macvlan`'s
-pub no_link-now : (w : World) (n : ℕ) (c : Placed) (list : NetList) (call : Call) (faulty : Bool) → GoesOn w n c list call faulty → is_plugin_call_of (att_of c.command) call ≡ true → (apply (host_of w) call).1 ≡ NoLink → IsMacvlan call
+pub no_link-now : (w : World) (n : ℕ) (c : Placed) (list : NetList) (call : Call) (faulty : Bool)
+    → GoesOn w n c list call faulty → is_plugin_call_of (att_of c.command) call ≡ true
+    → (apply (host_of w) call).1 ≡ NoLink → IsMacvlan call
 no_link-now w n c list call faulty on own got =
     let st = state_by list c.command (own_entries n w.history) in
     let footed = footed-turn list c.command (own_entries n w.history) st (host_of w) call (own-state w n c list call faulty on).fits (own-state w n c list call faulty on).turn_is

@@ -27,16 +27,21 @@ use Rattle.pod_laws.proofs.Histories.{Runs.{every-run-now, own-state}, Steps.on-
 abbrev AllStale : Command → List Job → Type 0
 AllStale c jobs = list_all (λ j. is_stale c.network c.valid j.att) jobs ≡ true
 
-swept-stale : (list : NetList) (c : Command) (s : Sweep) (sweeps : List Sweep) (k : Host) (faulty : Bool) → AllStale c (work_after (gc_of list c) [] (s ∷ sweeps) (reply_to k (OwnersOf c.network s.kind) faulty)).jobs
+swept-stale : (list : NetList) (c : Command) (s : Sweep) (sweeps : List Sweep) (k : Host) (faulty : Bool)
+    → AllStale c (work_after (gc_of list c) [] (s ∷ sweeps) (reply_to k (OwnersOf c.network s.kind) faulty)).jobs
 swept-stale list c s sweeps k true = refl
 swept-stale list c s sweeps k false =
     list_all-map (λ j. is_stale c.network c.valid j.att) (job_of s) (stale_owners c.network c.valid (tags_of k s.kind)) ∙ owners_stale c.network c.valid (tags_of k s.kind)
 
-stale-gone : (c : Command) (j : Job) (jobs : List Job) (sweeps : List Sweep) (b : Bool) → is_stale c.network c.valid j.att ≡ true → AllStale c jobs → AllStale c (j ∷ jobs) → AllStale c (after_job j jobs sweeps (Gone b)).jobs
+stale-gone : (c : Command) (j : Job) (jobs : List Job) (sweeps : List Sweep) (b : Bool)
+    → is_stale c.network c.valid j.att ≡ true → AllStale c jobs → AllStale c (j ∷ jobs)
+    → AllStale c (after_job j jobs sweeps (Gone b)).jobs
 stale-gone c j jobs sweeps true stale h all = all
 stale-gone c j jobs sweeps false stale h all = done_stale c.network c.valid j.att j.more jobs stale h
 
-stale-job : (c : Command) (j : Job) (jobs : List Job) (sweeps : List Sweep) (r : Reply) → is_stale c.network c.valid j.att ≡ true → AllStale c jobs → AllStale c (j ∷ jobs) → AllStale c (after_job j jobs sweeps r).jobs
+stale-job : (c : Command) (j : Job) (jobs : List Job) (sweeps : List Sweep) (r : Reply)
+    → is_stale c.network c.valid j.att ≡ true → AllStale c jobs → AllStale c (j ∷ jobs)
+    → AllStale c (after_job j jobs sweeps r).jobs
 stale-job c j jobs sweeps (Gone b) stale h all = stale-gone c j jobs sweeps b stale h all
 stale-job c j jobs sweeps (Kept cached) stale h all = done_stale c.network c.valid j.att j.more jobs stale h
 stale-job c j jobs sweeps Fault stale h all = h
@@ -48,7 +53,8 @@ head-stale c j jobs h = grind (arith, h)
 tail-stale : (c : Command) (j : Job) (jobs : List Job) → AllStale c (j ∷ jobs) → AllStale c jobs
 tail-stale c j jobs h = grind (arith, h)
 
-work-stale : (list : NetList) (c : Command) (jobs : List Job) (sweeps : List Sweep) (faults : List ℕ) (k : Host) (call : Call) (faulty : Bool) → turn_of_work c.network jobs sweeps faults ≡ Calls call → AllStale c jobs
+work-stale : (list : NetList) (c : Command) (jobs : List Job) (sweeps : List Sweep) (faults : List ℕ) (k : Host) (call : Call) (faulty : Bool)
+    → turn_of_work c.network jobs sweeps faults ≡ Calls call → AllStale c jobs
     → AllStale c (work_after (gc_of list c) jobs sweeps (reply_to k call faulty)).jobs
 work-stale list c [] [] faults k call faulty is h = cc
 work-stale list c [] (s ∷ sweeps) faults k call faulty is h =
@@ -74,7 +80,8 @@ collects-start_of list c _ is = cc
 collects-start : StartsWith Collects
 collects-start list c s = λ gc. collects-start_of list c c.verb gc
 
-collects-own : (list : NetList) (c : Command) (number : ℕ) (st : State) (k : Host) (call : Call) (faulty : Bool) → turn c st ≡ Calls call → StaleLeft c st → StaleLeft c (advance list c number st (reply_to k call faulty))
+collects-own : (list : NetList) (c : Command) (number : ℕ) (st : State) (k : Host) (call : Call) (faulty : Bool)
+    → turn c st ≡ Calls call → StaleLeft c st → StaleLeft c (advance list c number st (reply_to k call faulty))
 unfolding turn advance
 collects-own list c number (Collecting work faults) k call faulty is h = work-stale list c work.jobs work.sweeps faults k call faulty is h
 collects-own list c number (Over ending given) k call faulty is h = cc
@@ -93,19 +100,23 @@ Keeps c old new = KeepsWhere (stays c.network c.valid) old new
 abbrev KeepsBy : Command → Host → Call → Type 0
 KeepsBy c k call = IsAllowed k call → Keeps c k (apply k call).0
 
-owned-stale : (c : Command) (att : Att) → is_stale c.network c.valid att ≡ true → (t : Tag) → is_own att t ≡ true → stays c.network c.valid t ≡ false
+owned-stale : (c : Command) (att : Att) → is_stale c.network c.valid att ≡ true → (t : Tag) → is_own att t ≡ true
+    → stays c.network c.valid t ≡ false
 owned-stale c att stale t own = let gone = own_goes c.network c.valid att stale t own in grind (arith, gone)
 
-step-keeps : (c : Command) (att : Att) (k : Host) (step : Step) → IsSound k → is_stale c.network c.valid att ≡ true → KeepsBy c k (step_call att step)
+step-keeps : (c : Command) (att : Att) (k : Host) (step : Step) → IsSound k → is_stale c.network c.valid att ≡ true
+    → KeepsBy c k (step_call att step)
 step-keeps c att k AskCached sound stale = λ allowed. KeepsWhere-nothing (stays c.network c.valid) k
 step-keeps c att k (Delete kind) sound stale = λ allowed. KeepsWhere-TouchesOwn (stays c.network c.valid) att k (apply k (deletion att kind)).0 (owned-stale c att stale) (deletes att kind k sound).touch
 
-work-keeps : (c : Command) (jobs : List Job) (sweeps : List Sweep) (faults : List ℕ) (k : Host) (call : Call) → IsSound k → AllStale c jobs → turn_of_work c.network jobs sweeps faults ≡ Calls call → KeepsBy c k call
+work-keeps : (c : Command) (jobs : List Job) (sweeps : List Sweep) (faults : List ℕ) (k : Host) (call : Call)
+    → IsSound k → AllStale c jobs → turn_of_work c.network jobs sweeps faults ≡ Calls call → KeepsBy c k call
 work-keeps c [] [] faults k call sound h is = cc
 work-keeps c [] (s ∷ sweeps) faults k call sound h is = subst (KeepsBy c k) (let e : OwnersOf c.network s.kind ≡ call = cc in e) (λ allowed. KeepsWhere-nothing (stays c.network c.valid) k)
 work-keeps c (j ∷ jobs) sweeps faults k call sound h is = subst (KeepsBy c k) (let e : step_call j.att j.step ≡ call = cc in e) (step-keeps c j.att k j.step sound (head-stale c j jobs h))
 
-turn-keeps : (c : Command) (st : State) (k : Host) (call : Call) → IsSound k → StaleLeft c st → turn c st ≡ Calls call → KeepsBy c k call
+turn-keeps : (c : Command) (st : State) (k : Host) (call : Call) → IsSound k → StaleLeft c st → turn c st ≡ Calls call
+    → KeepsBy c k call
 unfolding turn
 turn-keeps c (Collecting work faults) k call sound h is = work-keeps c work.jobs work.sweeps faults k call sound h is
 turn-keeps c (Over ending given) k call sound h is = cc

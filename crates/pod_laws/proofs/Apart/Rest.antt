@@ -23,10 +23,12 @@ use Rattle.pod_laws.proofs.Histories.Turns.{turn-of}
 
 -- ---- what is unowned is the same
 
-within-list : {X : Type 0} (p q : X → Bool) → ((x : X) → p x ≡ true → q x ≡ true) → (old new : List X) → filter q new ≡ filter q old → filter p new ≡ filter p old
+within-list : {X : Type 0} (p q : X → Bool) → ((x : X) → p x ≡ true → q x ≡ true) → (old new : List X)
+    → filter q new ≡ filter q old → filter p new ≡ filter p old
 within-list p q w old new e = sym (filter-within p q w new) ∙ ap (filter p) e ∙ filter-within p q w old
 
-keeps-within : (test : Tag → Bool) (old new : Host) → ((t : Tag) → test t ≡ true → not (is_owned t) ≡ true) → KeepsUnowned old new → KeepsWhere test old new
+keeps-within : (test : Tag → Bool) (old new : Host) → ((t : Tag) → test t ≡ true → not (is_owned t) ≡ true)
+    → KeepsUnowned old new → KeepsWhere test old new
 keeps-within test old new w k = record {
   namespaces = within-list (λ x. test x.tag) (λ x. not (is_owned x.tag)) (λ x. w x.tag) old.namespaces new.namespaces k.namespaces;
   links = within-list (λ x. test x.tag) (λ x. not (is_owned x.tag)) (λ x. w x.tag) old.links new.links k.links;
@@ -80,7 +82,9 @@ shared-nothing : (host : Host) → KeepsShared host host
 shared-nothing host = shared-same host host (KeepsWhere-nothing is_base host)
 
 -- nothing is added, or one object of this tag
-shared-adds : {X : Type 0} (tag : X → Tag) (t : Tag) (put : X → Host) (old new : Host) → (new ≡ old) ⊎ ((x : X) × (tag x ≡ t) × (new ≡ put x)) → ((x : X) → tag x ≡ t → KeepsShared old (put x)) → KeepsShared old new
+shared-adds : {X : Type 0} (tag : X → Tag) (t : Tag) (put : X → Host) (old new : Host)
+    → (new ≡ old) ⊎ ((x : X) × (tag x ≡ t) × (new ≡ put x)) → ((x : X) → tag x ≡ t → KeepsShared old (put x))
+    → KeepsShared old new
 shared-adds tag t put old new adds keeps = elim adds [ inl e ↦ subst (KeepsShared old) (sym e) (shared-nothing old) | inr more ↦ subst (KeepsShared old) (sym more.2) (keeps more.0 more.1) ]
 
 shared-bridge : (old new : Host) → AddsBridge old new → KeepsShared old new
@@ -103,10 +107,12 @@ shared-setting old new adds =
 
 -- ---- each call
 
-rest-unshared : (host : Host) (call : Call) → IsSound host → IsAllowed host call → is_from_outside call ≡ false → ensures_shared call ≡ false → KeepsBoth host (apply host call).0
+rest-unshared : (host : Host) (call : Call) → IsSound host → IsAllowed host call → is_from_outside call ≡ false
+    → ensures_shared call ≡ false → KeepsBoth host (apply host call).0
 rest-unshared host call sound allowed inside own = rest-unowned host (apply host call).0 (KeepsUnowned-Touches call host (apply host call).0 inside own (Touches-apply host call sound allowed))
 
-rest-call : (host : Host) (call : Call) → IsSound host → IsAllowed host call → is_from_outside call ≡ false → KeepsBoth host (apply host call).0
+rest-call : (host : Host) (call : Call) → IsSound host → IsAllowed host call → is_from_outside call ≡ false
+    → KeepsBoth host (apply host call).0
 rest-call host (BridgeEnsure name mtu promisc) sound allowed inside =
     let adds = Touches-apply host (BridgeEnsure name mtu promisc) sound allowed in
     record { outside = KeepsWhere-AddsBridge is_outside host (apply host (BridgeEnsure name mtu promisc)).0 refl adds; shared = shared-bridge host (apply host (BridgeEnsure name mtu promisc)).0 adds }
@@ -134,7 +140,8 @@ shared-namespace old new adds =
     shared-adds (λ (x : NsObj). x.tag) tags.Outside (λ (x : NsObj). record old { namespaces = old.namespaces ++ x ∷ [] }) old new adds
     (λ x is. record { namespaces = same-list _ _ (filter-push_dropped (λ y. is_base y.tag) old.namespaces x (ap is_base is)); links = s.links; addresses = s.addresses; routes = s.routes; rules = s.rules; settings = s.settings; leases = s.leases; cached = s.cached })
 
-shared-outside : (host : Host) (call : Call) → IsSound host → IsAllowed host call → is_from_outside call ≡ true → KeepsShared host (apply host call).0
+shared-outside : (host : Host) (call : Call) → IsSound host → IsAllowed host call → is_from_outside call ≡ true
+    → KeepsShared host (apply host call).0
 shared-outside host (NsChange name true) sound allowed is = shared-namespace host (apply host (NsChange name true)).0 (Touches-apply host (NsChange name true) sound allowed)
 shared-outside host (NsChange name false) sound allowed is = shared-unshared host (apply host (NsChange name false)).0 (Touches-apply host (NsChange name false) sound allowed)
 shared-outside host (Outside change) sound allowed is = shared-unshared host (apply host (Outside change)).0 (Touches-apply host (Outside change) sound allowed)

@@ -32,7 +32,8 @@ map-addr f [] = refl
 map-addr f (x ∷ xs) = ap (λ l. (f x).addr ∷ l) (map-addr f xs)
 
 -- the result has the leased addresses, where these are candidates
-addresses-again : CandidatesAreGiven → (list : NetList) (att : Att) (netns : List ℕ) (addrs : List Addr) → AreCandidates (sets_of list) addrs → addresses_of_result (result_of_add list att netns addrs) ≡ addrs
+addresses-again : CandidatesAreGiven → (list : NetList) (att : Att) (netns : List ℕ) (addrs : List Addr)
+    → AreCandidates (sets_of list) addrs → addresses_of_result (result_of_add list att netns addrs) ≡ addrs
 unfolding result_of_add
 addresses-again law list att netns addrs fits =
     let given = given_by_list list addrs in
@@ -49,7 +50,8 @@ pub no-entry : (att : Att) (host : Host) → (share_of att host).cached ≡ [] �
 no-entry att host none = ap (option_map (λ (c : CachedObj). c.cached)) (find-first (λ c. is_own att c.tag) host.cached ∙ ap first_of none)
 
 -- a part of one entry is none or that one
-one-entry : (objects : List CachedObj) (o : CachedObj) (cached : Cached) → IsPart objects (o ∷ []) → option_map (λ (c : CachedObj). c.cached) (first_of objects) ≡ Some cached → cached ≡ o.cached
+one-entry : (objects : List CachedObj) (o : CachedObj) (cached : Cached) → IsPart objects (o ∷ [])
+    → option_map (λ (c : CachedObj). c.cached) (first_of objects) ≡ Some cached → cached ≡ o.cached
 one-entry [] o cached part is = absurd (none-some cached is)
 one-entry (x ∷ xs) o cached part is = elim part [
   | inl same ↦ sym (same_Some x.cached cached is) ∙ ap (λ (c : CachedObj). c.cached) (sym same.0)
@@ -61,7 +63,8 @@ abbrev pub cached_by : (p : Plan) (h : List Entry) (att : Att) → IsAskedFor p 
 cached_by p h att a = cached_of a.list att a.by.command.netns (mappings_of a.list a.by.command) (leases_in (replies_of a.place h))
 
 -- so what is cached is what the ADD caches, and it was leased an address of every set
-pub entry_of_its_add : (p : Plan) (h : List Entry) (att : Att) (cached : Cached) → HasNothingUnasked p h att → cached_in (after p.pods.opening h) att ≡ Some cached
+pub entry_of_its_add : (p : Plan) (h : List Entry) (att : Att) (cached : Cached) → HasNothingUnasked p h att
+    → cached_in (after p.pods.opening h) att ≡ Some cached
     → (a : IsAskedFor p h att) × AreCandidates (sets_of a.list) (leases_in (replies_of a.place h)) × (cached ≡ cached_by p h att a)
 entry_of_its_add p h att cached (inl gone) is = absurd (none-some cached (sym (no-entry att (after p.pods.opening h) (ap (λ (s : Share). s.cached) gone)) ∙ is))
 entry_of_its_add p h att cached (inr a) is =
@@ -76,7 +79,10 @@ entry_of_its_add p h att cached (inr a) is =
       one-entry mine kept cached a.objects.cached found ∙ ap (λ (x : Att). cached_of a.list x c.netns (mappings_of a.list c) given) a.attachment,
     )
 
-result_of_its_add : CandidatesAreGiven → (p : Plan) (h : List Entry) (att : Att) (cached : Cached) (a : IsAskedFor p h att) → AreCandidates (sets_of a.list) (leases_in (replies_of a.place h)) → cached ≡ cached_by p h att a → IsResultOfItsAdd p h att cached
+result_of_its_add : CandidatesAreGiven
+    → (p : Plan) (h : List Entry) (att : Att) (cached : Cached) (a : IsAskedFor p h att)
+    → AreCandidates (sets_of a.list) (leases_in (replies_of a.place h)) → cached ≡ cached_by p h att a
+    → IsResultOfItsAdd p h att cached
 result_of_its_add law p h att cached a fits entry = record {
   add = a;
   leased = fits;

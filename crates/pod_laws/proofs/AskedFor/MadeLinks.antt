@@ -50,7 +50,9 @@ none-right : (xs ys : List Call) → NoneChange (xs ++ ys) → NoneChange ys
 none-right [] ys h = h
 none-right (x ∷ xs) ys h = none-right xs ys (grind (arith, h))
 
-either-side : (b : Bool) (xs ys : List Call) → (if b then not (list_any changes_links (xs ++ ys)) else change_once (xs ++ ys)) ≡ true → (change_once (xs ++ ys) ≡ true → NoneChange xs ⊎ NoneChange ys)
+either-side : (b : Bool) (xs ys : List Call)
+    → (if b then not (list_any changes_links (xs ++ ys)) else change_once (xs ++ ys)) ≡ true
+    → (change_once (xs ++ ys) ≡ true → NoneChange xs ⊎ NoneChange ys)
     → ((b || list_any changes_links xs) ≡ false) ⊎ NoneChange ys
 either-side true xs ys h rest = inr (none-right xs ys (not-true (list_any changes_links (xs ++ ys)) h))
 either-side false xs ys h rest = rest h
@@ -60,14 +62,16 @@ one-side : (xs ys : List Call) → change_once (xs ++ ys) ≡ true → NoneChang
 one-side [] ys h = inl refl
 one-side (x ∷ xs) ys h = either-side (changes_links x) xs ys h (λ g. one-side xs ys g)
 
-once-step : (b : Bool) (xs : List Call) → b ≡ false → change_once xs ≡ true → (if b then not (list_any changes_links xs) else change_once xs) ≡ true
+once-step : (b : Bool) (xs : List Call) → b ≡ false → change_once xs ≡ true
+    → (if b then not (list_any changes_links xs) else change_once xs) ≡ true
 once-step b xs h g = rw h g
 
 once-after_none : (xs ys : List Call) → NoneChange xs → change_once ys ≡ true → change_once (xs ++ ys) ≡ true
 once-after_none [] ys h g = g
 once-after_none (x ∷ xs) ys h g = once-step (changes_links x) (xs ++ ys) (grind (arith, h)) (once-after_none xs ys (grind (arith, h)) g)
 
-once-then_step : (b : Bool) (xs ys : List Call) → (if b then not (list_any changes_links xs) else change_once xs) ≡ true → NoneChange ys → (change_once xs ≡ true → change_once (xs ++ ys) ≡ true)
+once-then_step : (b : Bool) (xs ys : List Call) → (if b then not (list_any changes_links xs) else change_once xs) ≡ true
+    → NoneChange ys → (change_once xs ≡ true → change_once (xs ++ ys) ≡ true)
     → (if b then not (list_any changes_links (xs ++ ys)) else change_once (xs ++ ys)) ≡ true
 once-then_step true xs ys h g rest = let none = list_any-append_none changes_links xs ys (not-true (list_any changes_links xs) h) g in grind (arith, none)
 once-then_step false xs ys h g rest = rest h
@@ -89,19 +93,23 @@ none-as : (sets : Bool) (calls : List Call) → sets ≡ false → set_links_onc
 none-as true calls is h = cc
 none-as false calls is h = not-true (list_any changes_links calls) h
 
-once-chained : (c : Chained) (att : Att) (netns : List ℕ) (mappings : List PortMapping) (ips : List IpEntry) → change_once (chained_calls c att netns mappings ips) ≡ true
+once-chained : (c : Chained) (att : Att) (netns : List ℕ) (mappings : List PortMapping) (ips : List IpEntry)
+    → change_once (chained_calls c att netns mappings ips) ≡ true
 once-chained c att netns mappings ips = once-as (sets_links c) (chained_calls c att netns mappings ips) ((chained_laws c).calls att netns mappings ips).set_once
 
-none-chained : (c : Chained) (att : Att) (netns : List ℕ) (mappings : List PortMapping) (ips : List IpEntry) → sets_links c ≡ false → NoneChange (chained_calls c att netns mappings ips)
+none-chained : (c : Chained) (att : Att) (netns : List ℕ) (mappings : List PortMapping) (ips : List IpEntry)
+    → sets_links c ≡ false → NoneChange (chained_calls c att netns mappings ips)
 none-chained c att netns mappings ips h = none-as (sets_links c) (chained_calls c att netns mappings ips) h ((chained_laws c).calls att netns mappings ips).set_once
 
-none-all_chained : (cs : List Chained) (att : Att) (netns : List ℕ) (mappings : List PortMapping) (prev : AddResult) → list_any sets_links cs ≡ false → NoneChange (all_chained_calls cs att netns mappings prev)
+none-all_chained : (cs : List Chained) (att : Att) (netns : List ℕ) (mappings : List PortMapping) (prev : AddResult)
+    → list_any sets_links cs ≡ false → NoneChange (all_chained_calls cs att netns mappings prev)
 none-all_chained [] att netns mappings prev h = refl
 none-all_chained (c ∷ cs) att netns mappings prev h =
     none-append (chained_calls c att netns mappings prev.ips) (all_chained_calls cs att netns mappings (chained_result c prev)) (none-chained c att netns mappings prev.ips (grind (arith, h)))
     (none-all_chained cs att netns mappings (chained_result c prev) (grind (arith, h)))
 
-once-all_step : (b : Bool) (c : Chained) (cs : List Chained) (att : Att) (netns : List ℕ) (mappings : List PortMapping) (prev : AddResult) → sets_links c ≡ b → (if b then not (list_any sets_links cs) else at_most_one sets_links cs) ≡ true
+once-all_step : (b : Bool) (c : Chained) (cs : List Chained) (att : Att) (netns : List ℕ) (mappings : List PortMapping) (prev : AddResult)
+    → sets_links c ≡ b → (if b then not (list_any sets_links cs) else at_most_one sets_links cs) ≡ true
     → (at_most_one sets_links cs ≡ true → change_once (all_chained_calls cs att netns mappings (chained_result c prev)) ≡ true) → change_once (all_chained_calls (c ∷ cs) att netns mappings prev) ≡ true
 once-all_step true c cs att netns mappings prev is h rest =
     once-then_none (chained_calls c att netns mappings prev.ips) (all_chained_calls cs att netns mappings (chained_result c prev)) (once-chained c att netns mappings prev.ips)
@@ -109,11 +117,13 @@ once-all_step true c cs att netns mappings prev is h rest =
 once-all_step false c cs att netns mappings prev is h rest =
     once-after_none (chained_calls c att netns mappings prev.ips) (all_chained_calls cs att netns mappings (chained_result c prev)) (none-chained c att netns mappings prev.ips is) (rest h)
 
-once-all_chained : (cs : List Chained) (att : Att) (netns : List ℕ) (mappings : List PortMapping) (prev : AddResult) → at_most_one sets_links cs ≡ true → change_once (all_chained_calls cs att netns mappings prev) ≡ true
+once-all_chained : (cs : List Chained) (att : Att) (netns : List ℕ) (mappings : List PortMapping) (prev : AddResult)
+    → at_most_one sets_links cs ≡ true → change_once (all_chained_calls cs att netns mappings prev) ≡ true
 once-all_chained [] att netns mappings prev h = refl
 once-all_chained (c ∷ cs) att netns mappings prev h = once-all_step (sets_links c) c cs att netns mappings prev refl h (λ g. once-all_chained cs att netns mappings (chained_result c prev) g)
 
-once-back : (list : NetList) (att : Att) (netns : List ℕ) (mappings : List PortMapping) (addrs : List Addr) → at_most_one sets_links list.chained ≡ true → change_once (back_calls list att netns mappings addrs) ≡ true
+once-back : (list : NetList) (att : Att) (netns : List ℕ) (mappings : List PortMapping) (addrs : List Addr)
+    → at_most_one sets_links list.chained ≡ true → change_once (back_calls list att netns mappings addrs) ≡ true
 once-back list att netns mappings addrs h =
     let chain = all_chained_calls list.chained att netns mappings (first_plugin_result list att netns addrs) in
     let put = CachePut att (cached_of list att netns mappings addrs) ∷ [] in
@@ -140,7 +150,9 @@ each_link_is_wanted list c given links once a =
 
 -- ---- in a well-formed list at most one plugin sets links
 
-none-more : (c : Chained) (cs : List Chained) → sets_links c ≡ true → AllByRecursion (λ type. type_eq (type_of_chained c) type ≡ false) (map type_of_chained cs) → list_any sets_links cs ≡ false
+none-more : (c : Chained) (cs : List Chained) → sets_links c ≡ true
+    → AllByRecursion (λ type. type_eq (type_of_chained c) type ≡ false) (map type_of_chained cs)
+    → list_any sets_links cs ≡ false
 none-more c [] sets far = refl
 none-more c (d ∷ ds) sets far = elim (cases_Bool (sets_links d)) [
   | inl also ↦ absurd (both_ways (type_eq (type_of_chained c) (type_of_chained d)) far.0 (one_setter c d sets also))
@@ -158,12 +170,14 @@ types-set_once (c ∷ cs) h = once-by (sets_links c) (list_any sets_links cs) (a
 
 -- ---- so has each list of a plan
 
-lists-set_once : (lists : List NetList) → All IsWellFormedList lists → list_all (λ l. at_most_one sets_links l.chained) lists ≡ true
+lists-set_once : (lists : List NetList) → All IsWellFormedList lists
+    → list_all (λ l. at_most_one sets_links l.chained) lists ≡ true
 lists-set_once [] all = refl
 lists-set_once (l ∷ ls) all =
     and_from (at_most_one sets_links l.chained) (list_all (λ x. at_most_one sets_links x.chained) ls) (types-set_once l.chained (All-head IsWellFormedList l ls all).types_once) (lists-set_once ls (All-tail IsWellFormedList l ls all))
 
-listed-sets_once : (p : Plan) (c : Command) (list : NetList) → IsWellFormed p → list_for p c ≡ Some list → at_most_one sets_links list.chained ≡ true
+listed-sets_once : (p : Plan) (c : Command) (list : NetList) → IsWellFormed p → list_for p c ≡ Some list
+    → at_most_one sets_links list.chained ≡ true
 listed-sets_once p c list well listed =
     passes-list_all (λ l. at_most_one sets_links l.chained) (λ l. bytes_eq l.name c.network) p.lists list (lists-set_once p.lists well.lists)
     (if-listed (is_of_network c.verb) (list_named p.lists c.network) list (list_for-found p c ∙ listed))

@@ -45,14 +45,16 @@ use Rattle.gc_sweep.specs.Keep.{OnlyRemoves}
 
 -- ---- a call that leaves or removes what the attachment has
 
-leases-quiet : (m : ℕ) (h : List Entry) (e : Entry) → leases_in (e.reply ∷ []) ≡ [] → leases_in (replies_of m (h ++ e ∷ [])) ≡ leases_in (replies_of m h)
+leases-quiet : (m : ℕ) (h : List Entry) (e : Entry) → leases_in (e.reply ∷ []) ≡ []
+    → leases_in (replies_of m (h ++ e ∷ [])) ≡ leases_in (replies_of m h)
 leases-quiet m h e none = elim (eqb_tells e.command (m + 1)) [
   | inl t ↦ ap leases_in (replies_of-own m h e t.1) ∙ leases-push (replies_of m h) e.reply ∙ ap (λ l. leases_in (replies_of m h) ++ l) none ∙ append-nil (leases_in (replies_of m h))
   | inr f ↦ ap leases_in (replies_of-other m h e f.1)
 ]
 
 -- after an entry that doesn't begin the attachment and leases nothing to its ADD, with objects that are still asked for
-asked-still : (p : Plan) (h : List Entry) (e : Entry) (att : Att) (a : IsAskedFor p h att) → begins att e ≡ false → leases_in (replies_of a.place (h ++ e ∷ [])) ≡ leases_in (replies_of a.place h)
+asked-still : (p : Plan) (h : List Entry) (e : Entry) (att : Att) (a : IsAskedFor p h att) → begins att e ≡ false
+    → leases_in (replies_of a.place (h ++ e ∷ [])) ≡ leases_in (replies_of a.place h)
     → IsPart (objects_after p att (h ++ e ∷ [])).cached (objects_after p att h).cached → AreAskedFor a.list a.by.command (leases_in (replies_of a.place h)) (objects_after p att (h ++ e ∷ [])) → IsAskedFor p (h ++ e ∷ []) att
 asked-still p h e att a not leases part objects = record {
   place = a.place;
@@ -68,7 +70,8 @@ asked-still p h e att a not leases part objects = record {
   objects = subst (λ g. AreAskedFor a.list a.by.command g (objects_after p att (h ++ e ∷ []))) (sym leases) objects;
 }
 
-asked-quiet : (p : Plan) (h : List Entry) (e : Entry) (att : Att) → begins att e ≡ false → leases_in (e.reply ∷ []) ≡ [] → OnlyRemoves (after p.pods.opening h) (after p.pods.opening (h ++ e ∷ [])) → HasNothingUnasked p h att
+asked-quiet : (p : Plan) (h : List Entry) (e : Entry) (att : Att) → begins att e ≡ false → leases_in (e.reply ∷ []) ≡ []
+    → OnlyRemoves (after p.pods.opening h) (after p.pods.opening (h ++ e ∷ [])) → HasNothingUnasked p h att
     → HasNothingUnasked p (h ++ e ∷ []) att
 asked-quiet p h e att not no_lease d (inl none) = inl (share-removes_none att (after p.pods.opening h) (after p.pods.opening (h ++ e ∷ [])) d none)
 asked-quiet p h e att not no_lease d (inr a) =
@@ -80,7 +83,8 @@ asked-quiet p h e att not no_lease d (inr a) =
 abbrev NextAsked : World → ℕ → Att → Bool → Call → Type 0
 NextAsked w n att faulty call = HasNothingUnasked w.plan (w.history ++ entry_of (host_of w) n call faulty ∷ []) att
 
-quiet-now : (w : World) (n : ℕ) (att : Att) (faulty : Bool) (call : Call) → begins att (entry_of (host_of w) n call faulty) ≡ false → leases_in (reply_to (host_of w) call faulty ∷ []) ≡ []
+quiet-now : (w : World) (n : ℕ) (att : Att) (faulty : Bool) (call : Call)
+    → begins att (entry_of (host_of w) n call faulty) ≡ false → leases_in (reply_to (host_of w) call faulty ∷ []) ≡ []
     → OnlyRemoves (host_of w) (after_entry (host_of w) (entry_of (host_of w) n call faulty)) → HasNothingUnasked w.plan w.history att → NextAsked w n att faulty call
 quiet-now w n att faulty call not no_lease d was =
     let e = entry_of (host_of w) n call faulty in
@@ -93,7 +97,8 @@ not-done _ not = refl
 not-begins_done : (att : Att) (e : Entry) → is_done e.reply ≡ false → begins att e ≡ false
 not-begins_done att e h = grind (arith, h)
 
-begin-now : (w : World) (n : ℕ) (att : Att) (netns : List ℕ) (faulty : Bool) → HasNothingUnasked w.plan w.history att → NextAsked w n att faulty (Begin att netns)
+begin-now : (w : World) (n : ℕ) (att : Att) (netns : List ℕ) (faulty : Bool) → HasNothingUnasked w.plan w.history att
+    → NextAsked w n att faulty (Begin att netns)
 begin-now w n att netns faulty was =
     let k = host_of w in
     let call = Begin att netns in
@@ -105,21 +110,24 @@ begin-now w n att netns faulty was =
           (on-entry (λ j. OnlyRemoves k j) k n call faulty (removes-nothing k) (λ f. removes-nothing k)) was
     ]
 
-question-now : (w : World) (n : ℕ) (att : Att) (call : Call) (faulty : Bool) → is_question call ≡ true → HasNothingUnasked w.plan w.history att → NextAsked w n att faulty call
+question-now : (w : World) (n : ℕ) (att : Att) (call : Call) (faulty : Bool) → is_question call ≡ true
+    → HasNothingUnasked w.plan w.history att → NextAsked w n att faulty call
 question-now w n att call faulty asked was =
     let k = host_of w in
     quiet-now w n att faulty call (not-begins att (entry_of k n call faulty) (question-no_begin att call asked)) (question-no_lease k call faulty asked)
     (on-entry (λ j. OnlyRemoves k j) k n call faulty (removes-nothing k) (λ f. subst (OnlyRemoves k) (sym (question-leaves k call asked)) (removes-nothing k))) was
 
 -- a deletion, of this attachment or another
-deletion-now : (w : World) (n : ℕ) (att owner : Att) (faulty : Bool) (kind : Kind) → IsSound (host_of w) → HasNothingUnasked w.plan w.history att → NextAsked w n att faulty (deletion owner kind)
+deletion-now : (w : World) (n : ℕ) (att owner : Att) (faulty : Bool) (kind : Kind) → IsSound (host_of w)
+    → HasNothingUnasked w.plan w.history att → NextAsked w n att faulty (deletion owner kind)
 deletion-now w n att owner faulty kind sound was =
     let k = host_of w in
     let call = deletion owner kind in
     quiet-now w n att faulty call (not-begins att (entry_of k n call faulty) (deletion-no_begin owner att kind)) (deletion-no_lease k owner kind faulty)
     (on-entry (λ j. OnlyRemoves k j) k n call faulty (removes-nothing k) (λ f. removes-deletion owner k kind sound)) was
 
-aside-now : (w : World) (n : ℕ) (c : Command) (att : Att) (call : Call) (faulty : Bool) → IsSound (host_of w) → AsksOrCollects c call → HasNothingUnasked w.plan w.history att → NextAsked w n att faulty call
+aside-now : (w : World) (n : ℕ) (c : Command) (att : Att) (call : Call) (faulty : Bool) → IsSound (host_of w)
+    → AsksOrCollects c call → HasNothingUnasked w.plan w.history att → NextAsked w n att faulty call
 aside-now w n c att call faulty sound (inl asked) was = question-now w n att call faulty asked was
 aside-now w n c att call faulty sound (inr collected) was = subst (NextAsked w n att faulty) collected.deletes (deletion-now w n att collected.att faulty collected.kind sound was)
 
@@ -132,7 +140,9 @@ record IsAskedWith (list : NetList) (c : Command) (given : List Addr) (objects :
   all_leased : objects.cached ≢ [] → AreCandidates (sets_of list) given
   objects_are : AreAskedFor list c given objects
 
-making-now : (w : World) (n : ℕ) (c : Placed) (list : NetList) (call : Call) (faulty : Bool) → GoesOn w n c list call faulty → IsUnrefused c.command (own_entries n w.history) → is_begin_of (att_of c.command) call ≡ false → (given : List Addr)
+making-now : (w : World) (n : ℕ) (c : Placed) (list : NetList) (call : Call) (faulty : Bool)
+    → GoesOn w n c list call faulty → IsUnrefused c.command (own_entries n w.history)
+    → is_begin_of (att_of c.command) call ≡ false → (given : List Addr)
     → leased_in (own_entries n w.history ++ entry_of (host_of w) n call faulty ∷ []) ≡ given → IsAskedWith list c.command given (share_of (att_of c.command) (after_entry (host_of w) (entry_of (host_of w) n call faulty)))
     → NextAsked w n (att_of c.command) faulty call
 making-now w n c list call faulty on un not given leased asked =
@@ -157,21 +167,25 @@ making-now w n c list call faulty on un not given leased asked =
 
 -- ---- what is asked for at each call of an ADD
 
-with-before_leases : (list : NetList) (c : Command) (made left : List Call) → before_of list c ≡ made ++ left → IsAskedWith list c [] (share_after_calls no_objects made)
+with-before_leases : (list : NetList) (c : Command) (made left : List Call) → before_of list c ≡ made ++ left
+    → IsAskedWith list c [] (share_after_calls no_objects made)
 with-before_leases list c made left part = record {
   so_far = record { past = []; left = sets_of list; are = refl; candidates = tt };
   all_leased = λ some. absurd (some (none_cached-before list c made left part));
   objects_are = asked-before_leases list c made left part;
 }
 
-with-leasing : (list : NetList) (c : Command) (given : List Addr) → AreCandidatesSoFar (sets_of list) given → IsAskedWith list c given (with_leases list c given)
+with-leasing : (list : NetList) (c : Command) (given : List Addr) → AreCandidatesSoFar (sets_of list) given
+    → IsAskedWith list c given (with_leases list c given)
 with-leasing list c given so_far = record {
   so_far = so_far;
   all_leased = λ some. absurd (some (none_cached-before list c (before_of list c) [] (sym (append-nil (before_of list c)))));
   objects_are = asked-leasing list c given;
 }
 
-with-after_leases : (list : NetList) (c : Command) (given : List Addr) → AreCandidates (sets_of list) given → (made left : List Call) → back_of list c given ≡ made ++ left → IsAskedWith list c given (share_after_calls (with_leases list c given) made)
+with-after_leases : (list : NetList) (c : Command) (given : List Addr) → AreCandidates (sets_of list) given
+    → (made left : List Call) → back_of list c given ≡ made ++ left
+    → IsAskedWith list c given (share_after_calls (with_leases list c given) made)
 with-after_leases list c given candidates made left part = record {
   so_far = record { past = sets_of list; left = []; are = sym (append-nil (sets_of list)); candidates = candidates };
   all_leased = λ some. candidates;
@@ -179,7 +193,9 @@ with-after_leases list c given candidates made left part = record {
 }
 
 -- one more leased address
-candidates-more : (sets : List RangeSet) (past left : List RangeSet) (set : RangeSet) (given : List Addr) (a : Addr) → sets ≡ past ++ set ∷ left → AreCandidates past given → is_candidate set a ≡ true → AreCandidatesSoFar sets (given ++ a ∷ [])
+candidates-more : (sets : List RangeSet) (past left : List RangeSet) (set : RangeSet) (given : List Addr) (a : Addr)
+    → sets ≡ past ++ set ∷ left → AreCandidates past given → is_candidate set a ≡ true
+    → AreCandidatesSoFar sets (given ++ a ∷ [])
 candidates-more sets past left set given a are candidates fits = record {
   past = past ++ set ∷ [];
   left = left;
@@ -190,17 +206,20 @@ candidates-more sets past left set given a are candidates fits = record {
 -- ---- a call of an ADD that goes on
 
 -- a plugin's call that was not done, and a lease that found nothing, leave the share
-refused-entered : (att : Att) (k : Host) (n : ℕ) (call : Call) (faulty : Bool) → is_plugin_call_of att call ≡ true → (reply_to k call faulty ≡ Done → ⊥) → share_of att (after_entry k (entry_of k n call faulty)) ≡ share_of att k
+refused-entered : (att : Att) (k : Host) (n : ℕ) (call : Call) (faulty : Bool) → is_plugin_call_of att call ≡ true
+    → (reply_to k call faulty ≡ Done → ⊥) → share_of att (after_entry k (entry_of k n call faulty)) ≡ share_of att k
 refused-entered att k n call faulty own not =
     on-entry (λ j. share_of att j ≡ share_of att k) k n call faulty refl (λ f. ap (share_of att) (refused-same att k call own (λ d. not (ap (reply_to k call) f ∙ d))))
 
-unleased-entered : (att : Att) (k : Host) (n : ℕ) (place : ℕ) (set : RangeSet) (faulty : Bool) → ((a : Addr) → reply_to k (LeaseNext att place set) faulty ≡ Leased a → ⊥)
+unleased-entered : (att : Att) (k : Host) (n : ℕ) (place : ℕ) (set : RangeSet) (faulty : Bool)
+    → ((a : Addr) → reply_to k (LeaseNext att place set) faulty ≡ Leased a → ⊥)
     → share_of att (after_entry k (entry_of k n (LeaseNext att place set) faulty)) ≡ share_of att k
 unleased-entered att k n place set faulty not =
     on-entry (λ j. share_of att j ≡ share_of att k) k n (LeaseNext att place set) faulty refl (λ f. ap (share_of att) (refused-lease k att place set (λ a d. not a (ap (reply_to k (LeaseNext att place set)) f ∙ d))))
 
 -- a call of a part of the plugins' calls, after these, where each prefix of that part leaves what is asked for
-of_plugins-now : (w : World) (n : ℕ) (c : Placed) (list : NetList) (x : Call) (xs : List Call) (given : List Addr) (start : Share) (all made : List Call) (faulty : Bool) → GoesOn w n c list x faulty → is_plugin_call_of (att_of c.command) x ≡ true
+of_plugins-now : (w : World) (n : ℕ) (c : Placed) (list : NetList) (x : Call) (xs : List Call) (given : List Addr) (start : Share) (all made : List Call) (faulty : Bool)
+    → GoesOn w n c list x faulty → is_plugin_call_of (att_of c.command) x ≡ true
     → IsUnrefused c.command (own_entries n w.history) → all ≡ made ++ x ∷ xs → share_of (att_of c.command) (host_of w) ≡ share_after_calls start made → leased_in (own_entries n w.history) ≡ given
     → ((front left : List Call) → all ≡ front ++ left → IsAskedWith list c.command given (share_after_calls start front)) → NextAsked w n (att_of c.command) faulty x
 of_plugins-now w n c list x xs given start all made faulty on own un part was leased asked =
@@ -219,7 +238,9 @@ of_plugins-now w n c list x xs given start all made faulty on own un part was le
           (subst (IsAskedWith list c.command given) (sym share) (asked made (x ∷ xs) part))
     ]
 
-lease-now : (w : World) (n : ℕ) (c : Placed) (list : NetList) (set : RangeSet) (sets : List RangeSet) (given : List Addr) (faulty : Bool) → GoesOn w n c list (LeaseNext (att_of c.command) (length given) set) faulty → IsUnrefused c.command (own_entries n w.history)
+lease-now : (w : World) (n : ℕ) (c : Placed) (list : NetList) (set : RangeSet) (sets : List RangeSet) (given : List Addr) (faulty : Bool)
+    → GoesOn w n c list (LeaseNext (att_of c.command) (length given) set) faulty
+    → IsUnrefused c.command (own_entries n w.history)
     → Achieved list c.command (own_entries n w.history) (Leasing set sets given) (share_of (att_of c.command) (host_of w)) → NextAsked w n (att_of c.command) faulty (LeaseNext (att_of c.command) (length given) set)
 lease-now w n c list set sets given faulty on un ach =
     let k = host_of w in
@@ -247,7 +268,9 @@ lease-now w n c list set sets given faulty on un ach =
 abbrev OwnAsked : World → ℕ → Placed → NetList → Bool → Call → Type 0
 OwnAsked w n c list faulty call = GoesOn w n c list call faulty → NextAsked w n (att_of c.command) faulty call
 
-own-asked : (w : World) (n : ℕ) (c : Placed) (list : NetList) (call : Call) (faulty : Bool) (st : State) → IsSound (host_of w) → LeftAreOfPlugins list c.command st → LeftFit list c.command st → turn c.command st ≡ Calls call
+own-asked : (w : World) (n : ℕ) (c : Placed) (list : NetList) (call : Call) (faulty : Bool) (st : State)
+    → IsSound (host_of w) → LeftAreOfPlugins list c.command st → LeftFit list c.command st
+    → turn c.command st ≡ Calls call
     → Undoing list c.command (own_entries n w.history) st (share_of (att_of c.command) (host_of w)) → Achieved list c.command (own_entries n w.history) st (share_of (att_of c.command) (host_of w)) → HasNothingUnasked w.plan w.history (att_of c.command)
     → OwnAsked w n c list faulty call
 unfolding turn
@@ -274,7 +297,9 @@ own-asked w n c list call faulty (Collecting work faults) sound left fit is un a
 own-asked w n c list call faulty (Over ending given) sound left fit is un ach was = cc
 
 -- a call of another attachment
-other-asked : (w : World) (n : ℕ) (c : Placed) (list : NetList) (call : Call) (faulty : Bool) (att : Att) → GoesOn w n c list call faulty → att_eq (att_of c.command) att ≡ false → is_call_of (att_of c.command) call ≡ true → HasNothingUnasked w.plan w.history att
+other-asked : (w : World) (n : ℕ) (c : Placed) (list : NetList) (call : Call) (faulty : Bool) (att : Att)
+    → GoesOn w n c list call faulty → att_eq (att_of c.command) att ≡ false → is_call_of (att_of c.command) call ≡ true
+    → HasNothingUnasked w.plan w.history att
     → NextAsked w n att faulty call
 other-asked w n c list call faulty att on differ own was =
     let h = w.history in
@@ -298,7 +323,9 @@ other-asked w n c list call faulty att on differ own was =
 abbrev AllAsked : Plan → List Entry → Type 0
 AllAsked p h = (att : Att) → HasNothingUnasked p h att
 
-asked-kept : (w : World) (n : ℕ) (c : Placed) (list : NetList) (call : Call) (faulty : Bool) → GoesOn w n c list call faulty → AllAsked w.plan w.history → AllAsked w.plan (w.history ++ entry_of (host_of w) n call faulty ∷ [])
+asked-kept : (w : World) (n : ℕ) (c : Placed) (list : NetList) (call : Call) (faulty : Bool)
+    → GoesOn w n c list call faulty → AllAsked w.plan w.history
+    → AllAsked w.plan (w.history ++ entry_of (host_of w) n call faulty ∷ [])
 asked-kept w n c list call faulty on was = λ att.
     elim (cases_Bool (att_eq (att_of c.command) att)) [
       | inl same ↦
@@ -313,7 +340,8 @@ asked-kept w n c list call faulty on was = λ att.
       ]
     ]
 
-asked-changed : (w : World) (n : ℕ) (c : Placed) (call : Call) (faulty : Bool) → Changes w n c call faulty → AllAsked w.plan w.history → AllAsked w.plan (w.history ++ entry_of (host_of w) n call faulty ∷ [])
+asked-changed : (w : World) (n : ℕ) (c : Placed) (call : Call) (faulty : Bool) → Changes w n c call faulty
+    → AllAsked w.plan w.history → AllAsked w.plan (w.history ++ entry_of (host_of w) n call faulty ∷ [])
 asked-changed w n c call faulty on was = λ att.
     let from = (change-of w n c call faulty on).call_is in
     quiet-now w n att faulty call (not-begins att (entry_of (host_of w) n call faulty) (outside-no_begin att call from)) (outside-no_lease (host_of w) call faulty from) (removes-changed w n c call faulty on) (was att)

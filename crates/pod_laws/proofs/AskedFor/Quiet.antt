@@ -42,7 +42,8 @@ question-quiet k (OwnersOf network kind) is = refl
 question-quiet k (PoolFree network set) is = refl
 question-quiet k _ is = cc
 
-pub question-no_lease : (k : Host) (call : Call) (faulty : Bool) → is_question call ≡ true → leases_in (reply_to k call faulty ∷ []) ≡ []
+pub question-no_lease : (k : Host) (call : Call) (faulty : Bool) → is_question call ≡ true
+    → leases_in (reply_to k call faulty ∷ []) ≡ []
 question-no_lease k call true is = refl
 question-no_lease k call false is = question-quiet k call is
 
@@ -57,7 +58,8 @@ gone-no_lease k att kinds.Settings = refl
 gone-no_lease k att kinds.Leases = refl
 gone-no_lease k att kinds.Cached = refl
 
-pub deletion-no_lease : (k : Host) (att : Att) (kind : Kind) (faulty : Bool) → leases_in (reply_to k (deletion att kind) faulty ∷ []) ≡ []
+pub deletion-no_lease : (k : Host) (att : Att) (kind : Kind) (faulty : Bool)
+    → leases_in (reply_to k (deletion att kind) faulty ∷ []) ≡ []
 deletion-no_lease k att kind true = refl
 deletion-no_lease k att kind false = gone-no_lease k att kind
 
@@ -76,6 +78,7 @@ outside-quiet k (NsChange name add) is = namespace-quiet k name add
 outside-quiet k (Outside change) is = change-quiet k change
 outside-quiet k _ is = cc
 
-pub outside-no_lease : (k : Host) (call : Call) (faulty : Bool) → is_from_outside call ≡ true → leases_in (reply_to k call faulty ∷ []) ≡ []
+pub outside-no_lease : (k : Host) (call : Call) (faulty : Bool) → is_from_outside call ≡ true
+    → leases_in (reply_to k call faulty ∷ []) ≡ []
 outside-no_lease k call true is = refl
 outside-no_lease k call false is = outside-quiet k call is

@@ -96,7 +96,9 @@ from-first : (w : World) → Legal w → AllListed RunFrom w.plan w.history
 from-first w legal = by-listed RunFrom (λ p n c list most before rest e in_most none split own first. absurd (split_nil before rest e split)) from-own from-other w legal
 
 -- the calls that a run has made, against what was left before its first, and after it
-pub made-within : (w : World) → Legal w → (n : ℕ) (c : Placed) (list : NetList) (most : ℕ) (before rest : List Entry) (e : Entry) → slice_get (commands_of w.plan) n ≡ Some c → list_for w.plan c.command ≡ Some list
+pub made-within : (w : World) → Legal w
+    → (n : ℕ) (c : Placed) (list : NetList) (most : ℕ) (before rest : List Entry) (e : Entry)
+    → slice_get (commands_of w.plan) n ≡ Some c → list_for w.plan c.command ≡ Some list
     → AddsInAtMost list c.command most → IsNoCollection (start_state list c.command) → w.history ≡ before ++ e ∷ rest → e.command ≡ n + 1 → own_entries n before ≡ []
     → (length (own_replies w n) ≤ calls_left most list c.command (start_state list c.command) (objects_after w.plan (att_of c.command) before))
     × (length (own_replies w n) ≤ 1 + calls_left most list c.command (advance list c.command 1 (start_state list c.command) e.reply) (objects_after w.plan (att_of c.command) (before ++ e ∷ [])))
@@ -108,7 +110,9 @@ made-within w legal n c list most before rest e at listed in_most none split own
 -- ---- the first entry
 
 -- where what was left before the first call is no more than a number, no more calls were made
-pub made-below : (w : World) → Legal w → (n : ℕ) (c : Placed) (list : NetList) (most bound : ℕ) → slice_get (commands_of w.plan) n ≡ Some c → list_for w.plan c.command ≡ Some list → AddsInAtMost list c.command most
+pub made-below : (w : World) → Legal w → (n : ℕ) (c : Placed) (list : NetList) (most bound : ℕ)
+    → slice_get (commands_of w.plan) n ≡ Some c → list_for w.plan c.command ≡ Some list
+    → AddsInAtMost list c.command most
     → IsNoCollection (start_state list c.command) → ((s : Share) → calls_left most list c.command (start_state list c.command) s ≤ bound) → length (own_replies w n) ≤ bound
 made-below w legal n c list most bound at listed in_most none few = elim (entry_or_none n w.history) [
   | inl nothing ↦

@@ -37,11 +37,13 @@ length-interfaces : (interfaces : List Interface) → length (first_interface in
 length-interfaces [] = omega arith
 length-interfaces (i ∷ is) = length-mac i.name i.mac
 
-length-bridge : (bridge : Option (List ℕ)) (interfaces : List Interface) → length (bridge_questions bridge interfaces) ≤ 1
+length-bridge : (bridge : Option (List ℕ)) (interfaces : List Interface)
+    → length (bridge_questions bridge interfaces) ≤ 1
 length-bridge None interfaces = omega arith
 length-bridge (Some bridge) interfaces = length-interfaces interfaces
 
-length-check : (list : NetList) (c : Command) (cached : Cached) → length (check_questions list c cached) ≤ 1 + asked_of (cached_share list c cached)
+length-check : (list : NetList) (c : Command) (cached : Cached)
+    → length (check_questions list c cached) ≤ 1 + asked_of (cached_share list c cached)
 unfolding check_questions
 length-check list c cached =
     let a = length-append (bridge_questions (bridge_of list.first) cached.result.interfaces) (share_questions (cached_share list c cached)) in
@@ -68,32 +70,38 @@ pub record StartsIn (most : ℕ) (list : NetList) (c : Command) (s : State) (bou
   pub none : IsNoCollection s
   pub few : (had : Share) → calls_left most list c s had ≤ bound had
 
-start-over : (most : ℕ) (list : NetList) (c : Command) (bound : Share → ℕ) (ending : Ending) → StartsIn most list c (Over ending []) bound
+start-over : (most : ℕ) (list : NetList) (c : Command) (bound : Share → ℕ) (ending : Ending)
+    → StartsIn most list c (Over ending []) bound
 start-over most list c bound ending = record { none = tt; few = λ had. omega arith }
 
-start-asking : (most : ℕ) (list : NetList) (c : Command) (questions : List Question) → StartsIn most list c (asking questions) (λ had. length questions)
+start-asking : (most : ℕ) (list : NetList) (c : Command) (questions : List Question)
+    → StartsIn most list c (asking questions) (λ had. length questions)
 start-asking most list c questions = record { none = none-asking questions; few = left-asking most list c questions }
 
 -- what is left to a command of this verb before its first call
 abbrev Starts : ℕ → NetList → Command → Verb → (Share → ℕ) → Type 0
 Starts most list c verb bound = StartsIn most list c (start_of list verb c) bound
 
-start-add : (most : ℕ) (list : NetList) (c : Command) → Starts most list c verbs.Add (λ had. 2 * most + length (kinds_of list) + 1)
+start-add : (most : ℕ) (list : NetList) (c : Command)
+    → Starts most list c verbs.Add (λ had. 2 * most + length (kinds_of list) + 1)
 start-add most list c =
     let bound : Share → ℕ = λ had. 2 * most + length (kinds_of list) + 1 in
     by-unless (λ s. StartsIn most list c s bound) (add_refusal c) AtBegin (λ cause. start-over most list c bound (Refused cause)) (λ none. record { none = tt; few = λ had. omega arith })
 
-start-del : (most : ℕ) (list : NetList) (c : Command) → Starts most list c verbs.Del (λ had. length (kinds_of list) + 1 + deletions_of had)
+start-del : (most : ℕ) (list : NetList) (c : Command)
+    → Starts most list c verbs.Del (λ had. length (kinds_of list) + 1 + deletions_of had)
 start-del most list c =
     let bound : Share → ℕ = λ had. length (kinds_of list) + 1 + deletions_of had in
     by-unless (λ s. StartsIn most list c s bound) (del_refusal c) (ReadingCache Yes) (λ cause. start-over most list c bound (Refused cause)) (λ none. record { none = tt; few = λ had. omega arith })
 
-start-status : (most : ℕ) (list : NetList) (c : Command) → Starts most list c verbs.Status (λ had. length (status_questions list c))
+start-status : (most : ℕ) (list : NetList) (c : Command)
+    → Starts most list c verbs.Status (λ had. length (status_questions list c))
 start-status most list c =
     let bound : Share → ℕ = λ had. length (status_questions list c) in
     by-unless_old (λ s. StartsIn most list c s bound) list.version (asking (status_questions list c)) (λ cause. start-over most list c bound (Refused cause)) (start-asking most list c (status_questions list c))
 
-start-outside : (most : ℕ) (list : NetList) (c : Command) (verb : Verb) → is_of_network verb ≡ false → Starts most list c verb (λ had. 0)
+start-outside : (most : ℕ) (list : NetList) (c : Command) (verb : Verb) → is_of_network verb ≡ false
+    → Starts most list c verb (λ had. 0)
 start-outside most list c verbs.NsAdd is = start-over most list c (λ had. 0) Yes
 start-outside most list c verbs.NsDel is = start-over most list c (λ had. 0) Yes
 start-outside most list c verbs.Drop is = start-over most list c (λ had. 0) Yes
@@ -102,11 +110,14 @@ start-outside most list c _ is = cc
 
 -- ---- a command by its verb
 
-starts-by : (most : ℕ) (list : NetList) (c : Command) (verb : Verb) (bound : Share → ℕ) → c.verb ≡ verb → Starts most list c verb bound → StartsIn most list c (start_state list c) bound
+starts-by : (most : ℕ) (list : NetList) (c : Command) (verb : Verb) (bound : Share → ℕ) → c.verb ≡ verb
+    → Starts most list c verb bound → StartsIn most list c (start_state list c) bound
 starts-by most list c verb bound is starts = subst (λ v. Starts most list c v bound) (sym is) starts
 
 -- by what the attachment had before the first call
-by-start : (w : World) → Legal w → (n : ℕ) (c : Placed) (list : NetList) (bound : Share → ℕ) (before : List Entry) (first : Entry) → slice_get (commands_of w.plan) n ≡ Some c → list_for w.plan c.command ≡ Some list
+by-start : (w : World) → Legal w
+    → (n : ℕ) (c : Placed) (list : NetList) (bound : Share → ℕ) (before : List Entry) (first : Entry)
+    → slice_get (commands_of w.plan) n ≡ Some c → list_for w.plan c.command ≡ Some list
     → StartsIn (most_calls list c.command) list c.command (start_state list c.command) bound → IsFirst w n before first → length (own_replies w n) ≤ bound (objects_after w.plan (att_of c.command) before)
 by-start w legal n c list bound before first at listed starts is =
     let made = (made-within w legal n c list (most_calls list c.command) before is.rest first at listed (adds_in_most_calls list c.command) starts.none is.split is.own is.none_before).0 in
@@ -120,34 +131,42 @@ pub record AsksIn (list : NetList) (c : Command) (s : State) (r : Reply) (bound 
   pub none : IsNoCollection s
   pub few : (had : Share) → calls_left (most_calls list c) list c (advance list c 1 s r) had ≤ bound
 
-over-asks : (list : NetList) (c : Command) (ending : Ending) (given : List Addr) (r : Reply) (bound : ℕ) → AsksIn list c (Over ending given) r bound
+over-asks : (list : NetList) (c : Command) (ending : Ending) (given : List Addr) (r : Reply) (bound : ℕ)
+    → AsksIn list c (Over ending given) r bound
 unfolding advance
 over-asks list c ending given r bound = record { none = tt; few = λ had. omega arith }
 
-check-asks : (list : NetList) (c : Command) (r : Reply) (bound : ℕ) → AsksIn list c FindingEntry r bound → AsksIn list c (start_of list verbs.Check c) r bound
+check-asks : (list : NetList) (c : Command) (r : Reply) (bound : ℕ) → AsksIn list c FindingEntry r bound
+    → AsksIn list c (start_of list verbs.Check c) r bound
 check-asks list c r bound h =
     let over : (ending : Ending) → AsksIn list c (Over ending []) r bound = λ ending. over-asks list c ending [] r bound in
     by-unless (λ s. AsksIn list c s r bound) (del_refusal c) (if list.disable_check then Over (Skipped skips.Check) [] else FindingEntry) (λ cause. over (Refused cause))
     (λ none. by-either (λ s. AsksIn list c s r bound) list.disable_check (Over (Skipped skips.Check) []) FindingEntry (over (Skipped skips.Check)) h)
 
-found-asks : (list : NetList) (c : Command) (cached : Cached) → AsksIn list c FindingEntry (Found (Some cached)) (length (check_questions list c cached))
+found-asks : (list : NetList) (c : Command) (cached : Cached)
+    → AsksIn list c FindingEntry (Found (Some cached)) (length (check_questions list c cached))
 unfolding advance
 found-asks list c cached = record { none = tt; few = left-asking (most_calls list c) list c (check_questions list c cached) }
 
-no-entry : (list : NetList) (c : Command) (o : Option Cached) (had : Share) → ((cached : Cached) → o ≢ Some cached) → calls_left (most_calls list c) list c (checking list c o) had ≤ 0
+no-entry : (list : NetList) (c : Command) (o : Option Cached) (had : Share) → ((cached : Cached) → o ≢ Some cached)
+    → calls_left (most_calls list c) list c (checking list c o) had ≤ 0
 no-entry list c None had not = omega arith
 no-entry list c (Some cached) had not = absurd (not cached refl)
 
-left-unknown : (list : NetList) (c : Command) (r : Reply) (had : Share) → ((cached : Cached) → r ≢ Found (Some cached)) → calls_left (most_calls list c) list c (at_entry list c 1 r) had ≤ 0
+left-unknown : (list : NetList) (c : Command) (r : Reply) (had : Share) → ((cached : Cached) → r ≢ Found (Some cached))
+    → calls_left (most_calls list c) list c (at_entry list c 1 r) had ≤ 0
 left-unknown list c (Found o) had not = no-entry list c o had (λ cached is. not cached (ap Found is))
 left-unknown list c _ had not = omega arith
 
-unknown-asks : (list : NetList) (c : Command) (r : Reply) → ((cached : Cached) → r ≢ Found (Some cached)) → AsksIn list c FindingEntry r 0
+unknown-asks : (list : NetList) (c : Command) (r : Reply) → ((cached : Cached) → r ≢ Found (Some cached))
+    → AsksIn list c FindingEntry r 0
 unfolding advance
 unknown-asks list c r not = record { none = tt; few = λ had. left-unknown list c r had not }
 
 -- by its first reply
-by-first : (w : World) → Legal w → (n : ℕ) (c : Placed) (list : NetList) (bound : ℕ) (before : List Entry) (first : Entry) → slice_get (commands_of w.plan) n ≡ Some c → list_for w.plan c.command ≡ Some list → c.command.verb ≡ verbs.Check
+by-first : (w : World) → Legal w
+    → (n : ℕ) (c : Placed) (list : NetList) (bound : ℕ) (before : List Entry) (first : Entry)
+    → slice_get (commands_of w.plan) n ≡ Some c → list_for w.plan c.command ≡ Some list → c.command.verb ≡ verbs.Check
     → AsksIn list c.command FindingEntry first.reply bound → IsFirst w n before first → length (own_replies w n) ≤ 1 + bound
 by-first w legal n c list bound before first at listed verb asks is =
     let start : AsksIn list c.command (start_state list c.command) first.reply bound =
@@ -186,7 +205,9 @@ run_is_bounded w legal n c list at listed =
           nil_from_length (own_replies w n) (omega arith);
     }
 
-one-by-list : (w : World) → Legal w → (n : ℕ) (c : Placed) (o : Option NetList) → slice_get (commands_of w.plan) n ≡ Some c → is_of_network c.command.verb ≡ false → list_for w.plan c.command ≡ o → length (own_replies w n) ≤ 1
+one-by-list : (w : World) → Legal w → (n : ℕ) (c : Placed) (o : Option NetList)
+    → slice_get (commands_of w.plan) n ≡ Some c → is_of_network c.command.verb ≡ false → list_for w.plan c.command ≡ o
+    → length (own_replies w n) ≤ 1
 one-by-list w legal n c None at is by = one-call w legal n c at by
 one-by-list w legal n c (Some list) at is by =
     let most = most_calls list c.command in

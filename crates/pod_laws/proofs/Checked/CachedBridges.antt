@@ -52,12 +52,14 @@ bridge-no_veth (link_kinds.Macvlan mode) h = refl
 bridge-no_veth link_kinds.Dummy h = refl
 bridge-no_veth (link_kinds.Vlan id) h = refl
 
-bridge-alone : (links : List Link) (l : Link) (o : Option LinkKey) → peer_fits links l o ≡ true → is_bridge l.kind ≡ true → o ≡ None
+bridge-alone : (links : List Link) (l : Link) (o : Option LinkKey) → peer_fits links l o ≡ true
+    → is_bridge l.kind ≡ true → o ≡ None
 bridge-alone links l None fits bridge = refl
 bridge-alone links l (Some key) fits bridge = let apart = bridge-no_veth l.kind bridge in grind (arith, fits, apart)
 
 -- links go, and none of them stands in the host's own namespace without a peer
-stays-beside : (name : List ℕ) (gone : Link → Bool) (host : Host) → IsSound host → ((l : Link) → is_host_ns l.ns ≡ true → l.peer ≡ None → gone l ≡ false) → has_host_bridge host name ≡ true
+stays-beside : (name : List ℕ) (gone : Link → Bool) (host : Host) → IsSound host
+    → ((l : Link) → is_host_ns l.ns ≡ true → l.peer ≡ None → gone l ≡ false) → has_host_bridge host name ≡ true
     → list_any (is_host_bridge name) (filter (λ l. not (gone l)) host.links) ≡ true
 stays-beside name gone host sound stays there =
     let none : list_any (λ l. is_host_bridge name l && not (not (gone l))) host.links ≡ false =
@@ -76,19 +78,22 @@ stays-beside name gone host sound stays there =
 apart-places : (a b : List ℕ) → is_host_ns a ≡ true → is_host_ns b ≡ false → bytes_eq a b ≡ false
 apart-places a b outer inner = false_from_ne_true (bytes_eq a b) (λ same. both_ways (is_host_ns b) inner (ap is_host_ns (sym ((bytes_eq-Decides a b).0 same)) ∙ outer))
 
-stays-in_ns : (ns : List ℕ) → is_host_ns ns ≡ false → (l : Link) → is_host_ns l.ns ≡ true → l.peer ≡ None → goes_with_ns ns l ≡ false
+stays-in_ns : (ns : List ℕ) → is_host_ns ns ≡ false → (l : Link) → is_host_ns l.ns ≡ true → l.peer ≡ None
+    → goes_with_ns ns l ≡ false
 stays-in_ns ns inner l outer alone =
     let apart : bytes_eq l.ns ns ≡ false = apart-places l.ns ns outer inner in
     let no_peer : has_peer_in ns l.peer ≡ false = ap (has_peer_in ns) alone in
     grind (arith, apart, no_peer)
 
-stays-at : (ns name : List ℕ) → is_host_ns ns ≡ false → (l : Link) → is_host_ns l.ns ≡ true → l.peer ≡ None → goes_with ns name l ≡ false
+stays-at : (ns name : List ℕ) → is_host_ns ns ≡ false → (l : Link) → is_host_ns l.ns ≡ true → l.peer ≡ None
+    → goes_with ns name l ≡ false
 stays-at ns name inner l outer alone =
     let apart : bytes_eq l.ns ns ≡ false = apart-places l.ns ns outer inner in
     let no_peer : is_peer_at ns name l.peer ≡ false = ap (is_peer_at ns name) alone in
     grind (arith, apart, no_peer)
 
-stays-dropped : (name : List ℕ) (host : Host) (key : LinkKey) (o : Option Link) → link_at host key.ns key.name ≡ o → is_host_ns key.ns ≡ false → IsSound host → has_host_bridge host name ≡ true
+stays-dropped : (name : List ℕ) (host : Host) (key : LinkKey) (o : Option Link) → link_at host key.ns key.name ≡ o
+    → is_host_ns key.ns ≡ false → IsSound host → has_host_bridge host name ≡ true
     → has_host_bridge (without_link host o).0 name ≡ true
 stays-dropped name host key None found inner sound there = there
 stays-dropped name host key (Some link) found inner sound there =
@@ -96,7 +101,8 @@ stays-dropped name host key (Some link) found inner sound there =
     let place : link.ns ≡ key.ns = (bytes_eq-Decides link.ns key.ns).0 (and_parts (bytes_eq link.ns key.ns) (bytes_eq link.name key.name) at).0 in
     stays-beside name (goes_with link.ns link.name) host sound (stays-at link.ns link.name (ap is_host_ns place ∙ inner)) there
 
-stays-outside : (name : List ℕ) (host : Host) (call : Call) → IsSound host → IsAllowed host call → is_from_outside call ≡ true → has_host_bridge host name ≡ true → has_host_bridge (apply host call).0 name ≡ true
+stays-outside : (name : List ℕ) (host : Host) (call : Call) → IsSound host → IsAllowed host call
+    → is_from_outside call ≡ true → has_host_bridge host name ≡ true → has_host_bridge (apply host call).0 name ≡ true
 stays-outside name host (NsChange ns true) sound allowed from there = by_test (λ (step : Host × Reply). has_host_bridge step.0 name ≡ true) (has_named_ns host ns) _ _ (λ _. there) (λ _. there)
 stays-outside name host (NsChange ns false) sound allowed from there =
     by_test (λ (step : Host × Reply). has_host_bridge step.0 name ≡ true) (has_named_ns host ns) _ _ (λ _. stays-beside name (goes_with_ns ns) host sound (stays-in_ns ns allowed) there) (λ _. there)
@@ -105,11 +111,15 @@ stays-outside name host (Outside (DropLink key)) sound allowed from there =
 stays-outside name host (Outside (Flush table)) sound allowed from there = there
 stays-outside name host _ sound allowed from there = cc
 
-bridge-outside : (o : Option (List ℕ)) (host : Host) (call : Call) → IsSound host → IsAllowed host call → is_from_outside call ≡ true → master_is_bridge_or_none host o ≡ true → master_is_bridge_or_none (apply host call).0 o ≡ true
+bridge-outside : (o : Option (List ℕ)) (host : Host) (call : Call) → IsSound host → IsAllowed host call
+    → is_from_outside call ≡ true → master_is_bridge_or_none host o ≡ true
+    → master_is_bridge_or_none (apply host call).0 o ≡ true
 bridge-outside None host call sound allowed from there = refl
 bridge-outside (Some name) host call sound allowed from there = stays-outside name host call sound allowed from there
 
-bridge-changed : (first : First) (w : World) (n : ℕ) (c : Placed) (call : Call) (faulty : Bool) → Changes w n c call faulty → BridgeIn first (host_of w) → BridgeIn first (after_entry (host_of w) (entry_of (host_of w) n call faulty))
+bridge-changed : (first : First) (w : World) (n : ℕ) (c : Placed) (call : Call) (faulty : Bool)
+    → Changes w n c call faulty → BridgeIn first (host_of w)
+    → BridgeIn first (after_entry (host_of w) (entry_of (host_of w) n call faulty))
 bridge-changed first w n c call faulty on there =
     on-entry (BridgeIn first) (host_of w) n call faulty there
     (λ f. bridge-outside (bridge_of first) (host_of w) call (sound_host w on.legal) (on.allowed f) (change-of w n c call faulty on).call_is there)
@@ -125,7 +135,8 @@ HasNoneAfter att k call = HasNoCached att (apply k call).0
 none-removes : (att : Att) (old new : Host) → OnlyRemoves old new → HasNoCached att old → HasNoCached att new
 none-removes att old new removes none = still_none (λ c. is_own att c.tag) (λ c. true) old.cached new.cached removes.cached none
 
-none-aside : (att : Att) (c : Command) (k : Host) (call : Call) → IsSound k → AsksOrCollects c call → HasNoCached att k → HasNoneAfter att k call
+none-aside : (att : Att) (c : Command) (k : Host) (call : Call) → IsSound k → AsksOrCollects c call → HasNoCached att k
+    → HasNoneAfter att k call
 none-aside att c k call sound (inl asked) none = subst (HasNoCached att) (sym (question-leaves k call asked)) none
 none-aside att c k call sound (inr collected) none =
     subst (HasNoneAfter att k) collected.deletes (none-removes att k (apply k (deletion collected.att collected.kind)).0 (removes-deletion collected.att k collected.kind sound) none)
@@ -138,23 +149,28 @@ entries-same : (s : Share) (call : Call) → not (caches call) ≡ true → (sha
 entries-same s (CachePut att cached) h = cc
 entries-same s _ h = refl
 
-none-of_plugins : (att : Att) (k : Host) (call : Call) → is_plugin_call_of att call ≡ true → not (caches call) ≡ true → HasNoCached att k → HasNoneAfter att k call
+none-of_plugins : (att : Att) (k : Host) (call : Call) → is_plugin_call_of att call ≡ true → not (caches call) ≡ true
+    → HasNoCached att k → HasNoneAfter att k call
 none-of_plugins att k call own h none = elim (done_or_not (apply k call).1) [
   | inl done ↦ ap (λ (s : Share). s.cached) (share-own att k call own done) ∙ entries-same (share_of att k) call h ∙ none
   | inr refused ↦ subst (HasNoCached att) (sym (refused-same att k call own refused)) none
 ]
 
-interface-caches_none : (bridge : Option (List ℕ)) (call : Call) → makes_interface bridge call ≡ true → not (caches call) ≡ true
+interface-caches_none : (bridge : Option (List ℕ)) (call : Call) → makes_interface bridge call ≡ true
+    → not (caches call) ≡ true
 interface-caches_none bridge (CachePut att cached) h = cc
 interface-caches_none bridge _ h = refl
 
-before-caches_none : (first : First) (att : Att) (netns : List ℕ) → list_all (λ x. not (caches x)) (calls_before first att netns) ≡ true
+before-caches_none : (first : First) (att : Att) (netns : List ℕ)
+    → list_all (λ x. not (caches x)) (calls_before first att netns) ≡ true
 before-caches_none first att netns = list_all-weaker (makes_interface (bridge_of first)) (λ x. not (caches x)) (interface-caches_none (bridge_of first)) (calls_before first att netns) ((first_laws first).before att netns).make_interface
 
 -- ---- one call
 
 -- a run's own call caches nothing, or the bridge of its list is there
-own-call : (list : NetList) (c : Command) (es : List Entry) (st : State) (k : Host) (call : Call) → LeftAreOfPlugins list c st → LeftFit list c st → IsSound k → turn c st ≡ Calls call → Achieved list c es st (share_of (att_of c) k) → HasBridge list st k
+own-call : (list : NetList) (c : Command) (es : List Entry) (st : State) (k : Host) (call : Call)
+    → LeftAreOfPlugins list c st → LeftFit list c st → IsSound k → turn c st ≡ Calls call
+    → Achieved list c es st (share_of (att_of c) k) → HasBridge list st k
     → HasNoCached (att_of c) k → HasNoneAfter (att_of c) k call ⊎ BridgeIn list.first k
 unfolding turn
 own-call list c es AtBegin k call left fit sound is ach bridge none = inl (subst (HasNoneAfter (att_of c) k) (let e : Begin (att_of c) c.netns ≡ call = cc in e) none)
@@ -179,7 +195,8 @@ own-call list c es (Over ending given) k call left fit sound is ach bridge none 
 abbrev NoneOrBridge : Att → NetList → Host → Type 0
 NoneOrBridge att list host = HasNoCached att host ⊎ BridgeIn list.first host
 
-own-entered : (w : World) (n : ℕ) (c : Placed) (list : NetList) (call : Call) (faulty : Bool) → GoesOn w n c list call faulty → HasNoCached (att_of c.command) (host_of w)
+own-entered : (w : World) (n : ℕ) (c : Placed) (list : NetList) (call : Call) (faulty : Bool)
+    → GoesOn w n c list call faulty → HasNoCached (att_of c.command) (host_of w)
     → NoneOrBridge (att_of c.command) list (after_entry (host_of w) (entry_of (host_of w) n call faulty))
 own-entered w n c list call faulty on none =
     let k = host_of w in
@@ -192,7 +209,8 @@ own-entered w n c list call faulty on none =
       | inr there ↦ inr (bridge-entered list.first w n c list call faulty on there)
     ]
 
-other-entered : (w : World) (n : ℕ) (c : Placed) (list : NetList) (call : Call) (faulty : Bool) (att : Att) → GoesOn w n c list call faulty → att_eq (att_of c.command) att ≡ false → HasNoCached att (host_of w)
+other-entered : (w : World) (n : ℕ) (c : Placed) (list : NetList) (call : Call) (faulty : Bool) (att : Att)
+    → GoesOn w n c list call faulty → att_eq (att_of c.command) att ≡ false → HasNoCached att (host_of w)
     → HasNoCached att (after_entry (host_of w) (entry_of (host_of w) n call faulty))
 other-entered w n c list call faulty att on apart none =
     let sound = sound_host w on.legal in
@@ -247,7 +265,8 @@ names-kept : (cs : List Chained) (r : AddResult) → names_of (all_chained_resul
 names-kept [] r = refl
 names-kept (c ∷ cs) r = names-kept cs (chained_result c r) ∙ (chained_laws c).keeps_names r
 
-result-names : (list : NetList) (att : Att) (netns : List ℕ) (addrs : List Addr) → names_first (bridge_of list.first) (names_of (result_of_add list att netns addrs)) ≡ true
+result-names : (list : NetList) (att : Att) (netns : List ℕ) (addrs : List Addr)
+    → names_first (bridge_of list.first) (names_of (result_of_add list att netns addrs)) ≡ true
 unfolding result_of_add
 result-names list att netns addrs = ap (names_first (bridge_of list.first)) (names-kept list.chained _) ∙ (first_laws list.first).names_bridge att netns _
 
@@ -258,12 +277,15 @@ abbrev pub has_bridge_named : Host → Option (List ℕ) → List Interface → 
 has_bridge_named host (Some bridge) (i ∷ is) = has_host_bridge host i.name
 has_bridge_named host bridge interfaces = true
 
-is-named : (host : Host) (bridge : Option (List ℕ)) (interfaces : List Interface) → names_first bridge (map (λ i. i.name) interfaces) ≡ true → master_is_bridge_or_none host bridge ≡ true → has_bridge_named host bridge interfaces ≡ true
+is-named : (host : Host) (bridge : Option (List ℕ)) (interfaces : List Interface)
+    → names_first bridge (map (λ i. i.name) interfaces) ≡ true → master_is_bridge_or_none host bridge ≡ true
+    → has_bridge_named host bridge interfaces ≡ true
 is-named host None interfaces names there = refl
 is-named host (Some bridge) [] names there = refl
 is-named host (Some bridge) (i ∷ is) names there = ap (has_host_bridge host) ((bytes_eq-Decides i.name bridge).0 names) ∙ there
 
-entry-names : (p : Plan) (h : List Entry) (att : Att) (list : NetList) (cached : Cached) → HasNothingUnasked p h att → list_named p.lists att.network ≡ Some list → cached_in (after p.pods.opening h) att ≡ Some cached
+entry-names : (p : Plan) (h : List Entry) (att : Att) (list : NetList) (cached : Cached) → HasNothingUnasked p h att
+    → list_named p.lists att.network ≡ Some list → cached_in (after p.pods.opening h) att ≡ Some cached
     → names_first (bridge_of list.first) (names_of cached.result) ≡ true
 entry-names p h att list cached asked listed is =
     let by = entry_of_its_add p h att cached asked is in
@@ -287,7 +309,8 @@ named-there w legal att list cached listed is =
       | inr there ↦ there
     ])
 
-pub always-named : (w : World) → Legal w → (before rest : List Entry) → w.history ≡ before ++ rest → NamedAreThere w.plan before
+pub always-named : (w : World) → Legal w → (before rest : List Entry) → w.history ≡ before ++ rest
+    → NamedAreThere w.plan before
 always-named w legal before rest at =
     let f = each_prefix w legal before rest at in
     subst (λ (p : Plan). NamedAreThere p before) f.plan_is (subst (NamedAreThere f.world.plan) f.history_is (named-there f.world f.legal))

@@ -24,10 +24,12 @@ pub record AreOwn (att : Att) (s : Share) : Type 0 where
   pub settings : list_all (λ x. is_own att x.tag) s.settings ≡ true
   pub leases : list_all (λ x. is_own att x.tag) s.leases ≡ true
 
-own-more : {X : Type 0} (p : X → Bool) (xs : List X) (x : X) → list_all p xs ≡ true → p x ≡ true → list_all p (xs ++ x ∷ []) ≡ true
+own-more : {X : Type 0} (p : X → Bool) (xs : List X) (x : X) → list_all p xs ≡ true → p x ≡ true
+    → list_all p (xs ++ x ∷ []) ≡ true
 own-more p xs x all one = list_all-append p xs (x ∷ []) all (and_from (p x) true one refl)
 
-own-call : (att : Att) (s : Share) (call : Call) → is_call_of att call ≡ true → AreOwn att s → AreOwn att (share_after_call s call)
+own-call : (att : Att) (s : Share) (call : Call) → is_call_of att call ≡ true → AreOwn att s
+    → AreOwn att (share_after_call s call)
 own-call att s (VethAdd h i) own w =
     let both = and_parts (is_own att h.tag) (is_own att i.tag) own in
     record { links = list_all-append (λ x. is_own att x.tag) s.links (h ∷ i ∷ []) w.links (grind (arith, both.0, both.1)); addresses = w.addresses; routes = w.routes; rules = w.rules; settings = w.settings; leases = w.leases }
@@ -47,7 +49,8 @@ own-call att s (SettingSet x) own w = record { links = w.links; addresses = w.ad
 own-call att s (CachePut a cached) own w = record { links = w.links; addresses = w.addresses; routes = w.routes; rules = w.rules; settings = w.settings; leases = w.leases }
 own-call att s _ own w = w
 
-own-calls : (att : Att) (s : Share) (calls : List Call) → list_all (is_call_of att) calls ≡ true → AreOwn att s → AreOwn att (share_after_calls s calls)
+own-calls : (att : Att) (s : Share) (calls : List Call) → list_all (is_call_of att) calls ≡ true → AreOwn att s
+    → AreOwn att (share_after_calls s calls)
 own-calls att s [] own w = w
 own-calls att s (x ∷ xs) own w =
     let both = and_parts (is_call_of att x) (list_all (is_call_of att) xs) own in
@@ -57,7 +60,8 @@ own-leases : (att : Att) (given : List Addr) → AreOwn att (only_leases att giv
 own-leases att given =
     record { links = refl; addresses = refl; routes = refl; rules = refl; settings = refl; leases = list_all-every (λ x. is_own att x.tag) (lease_of att) (λ a. att_eq-refl att) given }
 
-pub own-wanted : (list : NetList) (att : Att) (netns : List ℕ) (mappings : List PortMapping) (addrs : List Addr) → AreOwn att (wanted list att netns mappings addrs)
+pub own-wanted : (list : NetList) (att : Att) (netns : List ℕ) (mappings : List PortMapping) (addrs : List Addr)
+    → AreOwn att (wanted list att netns mappings addrs)
 own-wanted list att netns mappings addrs =
     let of_plugins = make_the_wanted list att netns mappings addrs in
     subst (AreOwn att) of_plugins.adds (own-calls att (only_leases att addrs) (add_calls list att netns mappings addrs) of_plugins.own (own-leases att addrs))

@@ -39,7 +39,8 @@ pub record IsSteadyQuestion (c : Command) (q : Question) : Type 0 where
   pub stays : (old new : Host) → KeepsAsked c old new → grants old q ≡ true → grants new q ≡ true
 
 -- what is the attachment's is among its share
-same-own : {X : Type 0} (p own : X → Bool) → ((x : X) → p x ≡ true → own x ≡ true) → (old new : List X) → filter own new ≡ filter own old → list_any p old ≡ true → list_any p new ≡ true
+same-own : {X : Type 0} (p own : X → Bool) → ((x : X) → p x ≡ true → own x ≡ true) → (old new : List X)
+    → filter own new ≡ filter own old → list_any p old ≡ true → list_any p new ≡ true
 same-own p own w old new same there = sym (any-filter_same p own true w new) ∙ ap (list_any p) same ∙ any-filter_same p own true w old ∙ there
 
 and-fifth : (a b d e r : Bool) → (a && (b && (d && (e && r)))) ≡ true → r ≡ true
@@ -109,7 +110,8 @@ steady-lease : (c : Command) (l : Lease) → is_own (att_of c) l.tag ≡ true �
 steady-lease c l own =
     steady-object c lease_eq (λ y. y.tag) (λ host. host.leases) (lease_question l) l (missed.Lease l.addr) lease-tag (λ old new keeps. ap (λ (s : Share). s.leases) keeps.share) (λ host. refl) refl refl own
 
-steady-rules : (c : Command) (number : ℕ) (rules : List Rule) → list_all (λ r. is_own (att_of c) r.tag) rules ≡ true → AllByRecursion (IsSteadyQuestion c) (rule_questions number rules)
+steady-rules : (c : Command) (number : ℕ) (rules : List Rule) → list_all (λ r. is_own (att_of c) r.tag) rules ≡ true
+    → AllByRecursion (IsSteadyQuestion c) (rule_questions number rules)
 steady-rules c number [] h = tt
 steady-rules c number (r ∷ rs) h =
     let own : is_own (att_of c) r.tag ≡ true = grind (arith, h) in
@@ -130,19 +132,23 @@ steady-share c s own =
     (each-append P (map setting_question s.settings) (map lease_question s.leases) (each-map_of P setting_question (λ x. is_own (att_of c) x.tag) (steady-setting c) s.settings own.settings)
     (each-map_of P lease_question (λ x. is_own (att_of c) x.tag) (steady-lease c) s.leases own.leases)))))
 
-steady-mac : (c : Command) (name : List ℕ) (mac : Option Mac) → AllByRecursion (IsSteadyQuestion c) (bridge_by_mac name mac)
+steady-mac : (c : Command) (name : List ℕ) (mac : Option Mac)
+    → AllByRecursion (IsSteadyQuestion c) (bridge_by_mac name mac)
 steady-mac c name None = tt
 steady-mac c name (Some mac) = (record { told = refl; what = missed.Bridge name; lack = refl; stays = λ old new keeps there. keeps.bridges name mac there }, tt)
 
-steady-interfaces : (c : Command) (interfaces : List Interface) → AllByRecursion (IsSteadyQuestion c) (first_interface interfaces)
+steady-interfaces : (c : Command) (interfaces : List Interface)
+    → AllByRecursion (IsSteadyQuestion c) (first_interface interfaces)
 steady-interfaces c [] = tt
 steady-interfaces c (i ∷ is) = steady-mac c i.name i.mac
 
-steady-bridge : (c : Command) (bridge : Option (List ℕ)) (interfaces : List Interface) → AllByRecursion (IsSteadyQuestion c) (bridge_questions bridge interfaces)
+steady-bridge : (c : Command) (bridge : Option (List ℕ)) (interfaces : List Interface)
+    → AllByRecursion (IsSteadyQuestion c) (bridge_questions bridge interfaces)
 steady-bridge c None interfaces = tt
 steady-bridge c (Some bridge) interfaces = steady-interfaces c interfaces
 
-pub steady-questions : (list : NetList) (c : Command) (cached : Cached) → AllByRecursion (IsSteadyQuestion c) (check_questions list c cached)
+pub steady-questions : (list : NetList) (c : Command) (cached : Cached)
+    → AllByRecursion (IsSteadyQuestion c) (check_questions list c cached)
 unfolding check_questions
 steady-questions list c cached =
     each-append (IsSteadyQuestion c) (bridge_questions (bridge_of list.first) cached.result.interfaces) (share_questions (cached_share list c cached)) (steady-bridge c (bridge_of list.first) cached.result.interfaces)
@@ -151,10 +157,12 @@ steady-questions list c cached =
 -- ---- all are granted where the host holds what the cached result says
 
 -- the first list is this, and the second that
-all-parts : {X : Type 0} (p : X → Bool) (xs ys : List X) (a b : Bool) → list_all p xs ≡ a → list_all p ys ≡ b → list_all p (xs ++ ys) ≡ (a && b)
+all-parts : {X : Type 0} (p : X → Bool) (xs ys : List X) (a b : Bool) → list_all p xs ≡ a → list_all p ys ≡ b
+    → list_all p (xs ++ ys) ≡ (a && b)
 all-parts p xs ys a b h g = list_all-append p xs ys ∙ ap (λ t. t && list_all p ys) h ∙ ap (λ t. a && t) g
 
-granted-rules : (host : Host) (number : ℕ) (rules : List Rule) → list_all (grants host) (rule_questions number rules) ≡ are_in rule_eq rules host.rules
+granted-rules : (host : Host) (number : ℕ) (rules : List Rule)
+    → list_all (grants host) (rule_questions number rules) ≡ are_in rule_eq rules host.rules
 granted-rules host number [] = refl
 granted-rules host number (r ∷ rs) = ap (λ b. list_any (λ y. rule_eq y r) host.rules && b) (granted-rules host (number + 1) rs)
 
@@ -168,19 +176,23 @@ granted-share host s =
     (all-parts p (map setting_question s.settings) (map lease_question s.leases) (are_in setting_eq s.settings host.settings) (are_in lease_eq s.leases host.leases) (lists.list_all-map p setting_question s.settings)
     (lists.list_all-map p lease_question s.leases)))))
 
-granted-mac : (host : Host) (name : List ℕ) (mac : Option Mac) → list_all (grants host) (bridge_by_mac name mac) ≡ has_bridge_by host name mac
+granted-mac : (host : Host) (name : List ℕ) (mac : Option Mac)
+    → list_all (grants host) (bridge_by_mac name mac) ≡ has_bridge_by host name mac
 granted-mac host name None = refl
 granted-mac host name (Some mac) = and-true _
 
-granted-interfaces : (host : Host) (interfaces : List Interface) → list_all (grants host) (first_interface interfaces) ≡ has_first_bridge host interfaces
+granted-interfaces : (host : Host) (interfaces : List Interface)
+    → list_all (grants host) (first_interface interfaces) ≡ has_first_bridge host interfaces
 granted-interfaces host [] = refl
 granted-interfaces host (i ∷ is) = granted-mac host i.name i.mac
 
-granted-bridge : (host : Host) (bridge : Option (List ℕ)) (interfaces : List Interface) → list_all (grants host) (bridge_questions bridge interfaces) ≡ has_bridge_for host bridge interfaces
+granted-bridge : (host : Host) (bridge : Option (List ℕ)) (interfaces : List Interface)
+    → list_all (grants host) (bridge_questions bridge interfaces) ≡ has_bridge_for host bridge interfaces
 granted-bridge host None interfaces = refl
 granted-bridge host (Some bridge) interfaces = granted-interfaces host interfaces
 
-pub granted-check : (list : NetList) (c : Command) (cached : Cached) (host : Host) → list_all (grants host) (check_questions list c cached) ≡ holds_cached list c cached host
+pub granted-check : (list : NetList) (c : Command) (cached : Cached) (host : Host)
+    → list_all (grants host) (check_questions list c cached) ≡ holds_cached list c cached host
 unfolding check_questions
 granted-check list c cached host =
     all-parts (grants host) (bridge_questions (bridge_of list.first) cached.result.interfaces) (share_questions (cached_share list c cached)) _ _ (granted-bridge host (bridge_of list.first) cached.result.interfaces)
@@ -188,7 +200,8 @@ granted-check list c cached host =
 
 -- ---- what stays
 
-pub granted-stay : (c : Command) (old new : Host) (qs : List Question) → KeepsAsked c old new → AllByRecursion (IsSteadyQuestion c) qs → list_all (grants old) qs ≡ true → list_all (grants new) qs ≡ true
+pub granted-stay : (c : Command) (old new : Host) (qs : List Question) → KeepsAsked c old new
+    → AllByRecursion (IsSteadyQuestion c) qs → list_all (grants old) qs ≡ true → list_all (grants new) qs ≡ true
 granted-stay c old new [] keeps each h = refl
 granted-stay c old new (q ∷ qs) keeps each h =
     let now : grants new q ≡ true = each.0.stays old new keeps (grind (arith, h)) in
@@ -196,7 +209,8 @@ granted-stay c old new (q ∷ qs) keeps each h =
     grind (arith, now, rest)
 
 -- the cached result is of the share
-pub cached-stays : (c : Command) (old new : Host) → KeepsAsked c old new → cached_in new (att_of c) ≡ cached_in old (att_of c)
+pub cached-stays : (c : Command) (old new : Host) → KeepsAsked c old new
+    → cached_in new (att_of c) ≡ cached_in old (att_of c)
 cached-stays c old new keeps =
     let own : CachedObj → Bool = λ x. is_own (att_of c) x.tag in
     ap (option_map (λ x. x.cached)) (find-first own new.cached ∙ ap (λ (s : Share). first_of s.cached) keeps.share ∙ sym (find-first own old.cached))

@@ -41,7 +41,8 @@ none-or-some [] = inl refl
 none-or-some (e ∷ es) = inr (λ none. cc)
 
 -- where there is an own entry, one more entry leaves what stands before the first
-until_first-more : (n : ℕ) (h : List Entry) (e : Entry) → own_entries n h ≢ [] → until_first n (h ++ e ∷ []) ≡ until_first n h
+until_first-more : (n : ℕ) (h : List Entry) (e : Entry) → own_entries n h ≢ []
+    → until_first n (h ++ e ∷ []) ≡ until_first n h
 until_first-more n [] e some = absurd (some refl)
 until_first-more n (x ∷ xs) e some = elim (cases_Bool (is_of n x)) [
   | inl own ↦ ap (λ b. if b then [] else x ∷ until_first n (xs ++ e ∷ [])) own ∙ sym (ap (λ b. if b then [] else x ∷ until_first n xs) own)
@@ -50,7 +51,8 @@ until_first-more n (x ∷ xs) e some = elim (cases_Bool (is_of n x)) [
       ap (λ b. if b then [] else x ∷ until_first n (xs ++ e ∷ [])) other ∙ ap (λ l. x ∷ l) (until_first-more n xs e later) ∙ sym (ap (λ b. if b then [] else x ∷ until_first n xs) other)
 ]
 
-keeps-on : (c : Command) (first middle last : Host) → KeepsAsked c first middle → KeepsAsked c middle last → KeepsAsked c first last
+keeps-on : (c : Command) (first middle last : Host) → KeepsAsked c first middle → KeepsAsked c middle last
+    → KeepsAsked c first last
 keeps-on c first middle last before later = record {
   share = later.share ∙ before.share;
   bridges = λ name mac there. later.bridges name mac (before.bridges name mac there);
@@ -97,13 +99,15 @@ from_start w legal = by-listed KeepsFromStart from_start-begun from_start-own fr
 
 -- ---- the objects of its share
 
-alike-any : {X : Type 0} (p own : X → Bool) → ((x : X) → p x ≡ true → own x ≡ true) → (old new : List X) → filter own new ≡ filter own old → list_any p old ≡ list_any p new
+alike-any : {X : Type 0} (p own : X → Bool) → ((x : X) → p x ≡ true → own x ≡ true) → (old new : List X)
+    → filter own new ≡ filter own old → list_any p old ≡ list_any p new
 alike-any p own w old new same = sym (any-filter_same p own true w old) ∙ ap (list_any p) (sym same) ∙ any-filter_same p own true w new
 
 alike-both : (a b c d : Bool) → a ≡ b → c ≡ d → (a && c) ≡ (b && d)
 alike-both a b c d h g = ap (λ t. t && c) h ∙ ap (λ t. b && t) g
 
-alike-list : {X : Type 0} (equal : X → X → Bool) (att : Att) (tag : X → Tag) → ((a b : X) → equal a b ≡ true → tag_eq (tag a) (tag b) ≡ true) → (old new : List X)
+alike-list : {X : Type 0} (equal : X → X → Bool) (att : Att) (tag : X → Tag)
+    → ((a b : X) → equal a b ≡ true → tag_eq (tag a) (tag b) ≡ true) → (old new : List X)
     → filter (λ y. is_own att (tag y)) new ≡ filter (λ y. is_own att (tag y)) old → (xs : List X) → list_all (λ x. is_own att (tag x)) xs ≡ true → are_in equal xs old ≡ are_in equal xs new
 alike-list equal att tag same_tag old new same [] own = refl
 alike-list equal att tag same_tag old new same (x ∷ xs) own =
@@ -111,7 +115,8 @@ alike-list equal att tag same_tag old new same (x ∷ xs) own =
     let among = alike-any (λ y. equal y x) (λ y. is_own att (tag y)) (λ y h. is_own-tag_eq att (tag y) (tag x) (same_tag y x h) ∙ parts.0) old new same in
     alike-both (list_any (λ y. equal y x) old) (list_any (λ y. equal y x) new) (are_in equal xs old) (are_in equal xs new) among (alike-list equal att tag same_tag old new same xs parts.1)
 
-alike-objects : (att : Att) (s : Share) → AreOwn att s → (old new : Host) → share_of att new ≡ share_of att old → has_objects_of old s ≡ has_objects_of new s
+alike-objects : (att : Att) (s : Share) → AreOwn att s → (old new : Host) → share_of att new ≡ share_of att old
+    → has_objects_of old s ≡ has_objects_of new s
 alike-objects att s own old new same =
     alike-both _ _ _ _ (alike-list link_eq att (λ x. x.tag) link-tag old.links new.links (ap (λ (k : Share). k.links) same) s.links own.links)
     (alike-both _ _ _ _ (alike-list addr_obj_eq att (λ x. x.tag) address-tag old.addresses new.addresses (ap (λ (k : Share). k.addresses) same) s.addresses own.addresses)
@@ -128,7 +133,8 @@ host-name ns h = elim (eqb_tells (length ns) 0) [ inl t ↦ nil_from_length ns t
 host-ns : (a b : List ℕ) → is_host_ns a ≡ true → is_host_ns b ≡ true → bytes_eq a b ≡ true
 host-ns a b h g = (bytes_eq-Decides a b).1 (host-name a h ∙ sym (host-name b g))
 
-one-place : (name : List ℕ) (x y : Link) → is_host_link name x ≡ true → is_host_link name y ≡ true → is_at y.ns y.name x ≡ true
+one-place : (name : List ℕ) (x y : Link) → is_host_link name x ≡ true → is_host_link name y ≡ true
+    → is_at y.ns y.name x ≡ true
 one-place name x y h g =
     let a = and_parts (is_host_ns x.ns) (bytes_eq x.name name) h in
     let b = and_parts (is_host_ns y.ns) (bytes_eq y.name name) g in
@@ -140,14 +146,16 @@ is-link : (name : List ℕ) (x : Link) → is_host_bridge name x ≡ true → is
 is-link name x h = (and_parts (is_host_link name x) (is_bridge x.kind) h).0
 
 -- a bridge stands before another of its name, where places are distinct
-place-taken : (name : List ℕ) (mac : Mac) (x : Link) (xs : List Link) → is_host_bridge name x ≡ true → list_any (is_bridge_with name mac) xs ≡ true → not (list_any (λ y. is_at y.ns y.name x) xs) ≡ true → ⊥
+place-taken : (name : List ℕ) (mac : Mac) (x : Link) (xs : List Link) → is_host_bridge name x ≡ true
+    → list_any (is_bridge_with name mac) xs ≡ true → not (list_any (λ y. is_at y.ns y.name x) xs) ≡ true → ⊥
 place-taken name mac x xs here later free =
     let taken : list_any (λ y. is_at y.ns y.name x) xs ≡ true =
     list_any-weaker (is_bridge_with name mac) (λ y. is_at y.ns y.name x) (λ y h. one-place name x y (is-link name x here) (is-link name y (and_parts (is_host_bridge name y) (mac_eq y.mac mac) h).0)) xs later in
     both_ways (list_any (λ y. is_at y.ns y.name x) xs) (grind (arith, free)) taken
 
 -- so one bridge has the name
-one-mac : (name : List ℕ) (a b : Mac) (links : List Link) → distinct (λ x y. is_at y.ns y.name x) links ≡ true → list_any (is_bridge_with name a) links ≡ true → list_any (is_bridge_with name b) links ≡ true → mac_eq a b ≡ true
+one-mac : (name : List ℕ) (a b : Mac) (links : List Link) → distinct (λ x y. is_at y.ns y.name x) links ≡ true
+    → list_any (is_bridge_with name a) links ≡ true → list_any (is_bridge_with name b) links ≡ true → mac_eq a b ≡ true
 one-mac name a b [] keys h g = cc
 one-mac name a b (x ∷ xs) keys h g =
     let key = and_parts (not (list_any (λ y. is_at y.ns y.name x) xs)) (distinct (λ u v. is_at v.ns v.name u) xs) keys in
@@ -189,13 +197,16 @@ same-truth true b f g = sym (f refl)
 same-truth false true f g = g refl
 same-truth false false f g = refl
 
-alike-mac : (name : List ℕ) (mac : Option Mac) (old new : Host) → IsSound new → KeepsBridges old new → list_any (is_host_bridge name) old.links ≡ true → has_bridge_by old name mac ≡ has_bridge_by new name mac
+alike-mac : (name : List ℕ) (mac : Option Mac) (old new : Host) → IsSound new → KeepsBridges old new
+    → list_any (is_host_bridge name) old.links ≡ true → has_bridge_by old name mac ≡ has_bridge_by new name mac
 alike-mac name None old new sound keeps there = refl
 alike-mac name (Some mac) old new sound keeps there =
     same-truth (has_object old (BridgeAt name mac)) (has_object new (BridgeAt name mac)) (keeps name mac)
     (λ now. let was = bridge-of name old.links there in was.alike mac (one-mac name was.mac mac new.links sound.links.keys (keeps name was.mac was.there) now))
 
-alike-bridge : (bridge : Option (List ℕ)) (interfaces : List Interface) (old new : Host) → IsSound new → KeepsBridges old new → has_bridge_named old bridge interfaces ≡ true → has_bridge_for old bridge interfaces ≡ has_bridge_for new bridge interfaces
+alike-bridge : (bridge : Option (List ℕ)) (interfaces : List Interface) (old new : Host) → IsSound new
+    → KeepsBridges old new → has_bridge_named old bridge interfaces ≡ true
+    → has_bridge_for old bridge interfaces ≡ has_bridge_for new bridge interfaces
 alike-bridge None interfaces old new sound keeps there = refl
 alike-bridge (Some bridge) [] old new sound keeps there = refl
 alike-bridge (Some bridge) (i ∷ is) old new sound keeps there = alike-mac i.name i.mac old new sound keeps there
@@ -213,13 +224,15 @@ prefix-first n (x ∷ xs) = elim (cases_Bool (is_of n x)) [
 ]
 
 -- the bridge that the cached result names is there at the start
-named-at_start : (w : World) → Legal w → (n : ℕ) (c : Placed) (list : NetList) (cached : Cached) → list_for w.plan c.command ≡ Some list → cached_in (host_at_start w n) (att_of c.command) ≡ Some cached
+named-at_start : (w : World) → Legal w → (n : ℕ) (c : Placed) (list : NetList) (cached : Cached)
+    → list_for w.plan c.command ≡ Some list → cached_in (host_at_start w n) (att_of c.command) ≡ Some cached
     → has_bridge_named (host_at_start w n) (bridge_of list.first) cached.result.interfaces ≡ true
 named-at_start w legal n c list cached listed is =
     let front = prefix-first n w.history in
     always-named w legal (until_first n w.history) front.0 front.1 (att_of c.command) list cached (list_named-listed w.plan c.command list listed) is
 
-hold-alike : (list : NetList) (c : Command) (start last : Host) → IsSound last → KeepsAsked c start last → ((cached : Cached) → cached_in start (att_of c) ≡ Some cached → has_bridge_named start (bridge_of list.first) cached.result.interfaces ≡ true)
+hold-alike : (list : NetList) (c : Command) (start last : Host) → IsSound last → KeepsAsked c start last
+    → ((cached : Cached) → cached_in start (att_of c) ≡ Some cached → has_bridge_named start (bridge_of list.first) cached.result.interfaces ≡ true)
     → HoldAlike list c start last
 hold-alike list c start last sound keeps named = record {
   entry = sym (cached-stays c start last keeps);

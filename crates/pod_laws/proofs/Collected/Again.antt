@@ -31,18 +31,21 @@ drops-none (x ∷ old) (y ∷ new) d long = elim d [
   | inr drop ↦ absurd (let shorter = drops-length old (y ∷ new) drop.1 in omega arith)
 ]
 
-filter-same-if : {X : Type 0} (a b : Bool) (x y : X) (fs gs : List X) → x ≡ y → a ≡ b → DropsOnly (λ x. true) fs gs → DropsOnly (λ x. true) (if a then x ∷ fs else fs) (if b then y ∷ gs else gs)
+filter-same-if : {X : Type 0} (a b : Bool) (x y : X) (fs gs : List X) → x ≡ y → a ≡ b → DropsOnly (λ x. true) fs gs
+    → DropsOnly (λ x. true) (if a then x ∷ fs else fs) (if b then y ∷ gs else gs)
 filter-same-if true true x y fs gs same test d = inl (same, d)
 filter-same-if true false x y fs gs same test d = cc
 filter-same-if false true x y fs gs same test d = cc
 filter-same-if false false x y fs gs same test d = d
 
-filter-drop-if : {X : Type 0} (b : Bool) (x : X) (fs gs : List X) → DropsOnly (λ x. true) fs gs → DropsOnly (λ x. true) (if b then x ∷ fs else fs) gs
+filter-drop-if : {X : Type 0} (b : Bool) (x : X) (fs gs : List X) → DropsOnly (λ x. true) fs gs
+    → DropsOnly (λ x. true) (if b then x ∷ fs else fs) gs
 filter-drop-if true x fs [] d = (refl, d)
 filter-drop-if true x fs (y ∷ gs) d = inr (refl, d)
 filter-drop-if false x fs gs d = d
 
-filter-drops : {X : Type 0} (p : X → Bool) (old new : List X) → DropsOnly (λ x. true) old new → DropsOnly (λ x. true) (filter p old) (filter p new)
+filter-drops : {X : Type 0} (p : X → Bool) (old new : List X) → DropsOnly (λ x. true) old new
+    → DropsOnly (λ x. true) (filter p old) (filter p new)
 filter-drops p [] new d = ap (filter p) d
 filter-drops p (x ∷ old) [] d = filter-drop-if (p x) x (filter p old) [] (filter-drops p old [] d.1)
 filter-drops p (x ∷ old) (y ∷ new) d = elim d [
@@ -51,7 +54,8 @@ filter-drops p (x ∷ old) (y ∷ new) d = elim d [
 ]
 
 -- what passes is the same in a list between
-between : {X : Type 0} (p : X → Bool) (xs ys : List X) → DropsOnly (λ x. true) ys (filter p xs) → DropsOnly (λ x. true) xs ys → filter p ys ≡ filter p xs
+between : {X : Type 0} (p : X → Bool) (xs ys : List X) → DropsOnly (λ x. true) ys (filter p xs)
+    → DropsOnly (λ x. true) xs ys → filter p ys ≡ filter p xs
 between p xs ys lower upper =
     let low = drops-length (filter p ys) (filter p (filter p xs)) (filter-drops p ys (filter p xs) lower) in
     let same : length (filter p (filter p xs)) ≡ length (filter p xs) = ap length (filter-within p p (λ x h. h) xs) in
@@ -72,7 +76,8 @@ kept-same c old new b =
     (between (λ x. stays c.network c.valid x.tag) old.cached new.cached b.lower.removes.cached b.upper.removes.cached)
     b.upper.lasts
 
-clean-of : (list : NetList) (c : Command) (es : List Entry) (old new : Host) → OrCutOff (IsCollectionAnswer list c es old new) answers.Yes → IsCleanCollection list c es old new answers.Yes
+clean-of : (list : NetList) (c : Command) (es : List Entry) (old new : Host)
+    → OrCutOff (IsCollectionAnswer list c es old new) answers.Yes → IsCleanCollection list c es old new answers.Yes
 clean-of list c es old new (inl (inl old_list)) = absurd (let e = old_list.answer in cc)
 clean-of list c es old new (inl (inr (inl disabled))) = absurd (let e = disabled.answer in cc)
 clean-of list c es old new (inl (inr (inr (inl clean)))) = clean

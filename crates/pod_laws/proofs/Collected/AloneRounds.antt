@@ -19,22 +19,26 @@ use Rattle.pod_laws.proofs.Histories.{AloneRuns.until_first-own, Entries.{is_of-
 no-own : (m : ℕ) (h : List Entry) → replies_of m h ≡ [] → own_entries m h ≡ []
 no-own m h none = no-entries (own_entries m h) none
 
-alone-in : (w : World) → Legal w → (k m : ℕ) (x d : Placed) → slice_get (commands_of w.plan) k ≡ Some x → slice_get (commands_of w.plan) m ≡ Some d → x.round ≡ d.round → is_exclusive_verb d.command.verb ≡ true → k ≡ m
+alone-in : (w : World) → Legal w → (k m : ℕ) (x d : Placed) → slice_get (commands_of w.plan) k ≡ Some x
+    → slice_get (commands_of w.plan) m ≡ Some d → x.round ≡ d.round → is_exclusive_verb d.command.verb ≡ true → k ≡ m
 alone-in w legal k m x d at_k at_m round exclusive = stand_alone w.plan (fine w legal).plan k m x d at_k at_m round exclusive
 
 -- ---- its first entry stands where its round starts
 
-before-is : (p : Plan) (round : ℕ) (e : Entry) (n : ℕ) (c : Placed) → IsEntryOf p e n c → c.round < round → is_before round (at_number (commands_of p) e.command) ≡ true
+before-is : (p : Plan) (round : ℕ) (e : Entry) (n : ℕ) (c : Placed) → IsEntryOf p e n c → c.round < round
+    → is_before round (at_number (commands_of p) e.command) ≡ true
 before-is p round e n c of_e less = ap (is_before round) (at_number-is (commands_of p) e.command n of_e.number ∙ of_e.there) ∙ lt-ltb c.round round less
 
-not-before : (p : Plan) (round : ℕ) (e : Entry) (n : ℕ) (c : Placed) → IsEntryOf p e n c → round ≤ c.round → is_before round (at_number (commands_of p) e.command) ≡ false
+not-before : (p : Plan) (round : ℕ) (e : Entry) (n : ℕ) (c : Placed) → IsEntryOf p e n c → round ≤ c.round
+    → is_before round (at_number (commands_of p) e.command) ≡ false
 not-before p round e n c of_e within = ap (is_before round) (at_number-is (commands_of p) e.command n of_e.number ∙ of_e.there) ∙ le-ltb c.round round within
 
 -- each of these is of an earlier round
 abbrev AreOfEarlierRounds : Plan → ℕ → List Entry → Type 0
 AreOfEarlierRounds p round h = EachOne h (λ before e. is_before round (at_number (commands_of p) e.command) ≡ true)
 
-until_round-split : (p : Plan) (round : ℕ) (before rest : List Entry) (e : Entry) → AreOfEarlierRounds p round before → is_before round (at_number (commands_of p) e.command) ≡ false → until_round p round (before ++ e ∷ rest) ≡ before
+until_round-split : (p : Plan) (round : ℕ) (before rest : List Entry) (e : Entry) → AreOfEarlierRounds p round before
+    → is_before round (at_number (commands_of p) e.command) ≡ false → until_round p round (before ++ e ∷ rest) ≡ before
 until_round-split p round [] rest e are not = ap (λ b. if b then e ∷ until_round p round rest else []) not
 until_round-split p round (x ∷ xs) rest e are not =
     ap (λ b. if b then x ∷ until_round p round (xs ++ e ∷ rest) else []) (are [] xs x refl)
@@ -44,7 +48,9 @@ until_round-split p round (x ∷ xs) rest e are not =
 abbrev NoneSince : World → ℕ → Placed → Type 0
 NoneSince w round c = (k : ℕ) (x : Placed) → slice_get (commands_of w.plan) k ≡ Some x → round ≤ x.round → x.round < c.round → own_entries k w.history ≡ []
 
-earlier-rounds : (w : World) → Legal w → (n : ℕ) (c : Placed) (round : ℕ) (before rest : List Entry) (e : Entry) → is_exclusive_verb c.command.verb ≡ true → NoneSince w round c → w.history ≡ before ++ e ∷ rest → IsEntryOf w.plan e n c
+earlier-rounds : (w : World) → Legal w → (n : ℕ) (c : Placed) (round : ℕ) (before rest : List Entry) (e : Entry)
+    → is_exclusive_verb c.command.verb ≡ true → NoneSince w round c → w.history ≡ before ++ e ∷ rest
+    → IsEntryOf w.plan e n c
     → replies_of n before ≡ [] → AreOfEarlierRounds w.plan round before
 earlier-rounds w legal n c round before rest e exclusive since split of_e none = λ first later y is.
     let whole : w.history ≡ first ++ y ∷ (later ++ e ∷ rest) = split ∙ ap (λ l. l ++ e ∷ rest) is ∙ append_assoc first (y ∷ later) (e ∷ rest) in
@@ -64,7 +70,8 @@ earlier-rounds w legal n c round before rest e exclusive since split of_e none =
       ])
     ]
 
-starts-round : (w : World) → Legal w → (n : ℕ) (c : Placed) (round : ℕ) → slice_get (commands_of w.plan) n ≡ Some c → is_exclusive_verb c.command.verb ≡ true → own_entries n w.history ≢ [] → round ≤ c.round → NoneSince w round c
+starts-round : (w : World) → Legal w → (n : ℕ) (c : Placed) (round : ℕ) → slice_get (commands_of w.plan) n ≡ Some c
+    → is_exclusive_verb c.command.verb ≡ true → own_entries n w.history ≢ [] → round ≤ c.round → NoneSince w round c
     → until_first n w.history ≡ until_round w.plan round w.history
 starts-round w legal n c round at exclusive some within since = elim (entry_or_none n w.history) [
   | inl none ↦ absurd (some (no-own n w.history none))
@@ -77,12 +84,16 @@ starts-round w legal n c round at exclusive some within since = elim (entry_or_n
 ]
 
 -- an exclusive command that made a call starts from the host at the start of its round
-pub start-round : (w : World) → Legal w → (n : ℕ) (c : Placed) → slice_get (commands_of w.plan) n ≡ Some c → is_exclusive_verb c.command.verb ≡ true → own_entries n w.history ≢ [] → host_at_start w n ≡ host_at_round w c.round
+pub start-round : (w : World) → Legal w → (n : ℕ) (c : Placed) → slice_get (commands_of w.plan) n ≡ Some c
+    → is_exclusive_verb c.command.verb ≡ true → own_entries n w.history ≢ []
+    → host_at_start w n ≡ host_at_round w c.round
 start-round w legal n c at exclusive some =
     ap (after w.plan.pods.opening) (starts-round w legal n c c.round at exclusive some (omega arith) (λ k x there from less. absurd (omega arith)))
 
 -- one starts from the host at the start of the round before its own, where the one that stands alone there made no call
-pub start-after : (w : World) → Legal w → (m n : ℕ) (d c : Placed) → slice_get (commands_of w.plan) m ≡ Some d → slice_get (commands_of w.plan) n ≡ Some c → is_exclusive_verb d.command.verb ≡ true → is_exclusive_verb c.command.verb ≡ true
+pub start-after : (w : World) → Legal w → (m n : ℕ) (d c : Placed) → slice_get (commands_of w.plan) m ≡ Some d
+    → slice_get (commands_of w.plan) n ≡ Some c → is_exclusive_verb d.command.verb ≡ true
+    → is_exclusive_verb c.command.verb ≡ true
     → c.round ≡ d.round + 1 → own_entries m w.history ≡ [] → own_entries n w.history ≢ [] → host_at_start w n ≡ host_at_round w d.round
 start-after w legal m n d c at_m at_n first second r none some =
     ap (after w.plan.pods.opening)
@@ -91,12 +102,15 @@ start-after w legal m n d c at_m at_n first second r none some =
 
 -- ---- its last entry stands where its round ends
 
-first-or-later : (x y : Entry) (xs before rest : List Entry) → x ∷ xs ≡ before ++ y ∷ rest → (x ≡ y) ⊎ ((between : List Entry) × (xs ≡ between ++ y ∷ rest))
+first-or-later : (x y : Entry) (xs before rest : List Entry) → x ∷ xs ≡ before ++ y ∷ rest
+    → (x ≡ y) ⊎ ((between : List Entry) × (xs ≡ between ++ y ∷ rest))
 first-or-later x y xs [] rest is = inl (cons_parts x y xs rest is).0
 first-or-later x y xs (z ∷ zs) rest is = inr (zs, (cons_parts x z xs (zs ++ y ∷ rest) is).1)
 
 -- an entry from which on the command has one is of no later round
-none-later : (w : World) → Legal w → (m k : ℕ) (d x : Placed) (before rest others later : List Entry) (e f : Entry) → w.history ≡ before ++ e ∷ rest → e ∷ rest ≡ others ++ f ∷ later → IsEntryOf w.plan e k x → IsEntryOf w.plan f m d → x.round < d.round + 1
+none-later : (w : World) → Legal w → (m k : ℕ) (d x : Placed) (before rest others later : List Entry) (e f : Entry)
+    → w.history ≡ before ++ e ∷ rest → e ∷ rest ≡ others ++ f ∷ later → IsEntryOf w.plan e k x → IsEntryOf w.plan f m d
+    → x.round < d.round + 1
 none-later w legal m k d x before rest others later e f whole split of_e of_f = elim (first-or-later e f rest others later split) [
   | inl same ↦
       let place : k ≡ m = same-place m k e f of_e.number (sym same) of_f.number in
@@ -109,7 +123,9 @@ none-later w legal m k d x before rest others later e f whole split of_e of_f = 
 ]
 
 -- an entry that stands after all those of a command that stands alone is of a later round
-all-later : (w : World) → Legal w → (m k : ℕ) (d x : Placed) (before rest : List Entry) (e : Entry) → slice_get (commands_of w.plan) m ≡ Some d → is_exclusive_verb d.command.verb ≡ true → own_entries m w.history ≢ [] → w.history ≡ before ++ e ∷ rest
+all-later : (w : World) → Legal w → (m k : ℕ) (d x : Placed) (before rest : List Entry) (e : Entry)
+    → slice_get (commands_of w.plan) m ≡ Some d → is_exclusive_verb d.command.verb ≡ true → own_entries m w.history ≢ []
+    → w.history ≡ before ++ e ∷ rest
     → IsEntryOf w.plan e k x → replies_of m (e ∷ rest) ≡ [] → d.round + 1 ≤ x.round
 all-later w legal m k d x before rest e at exclusive some whole of_e none = elim (entry_or_none m before) [
   | inl nothing ↦
@@ -126,7 +142,9 @@ all-later w legal m k d x before rest e at exclusive some whole of_e none = elim
 ]
 
 -- it has an entry from here on where this one is of its round or an earlier one
-entry-within : (w : World) → Legal w → (m : ℕ) (d : Placed) (before rest : List Entry) (e : Entry) → slice_get (commands_of w.plan) m ≡ Some d → is_exclusive_verb d.command.verb ≡ true → own_entries m w.history ≢ [] → w.history ≡ before ++ e ∷ rest
+entry-within : (w : World) → Legal w → (m : ℕ) (d : Placed) (before rest : List Entry) (e : Entry)
+    → slice_get (commands_of w.plan) m ≡ Some d → is_exclusive_verb d.command.verb ≡ true → own_entries m w.history ≢ []
+    → w.history ≡ before ++ e ∷ rest
     → list_any (is_of m) (e ∷ rest) ≡ is_before (d.round + 1) (at_number (commands_of w.plan) e.command)
 entry-within w legal m d before rest e at exclusive some whole =
     let follows = each_follows w legal before rest e whole in
@@ -141,7 +159,9 @@ entry-within w legal m d before rest e at exclusive some whole =
           ∙ sym (before-is w.plan (d.round + 1) e k x of_e (none-later w legal m k d x before rest is.0 is.1 e is.2 whole is.3 of_e (record { number = is.4; there = at })))
     ]
 
-ends-from : (w : World) → Legal w → (m : ℕ) (d : Placed) (before rest : List Entry) → slice_get (commands_of w.plan) m ≡ Some d → is_exclusive_verb d.command.verb ≡ true → own_entries m w.history ≢ [] → w.history ≡ before ++ rest
+ends-from : (w : World) → Legal w → (m : ℕ) (d : Placed) (before rest : List Entry)
+    → slice_get (commands_of w.plan) m ≡ Some d → is_exclusive_verb d.command.verb ≡ true → own_entries m w.history ≢ []
+    → w.history ≡ before ++ rest
     → until_last m rest ≡ until_round w.plan (d.round + 1) rest
 ends-from w legal m d before [] at exclusive some whole = refl
 ends-from w legal m d before (e ∷ rest) at exclusive some whole =
@@ -149,5 +169,7 @@ ends-from w legal m d before (e ∷ rest) at exclusive some whole =
     ∙ ap (λ l. if is_before (d.round + 1) (at_number (commands_of w.plan) e.command) then e ∷ l else []) (ends-from w legal m d (before ++ e ∷ []) rest at exclusive some (whole ∙ sym (append_assoc before (e ∷ []) rest)))
 
 -- it ends in the host at the start of the next round
-pub end-round : (w : World) → Legal w → (m : ℕ) (d : Placed) → slice_get (commands_of w.plan) m ≡ Some d → is_exclusive_verb d.command.verb ≡ true → own_entries m w.history ≢ [] → host_at_end w m ≡ host_at_round w (d.round + 1)
+pub end-round : (w : World) → Legal w → (m : ℕ) (d : Placed) → slice_get (commands_of w.plan) m ≡ Some d
+    → is_exclusive_verb d.command.verb ≡ true → own_entries m w.history ≢ []
+    → host_at_end w m ≡ host_at_round w (d.round + 1)
 end-round w legal m d at exclusive some = ap (after w.plan.pods.opening) (ends-from w legal m d [] w.history at exclusive some refl)

@@ -34,15 +34,18 @@ use Rattle.pod_laws.proofs.Histories.RunFacts.{state_by}
 abbrev collecting : NetList → Command → State
 collecting list c = Collecting (start_work (gc_of list c)) []
 
-starts : (list : NetList) (c : Command) → c.verb ≡ verbs.Gc → start_state list c ≡ unless_ended (early_ending list.version list.disable_gc) (collecting list c)
+starts : (list : NetList) (c : Command) → c.verb ≡ verbs.Gc
+    → start_state list c ≡ unless_ended (early_ending list.version list.disable_gc) (collecting list c)
 starts list c gc = ap (λ x. start_of list x c) gc
 
-over-none : (list : NetList) (c : Command) (st : State) (ending : Ending) (given : List Addr) (host : Host) (es : List Entry) → st ≡ Over ending given → trace.IsRunFrom list c 0 st host (made_in es) → es ≡ []
+over-none : (list : NetList) (c : Command) (st : State) (ending : Ending) (given : List Addr) (host : Host) (es : List Entry)
+    → st ≡ Over ending given → trace.IsRunFrom list c 0 st host (made_in es) → es ≡ []
 unfolding next_call
 over-none list c st ending given host [] is run = refl
 over-none list c st ending given host (e ∷ es) is run = absurd (none-some e.call (ap (next_call c) (sym is) ∙ run.0))
 
-over-ending : (st : State) (e ending : Ending) (g given : List Addr) → st ≡ Over e g → (st ≡ Over ending given) ⊎ IsSwept st ending → ending ≡ e
+over-ending : (st : State) (e ending : Ending) (g given : List Addr) → st ≡ Over e g
+    → (st ≡ Over ending given) ⊎ IsSwept st ending → ending ≡ e
 over-ending st e ending g given is (inl over) = let same : Over e g ≡ Over ending given = sym is ∙ over in cc
 over-ending st e ending g given is (inr swept) = absurd (let same : Over e g ≡ Collecting swept.work swept.faults = sym is ∙ swept.collecting in cc)
 
@@ -50,17 +53,20 @@ over-ending st e ending g given is (inr swept) = absurd (let same : Over e g ≡
 abbrev IsCollecting : State → Type 0
 IsCollecting st = (work : Work) × (faults : List ℕ) × (st ≡ Collecting work faults)
 
-collects-from : (list : NetList) (c : Command) (made : ℕ) (work : Work) (faults : List ℕ) (rs : List Reply) → IsCollecting (state_from list c made (Collecting work faults) rs)
+collects-from : (list : NetList) (c : Command) (made : ℕ) (work : Work) (faults : List ℕ) (rs : List Reply)
+    → IsCollecting (state_from list c made (Collecting work faults) rs)
 unfolding advance
 collects-from list c made work faults [] = (work, faults, refl)
 collects-from list c made work faults (r ∷ rs) = collects-from list c (made + 1) (work_after (gc_of list c) work.jobs work.sweeps r) (faults_after (made + 1) faults _) rs
 
-collects-after : (list : NetList) (c : Command) (rs : List Reply) → start_state list c ≡ collecting list c → IsCollecting (state_after list c rs)
+collects-after : (list : NetList) (c : Command) (rs : List Reply) → start_state list c ≡ collecting list c
+    → IsCollecting (state_after list c rs)
 collects-after list c rs is = subst (λ st. IsCollecting (state_from list c 0 st rs)) (sym is) (collects-from list c 0 (start_work (gc_of list c)) [] rs)
 
 -- ---- how it ends
 
-swept-finish : (st : State) (ending : Ending) → IsSwept st ending → finish_of st ≡ Some (record { ending = ending; given = [] })
+swept-finish : (st : State) (ending : Ending) → IsSwept st ending
+    → finish_of st ≡ Some (record { ending = ending; given = [] })
 unfolding finish_of
 swept-finish st ending s = ap finish_of s.collecting ∙ s.finished ∙ ap (λ (e : Ending). Some (record { ending = e; given = [] })) (sym s.ends)
 
@@ -68,7 +74,8 @@ unfinished : (list : NetList) (c : Command) → finish_of (collecting list c) �
 unfolding finish_of
 unfinished list c = refl
 
-swept-of : (st : State) (ending : Ending) (given : List Addr) → IsCollecting st → (st ≡ Over ending given) ⊎ IsSwept st ending → IsSwept st ending
+swept-of : (st : State) (ending : Ending) (given : List Addr) → IsCollecting st
+    → (st ≡ Over ending given) ⊎ IsSwept st ending → IsSwept st ending
 swept-of st ending given is (inl over) = absurd (let same : Collecting is.0 is.1 ≡ Over ending given = sym is.2 ∙ over in cc)
 swept-of st ending given is (inr swept) = swept
 
@@ -81,16 +88,20 @@ record IsAtEnd (list : NetList) (c : Command) (start : Host) (es : List Entry) (
   run : trace.IsRun list c start (made_in es)
   ends : trace.Ends list c (made_in es) ending
 
-ending-named : (list : NetList) (c : Command) (start : Host) (es : List Entry) (ending : Ending) → IsAtEnd list c start es ending → ending ≡ swept (fault_numbers 0 (made_in es))
+ending-named : (list : NetList) (c : Command) (start : Host) (es : List Entry) (ending : Ending)
+    → IsAtEnd list c start es ending → ending ≡ swept (fault_numbers 0 (made_in es))
 ending-named list c start es ending at = faults_named list c (made_in es) ending at.gc at.collected at.ends
 
-clean-kept : (list : NetList) (c : Command) (start : Host) (es : List Entry) (ending : Ending) → IsAtEnd list c start es ending → ending ≡ Yes → after start es ≡ keep c.network c.valid start
+clean-kept : (list : NetList) (c : Command) (start : Host) (es : List Entry) (ending : Ending)
+    → IsAtEnd list c start es ending → ending ≡ Yes → after start es ≡ keep c.network c.valid start
 clean-kept list c start es ending at good = yes_keeps list c start (made_in es) at.gc at.sound at.run (subst (trace.Ends list c (made_in es)) good at.ends)
 
-faulty-excused : (list : NetList) (c : Command) (start : Host) (es : List Entry) (ending : Ending) → IsAtEnd list c start es ending → AreExcused c.network c.valid (made_in es) (after start es)
+faulty-excused : (list : NetList) (c : Command) (start : Host) (es : List Entry) (ending : Ending)
+    → IsAtEnd list c start es ending → AreExcused c.network c.valid (made_in es) (after start es)
 faulty-excused list c start es ending at = over_excused list c start (made_in es) ending at.gc at.collected at.sound at.run at.ends
 
-ended-answer : (list : NetList) (c : Command) (start : Host) (es : List Entry) (ending : Ending) (given : List Addr) (a : Answer) (old new : Host) → IsAtEnd list c start es ending → Says list c given ending a → es ≢ [] → old ≡ start → new ≡ after start es
+ended-answer : (list : NetList) (c : Command) (start : Host) (es : List Entry) (ending : Ending) (given : List Addr) (a : Answer) (old new : Host)
+    → IsAtEnd list c start es ending → Says list c given ending a → es ≢ [] → old ≡ start → new ≡ after start es
     → IsCleanCollection list c es old new a ⊎ IsFaultyCollection list c es new a
 ended-answer list c start es ending given a old new at said some old_is new_is = elim (cases_Bool (has_fault es)) [
   | inr no_fault ↦
@@ -115,10 +126,13 @@ ended-answer list c start es ending given a old new at said some old_is new_is =
 
 -- ---- every GC
 
-gc-run : (w : World) (n : ℕ) (c : Placed) (list : NetList) → list_for w.plan c.command ≡ Some list → (t : StandsTogether w.plan w.history n c) → trace.IsRun list c.command (after w.plan.pods.opening t.before) (made_in (own_entries n w.history))
+gc-run : (w : World) (n : ℕ) (c : Placed) (list : NetList) → list_for w.plan c.command ≡ Some list
+    → (t : StandsTogether w.plan w.history n c)
+    → trace.IsRun list c.command (after w.plan.pods.opening t.before) (made_in (own_entries n w.history))
 gc-run w n c list listed t = t.run list listed
 
-at-end : (w : World) (n : ℕ) (c : Placed) (list : NetList) (ending : Ending) → list_for w.plan c.command ≡ Some list → c.command.verb ≡ verbs.Gc → IsCollected list → (t : StandsTogether w.plan w.history n c)
+at-end : (w : World) (n : ℕ) (c : Placed) (list : NetList) (ending : Ending) → list_for w.plan c.command ≡ Some list
+    → c.command.verb ≡ verbs.Gc → IsCollected list → (t : StandsTogether w.plan w.history n c)
     → IsSwept (state_by list c.command (own_entries n w.history)) ending → IsAtEnd list c.command (after w.plan.pods.opening t.before) (own_entries n w.history) ending
 at-end w n c list ending listed gc collected t s = record {
   gc = ap is_gc gc;
@@ -129,7 +143,8 @@ at-end w n c list ending listed gc collected t s = record {
 }
 
 -- a GC that came to its end made a call
-made-calls : (list : NetList) (c : Command) (es : List Entry) (ending : Ending) → start_state list c ≡ collecting list c → IsSwept (state_by list c es) ending → es ≢ []
+made-calls : (list : NetList) (c : Command) (es : List Entry) (ending : Ending) → start_state list c ≡ collecting list c
+    → IsSwept (state_by list c es) ending → es ≢ []
 made-calls list c es ending starts_so s none =
     none-some (record { ending = ending; given = [] })
     (sym (ap finish_of (ap (state_by list c) none ∙ starts_so) ∙ unfinished list c) ∙ swept-finish (state_by list c es) ending s)
@@ -139,7 +154,9 @@ record EndedEarly (list : NetList) (c : Command) (es : List Entry) (given : List
   no_entry : es ≡ []
   said : Says list c given told a
 
-ended-early : (w : World) (n : ℕ) (c : Placed) (list : NetList) (told : Ending) (a : Answer) → list_for w.plan c.command ≡ Some list → (t : StandsTogether w.plan w.history n c) → (over : IsOver list c.command (state_by list c.command (own_entries n w.history)) a)
+ended-early : (w : World) (n : ℕ) (c : Placed) (list : NetList) (told : Ending) (a : Answer)
+    → list_for w.plan c.command ≡ Some list → (t : StandsTogether w.plan w.history n c)
+    → (over : IsOver list c.command (state_by list c.command (own_entries n w.history)) a)
     → start_state list c.command ≡ Over told [] → EndedEarly list c.command (own_entries n w.history) over.given told a
 ended-early w n c list told a listed t over start =
     let es = own_entries n w.history in
@@ -147,7 +164,9 @@ ended-early w n c list told a listed t over start =
     let ending = over-ending (state_by list c.command es) told over.ending [] over.given (ap (state_by list c.command) none ∙ start) over.state_is in
     record { no_entry = none; said = subst (λ x. Says list c.command over.given x a) ending (says list c.command over.given over.ending a over.answer_is) }
 
-answered-by : (w : World) (n : ℕ) (c : Placed) (list : NetList) (a : Answer) → list_for w.plan c.command ≡ Some list → c.command.verb ≡ verbs.Gc → (t : StandsTogether w.plan w.history n c) → IsOver list c.command (state_by list c.command (own_entries n w.history)) a
+answered-by : (w : World) (n : ℕ) (c : Placed) (list : NetList) (a : Answer) → list_for w.plan c.command ≡ Some list
+    → c.command.verb ≡ verbs.Gc → (t : StandsTogether w.plan w.history n c)
+    → IsOver list c.command (state_by list c.command (own_entries n w.history)) a
     → IsCollectionAnswer list c.command (own_entries n w.history) (host_at_start w n) (host_at_end w n) a
 answered-by w n c list a listed gc t over =
     let es = own_entries n w.history in

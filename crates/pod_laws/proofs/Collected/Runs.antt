@@ -14,7 +14,8 @@ to-replies (e ∷ es) = ap (λ l. e.reply ∷ l) (to-replies es)
 
 -- ---- faults
 
-no-if : (b rest : Bool) (x : ℕ) (xs ys : List ℕ) → (b || rest) ≡ false → (rest ≡ false → ys ≡ []) → (if b then x ∷ xs else ys) ≡ []
+no-if : (b rest : Bool) (x : ℕ) (xs ys : List ℕ) → (b || rest) ≡ false → (rest ≡ false → ys ≡ [])
+    → (if b then x ∷ xs else ys) ≡ []
 no-if true rest x xs ys h g = cc
 no-if false rest x xs ys h g = g h
 
@@ -25,7 +26,8 @@ no-faults made (e ∷ es) h = no-if (is_fault e.reply) (has_fault es) (made + 1)
 abbrev IsSome : List ℕ → Type 0
 IsSome ns = (x : ℕ) × (xs : List ℕ) × (ns ≡ x ∷ xs)
 
-some-if : (b rest : Bool) (x : ℕ) (xs ys : List ℕ) → (b || rest) ≡ true → (rest ≡ true → IsSome ys) → IsSome (if b then x ∷ xs else ys)
+some-if : (b rest : Bool) (x : ℕ) (xs ys : List ℕ) → (b || rest) ≡ true → (rest ≡ true → IsSome ys)
+    → IsSome (if b then x ∷ xs else ys)
 some-if true rest x xs ys h g = (x, xs, refl)
 some-if false rest x xs ys h g = g h
 

@@ -31,7 +31,8 @@ abbrev DeletesBy : Command → Host → Call → Type 0
 DeletesBy c k call = DeletesOwnAlone (att_of c) k (apply k call).0
 
 -- a DEL reads its cached result or deletes
-turn-deletes : (list : NetList) (c : Command) (es : List Entry) (st : State) (s : Share) (k : Host) (call : Call) → c.verb ≡ verbs.Del → IsSound k → turn c st ≡ Calls call → Undoing list c es st s → DeletesBy c k call
+turn-deletes : (list : NetList) (c : Command) (es : List Entry) (st : State) (s : Share) (k : Host) (call : Call)
+    → c.verb ≡ verbs.Del → IsSound k → turn c st ≡ Calls call → Undoing list c es st s → DeletesBy c k call
 unfolding turn
 turn-deletes list c es AtBegin s k call verb sound is was = absurd (not-both c was.verb verb)
 turn-deletes list c es (BeforeLeases x xs) s k call verb sound is was = absurd (not-both c was.verb verb)

@@ -22,18 +22,21 @@ use Rattle.pod_laws.proofs.Refused.Undoing.{undone-step}
 
 -- ---- the first entry of an ADD that goes on was granted
 
-prefix-granted : (granted later : List Entry) (by y : Entry) (ys : List Entry) → granted ≢ [] → y ∷ ys ≡ granted ++ by ∷ later → list_all lets_go_on granted ≡ true → lets_go_on y ≡ true
+prefix-granted : (granted later : List Entry) (by y : Entry) (ys : List Entry) → granted ≢ []
+    → y ∷ ys ≡ granted ++ by ∷ later → list_all lets_go_on granted ≡ true → lets_go_on y ≡ true
 prefix-granted [] later by y ys some are go_on = absurd (some refl)
 prefix-granted (z ∷ zs) later by y ys some are go_on = ap lets_go_on (cons_parts y z ys (zs ++ by ∷ later) are).0 ∙ (and_parts (lets_go_on z) (list_all lets_go_on zs) go_on).0
 
-lead-granted : (c : Command) (y : Entry) (ys : List Entry) (ending : Ending) → c.verb ≡ verbs.Add → Leads c (y ∷ ys) ending → lets_go_on y ≡ true
+lead-granted : (c : Command) (y : Entry) (ys : List Entry) (ending : Ending) → c.verb ≡ verbs.Add
+    → Leads c (y ∷ ys) ending → lets_go_on y ≡ true
 lead-granted c y ys Added verb h = absurd h
 lead-granted c y ys Yes verb h = absurd (not-both c verb h.verb)
 lead-granted c y ys (Skipped skip) verb h = absurd h
 lead-granted c y ys Versions verb h = absurd h
 lead-granted c y ys (Refused cause) verb h = let f = h.first.refuses in prefix-granted f.past f.later h.first.by y ys h.begun f.are f.pass
 
-first-granted : (list : NetList) (c : Command) (y : Entry) (ys : List Entry) (st : State) (s : Share) (call : Call) → c.verb ≡ verbs.Add → turn c st ≡ Calls call → Undoing list c (y ∷ ys) st s → lets_go_on y ≡ true
+first-granted : (list : NetList) (c : Command) (y : Entry) (ys : List Entry) (st : State) (s : Share) (call : Call)
+    → c.verb ≡ verbs.Add → turn c st ≡ Calls call → Undoing list c (y ∷ ys) st s → lets_go_on y ≡ true
 unfolding turn
 first-granted list c y ys AtBegin s call verb is was = let none = was.none in cc
 first-granted list c y ys (BeforeLeases x xs) s call verb is was = (and_parts (lets_go_on y) (list_all lets_go_on ys) was.go_on).0
@@ -54,7 +57,8 @@ BeginsFirst c (e ∷ es) = (e.call ≡ Begin (att_of c) c.netns) × IsPluginRepl
 abbrev AddBegins : NetList → Command → List Entry → State → Share → Type 0
 AddBegins list c es st s = c.verb ≡ verbs.Add → BeginsFirst c es
 
-begins-more : (list : NetList) (c : Command) (n : ℕ) (w : World) (es : List Entry) (st : State) (s : Share) (call : Call) (faulty : Bool) → c.verb ≡ verbs.Add → turn c st ≡ Calls call → Undoing list c es st s → BeginsFirst c es
+begins-more : (list : NetList) (c : Command) (n : ℕ) (w : World) (es : List Entry) (st : State) (s : Share) (call : Call) (faulty : Bool)
+    → c.verb ≡ verbs.Add → turn c st ≡ Calls call → Undoing list c es st s → BeginsFirst c es
     → BeginsFirst c (es ++ entry_of (host_of w) n call faulty ∷ [])
 begins-more list c n w [] st s call faulty verb is un was =
     let first : call ≡ Begin (att_of c) c.netns = first-call list c [] st s call verb refl is un in
@@ -69,7 +73,8 @@ begins-step w n c list call faulty on was = λ verb.
 begins-start : StartsWith AddBegins
 begins-start list c s = λ verb. tt
 
-pub begins_first : (w : World) → Legal w → (n : ℕ) (c : Placed) → slice_get (commands_of w.plan) n ≡ Some c → c.command.verb ≡ verbs.Add → BeginsFirst c.command (own_entries n w.history)
+pub begins_first : (w : World) → Legal w → (n : ℕ) (c : Placed) → slice_get (commands_of w.plan) n ≡ Some c
+    → c.command.verb ≡ verbs.Add → BeginsFirst c.command (own_entries n w.history)
 begins_first w legal n c at verb =
     let found = listed_network w legal n c at (ap is_of_network verb) in
     every-run AddBegins begins-start begins-step w legal n c found.0 at found.1 verb

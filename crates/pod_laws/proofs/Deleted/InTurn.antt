@@ -46,7 +46,8 @@ all-clear w legal = by-open IsClear (λ p m d n beside. refl) clear-kept w legal
 abbrev AllInTurn : Plan → List Entry → Type 0
 AllInTurn p h = (n m : ℕ) (d : Placed) → slice_get (commands_of p) m ≡ Some d → IsBeside p n m d → (own_entries m (until_last n h) ≡ []) ⊎ (own_entries m h ≡ own_entries m (until_last n h))
 
-turn-kept : (w : World) (k : ℕ) (x : Placed) (call : Call) (faulty : Bool) → Goes w k x call faulty → AllInTurn w.plan w.history → AllInTurn w.plan (w.history ++ entry_of (host_of w) k call faulty ∷ [])
+turn-kept : (w : World) (k : ℕ) (x : Placed) (call : Call) (faulty : Bool) → Goes w k x call faulty
+    → AllInTurn w.plan w.history → AllInTurn w.plan (w.history ++ entry_of (host_of w) k call faulty ∷ [])
 turn-kept w k x call faulty goes was = λ n m d at beside.
     let h = w.history in
     let e = entry_of (host_of w) k call faulty in
@@ -71,6 +72,7 @@ turn-listed w n c list call faulty on was = turn-kept w n c call faulty (inl (li
 turn-changed : ChangesKeep AllInTurn
 turn-changed w n c call faulty on was = turn-kept w n c call faulty (inr on) was
 
-pub in_turn : (w : World) → Legal w → (n m : ℕ) (c d : Placed) → slice_get (commands_of w.plan) n ≡ Some c → slice_get (commands_of w.plan) m ≡ Some d → n ≢ m → d.command.container ≡ c.command.container
+pub in_turn : (w : World) → Legal w → (n m : ℕ) (c d : Placed) → slice_get (commands_of w.plan) n ≡ Some c
+    → slice_get (commands_of w.plan) m ≡ Some d → n ≢ m → d.command.container ≡ c.command.container
     → (own_entries m (until_last n w.history) ≡ []) ⊎ (own_entries m w.history ≡ own_entries m (until_last n w.history))
 in_turn w legal n m c d at_n at_m far same = by-entries AllInTurn (λ p well i j y at beside. inl refl) turn-listed turn-changed w legal n m d at_m (c, at_n, far, same)

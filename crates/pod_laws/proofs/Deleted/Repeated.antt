@@ -52,7 +52,9 @@ removes-aside : (c : Command) (k : Host) (call : Call) → IsSound k → AsksOrC
 removes-aside c k call sound (inl asked) = removes-question k call asked
 removes-aside c k call sound (inr collected) = subst (RemovesBy k) collected.deletes (removes-deletion collected.att k collected.kind sound)
 
-turn-removes : (list : NetList) (c : Command) (es : List Entry) (st : State) (s : Share) (k : Host) (call : Call) → c.verb ≢ verbs.Add → IsSound k → LeftFit list c st → turn c st ≡ Calls call → Undoing list c es st s → RemovesBy k call
+turn-removes : (list : NetList) (c : Command) (es : List Entry) (st : State) (s : Share) (k : Host) (call : Call)
+    → c.verb ≢ verbs.Add → IsSound k → LeftFit list c st → turn c st ≡ Calls call → Undoing list c es st s
+    → RemovesBy k call
 unfolding turn
 turn-removes list c es AtBegin s k call not sound fit is was = absurd (not was.verb)
 turn-removes list c es (BeforeLeases x xs) s k call not sound fit is was = absurd (not was.verb)
@@ -66,7 +68,9 @@ turn-removes list c es (Changing change) s k call not sound fit is was = absurd 
 turn-removes list c es (Collecting work faults) s k call not sound fit is was = removes-aside c k call sound (work-turn c work.jobs work.sweeps faults call fit is)
 turn-removes list c es (Over ending given) s k call not sound fit is was = cc
 
-removes-entered : (w : World) (n : ℕ) (c : Placed) (list : NetList) (call : Call) (faulty : Bool) → GoesOn w n c list call faulty → c.command.verb ≢ verbs.Add → OnlyRemoves (host_of w) (after_entry (host_of w) (entry_of (host_of w) n call faulty))
+removes-entered : (w : World) (n : ℕ) (c : Placed) (list : NetList) (call : Call) (faulty : Bool)
+    → GoesOn w n c list call faulty → c.command.verb ≢ verbs.Add
+    → OnlyRemoves (host_of w) (after_entry (host_of w) (entry_of (host_of w) n call faulty))
 removes-entered w n c list call faulty on not =
     let own = own-state w n c list call faulty on in
     on-entry (OnlyRemoves (host_of w)) (host_of w) n call faulty (removes-nothing (host_of w))
@@ -79,7 +83,8 @@ removes-begin : (att : Att) (k : Host) (call : Call) → is_begin_of att call �
 removes-begin att k (Begin a netns) is = removes-nothing k
 removes-begin att k _ is = cc
 
-removes-refused : (att : Att) (k : Host) (call : Call) → IsSound k → is_call_of att call ≡ true → is_granted (apply k call).1 ≡ false → RemovesBy k call
+removes-refused : (att : Att) (k : Host) (call : Call) → IsSound k → is_call_of att call ≡ true
+    → is_granted (apply k call).1 ≡ false → RemovesBy k call
 removes-refused att k (Begin a netns) sound own not = removes-nothing k
 removes-refused att k (LeaseNext a number set) sound own not =
     subst (OnlyRemoves k) (sym (refused-lease k a number set (λ addr is. let e : true ≡ false = ap is_granted (sym is) ∙ not in cc))) (removes-nothing k)
@@ -97,11 +102,13 @@ removes-refused att k (Outside change) sound own not = cc
 removes-refused att k call sound own not =
     subst (OnlyRemoves k) (sym (refused-same att k call own (λ is. let e : true ≡ false = ap is_granted (sym is) ∙ not in cc))) (removes-nothing k)
 
-removes-turn : (c : Command) (k : Host) (call : Call) → IsSound k → IsTurnOf c call → is_granted (apply k call).1 ≡ false → RemovesBy k call
+removes-turn : (c : Command) (k : Host) (call : Call) → IsSound k → IsTurnOf c call
+    → is_granted (apply k call).1 ≡ false → RemovesBy k call
 removes-turn c k call sound (inl own) not = removes-refused (att_of c) k call sound own not
 removes-turn c k call sound (inr aside) not = removes-aside c k call sound aside
 
-quiet-removes : (att : Att) (c : Command) (k : Host) (n : ℕ) (call : Call) → IsSound k → IsTurnOf c call → makes_nothing att (entry_of k n call false) ≡ true → RemovesBy k call
+quiet-removes : (att : Att) (c : Command) (k : Host) (n : ℕ) (call : Call) → IsSound k → IsTurnOf c call
+    → makes_nothing att (entry_of k n call false) ≡ true → RemovesBy k call
 quiet-removes att c k n call sound turn quiet = elim (cases_Bool (is_begin_of att call)) [
   | inl begin ↦ removes-begin att k call begin
   | inr later ↦
@@ -109,7 +116,8 @@ quiet-removes att c k n call sound turn quiet = elim (cases_Bool (is_begin_of at
       removes-turn c k call sound turn (not-true g (ap (λ b. b || not g) (sym later) ∙ quiet))
 ]
 
-quiet-entered : (w : World) (n : ℕ) (c : Placed) (list : NetList) (call : Call) (faulty : Bool) (att : Att) → GoesOn w n c list call faulty → makes_nothing att (entry_of (host_of w) n call faulty) ≡ true
+quiet-entered : (w : World) (n : ℕ) (c : Placed) (list : NetList) (call : Call) (faulty : Bool) (att : Att)
+    → GoesOn w n c list call faulty → makes_nothing att (entry_of (host_of w) n call faulty) ≡ true
     → OnlyRemoves (host_of w) (after_entry (host_of w) (entry_of (host_of w) n call faulty))
 quiet-entered w n c list call faulty att on quiet =
     on-entry (OnlyRemoves (host_of w)) (host_of w) n call faulty (removes-nothing (host_of w))
@@ -117,7 +125,8 @@ quiet-entered w n c list call faulty att on quiet =
 
 -- ---- one entry
 
-own-passes : (p : Entry → Bool) (n : ℕ) (e : Entry) → e.command ≡ n + 1 → list_all p (own_entries n (e ∷ [])) ≡ true → p e ≡ true
+own-passes : (p : Entry → Bool) (n : ℕ) (e : Entry) → e.command ≡ n + 1 → list_all p (own_entries n (e ∷ [])) ≡ true
+    → p e ≡ true
 own-passes p n e is all = (and_parts (p e) true (ap (list_all p) (sym (own_entries-own n [] e (is_of-own n e is))) ∙ all)).0
 
 add-or-not : (v : Verb) → (v ≡ verbs.Add) ⊎ (v ≢ verbs.Add)
@@ -155,12 +164,15 @@ each-stays = each-entry StaysGone gone-now gone-outside
 
 -- ---- entry by entry
 
-all-parts : (p : Entry → Bool) (n : ℕ) (e : Entry) (es : List Entry) → list_all p (own_entries n (e ∷ es)) ≡ true → (list_all p (own_entries n (e ∷ [])) ≡ true) × (list_all p (own_entries n es) ≡ true)
+all-parts : (p : Entry → Bool) (n : ℕ) (e : Entry) (es : List Entry) → list_all p (own_entries n (e ∷ es)) ≡ true
+    → (list_all p (own_entries n (e ∷ [])) ≡ true) × (list_all p (own_entries n es) ≡ true)
 all-parts p n e es all =
     and_parts (list_all p (own_entries n (e ∷ []))) (list_all p (own_entries n es))
     (sym (list_all-append p (own_entries n (e ∷ [])) (own_entries n es)) ∙ ap (list_all p) (sym (filter-append (is_of n) (e ∷ []) es)) ∙ all)
 
-stays-through : (w : World) → Legal w → (att : Att) (before between later : List Entry) → w.history ≡ before ++ between ++ later → IsWithoutMaking w.plan att between → IsGone w.plan att before → IsGone w.plan att (before ++ between)
+stays-through : (w : World) → Legal w → (att : Att) (before between later : List Entry)
+    → w.history ≡ before ++ between ++ later → IsWithoutMaking w.plan att between → IsGone w.plan att before
+    → IsGone w.plan att (before ++ between)
 stays-through w legal att before [] later is without gone = subst (IsGone w.plan att) (sym (append-nil before)) gone
 stays-through w legal att before (e ∷ es) later is without gone =
     let more = append_assoc before (e ∷ []) es in
@@ -176,7 +188,8 @@ prefix-none : (xs ys : List Entry) → xs ++ ys ≡ [] → xs ≡ []
 prefix-none [] ys e = refl
 prefix-none (x ∷ xs) ys e = cc
 
-unbegun-quiet : (c : Command) (att : Att) (es rest : List Entry) → att_of c ≡ att → BeginsFirst c (es ++ rest) → list_any (begins att) es ≡ false → list_all (makes_nothing att) es ≡ true
+unbegun-quiet : (c : Command) (att : Att) (es rest : List Entry) → att_of c ≡ att → BeginsFirst c (es ++ rest)
+    → list_any (begins att) es ≡ false → list_all (makes_nothing att) es ≡ true
 unbegun-quiet c att [] rest same first none = refl
 unbegun-quiet c att (e ∷ es) rest same first none =
     let begin : is_begin_of att e.call ≡ true = ap (is_begin_of att) first.0 ∙ ap (λ a. att_eq a att) same ∙ att_eq-refl att in
@@ -185,7 +198,9 @@ unbegun-quiet c att (e ∷ es) rest same first none =
       | inr alone ↦ and_from (makes_nothing att e) (list_all (makes_nothing att) es) (ap (λ b. b || not (lets_go_on e)) begin) (ap (list_all (makes_nothing att)) (prefix-none es rest alone))
     ]
 
-unbegun : (w : World) → Legal w → (n : ℕ) (c : Placed) (between later : List Entry) → slice_get (commands_of w.plan) n ≡ Some c → c.command.verb ≡ verbs.Del → w.history ≡ until_last n w.history ++ between ++ later
+unbegun : (w : World) → Legal w → (n : ℕ) (c : Placed) (between later : List Entry)
+    → slice_get (commands_of w.plan) n ≡ Some c → c.command.verb ≡ verbs.Del
+    → w.history ≡ until_last n w.history ++ between ++ later
     → list_any (begins (att_of c.command)) between ≡ false → IsWithoutMaking w.plan (att_of c.command) between
 unbegun w legal n c between later at del is none = λ m d there add same.
     let att = att_of c.command in

@@ -35,7 +35,8 @@ pub record IsOver (list : NetList) (c : Command) (st : State) (a : Answer) : Typ
 abbrev EndsBy : State → Finish → Type 0
 EndsBy st finish = (st ≡ Over finish.ending finish.given) ⊎ IsSwept st finish.ending
 
-work-over : (c : Command) (jobs : List Job) (sweeps : List Sweep) (faults : List ℕ) (finish : Finish) → turn_of_work c.network jobs sweeps faults ≡ Finishes finish
+work-over : (c : Command) (jobs : List Job) (sweeps : List Sweep) (faults : List ℕ) (finish : Finish)
+    → turn_of_work c.network jobs sweeps faults ≡ Finishes finish
     → (finish.ending ≡ swept faults) × (finish_of_work jobs sweeps faults ≡ Some (record { ending = swept faults; given = [] }))
 work-over c [] [] faults finish is = (let e : swept faults ≡ finish.ending = cc in sym e, refl)
 work-over c [] (s ∷ sweeps) faults finish is = cc
@@ -56,14 +57,17 @@ turn-over c (Asking next left) finish is = cc
 turn-over c (Changing change) finish is = cc
 
 -- where a command has an answer, its run is over and made it, or it was cut off
-by-scripts : (w : World) (n : ℕ) (c : Placed) (list : NetList) (a : Answer) → list_for w.plan c.command ≡ Some list → IsScripts w n c a → IsOver list c.command (state_after list c.command (own_replies w n)) a
+by-scripts : (w : World) (n : ℕ) (c : Placed) (list : NetList) (a : Answer) → list_for w.plan c.command ≡ Some list
+    → IsScripts w n c a → IsOver list c.command (state_after list c.command (own_replies w n)) a
 by-scripts w n c list a listed due =
     let finish = due.0 in
     let rs = own_replies w n in
     let turn_is : turn c.command (state_after list c.command rs) ≡ Finishes finish = ap (λ p. turn_by p c.command rs) (sym listed) ∙ due.1 in
     record { ending = finish.ending; given = finish.given; state_is = turn-over c.command (state_after list c.command rs) finish turn_is; answer_is = due.2 ∙ ap (λ p. answer_by p c.command finish) listed }
 
-pub answer-due : (w : World) → Legal w → (n : ℕ) (c : Placed) (list : NetList) (a : Answer) → slice_get (commands_of w.plan) n ≡ Some c → list_for w.plan c.command ≡ Some list → slice_get w.answers n ≡ Some (Some a)
+pub answer-due : (w : World) → Legal w → (n : ℕ) (c : Placed) (list : NetList) (a : Answer)
+    → slice_get (commands_of w.plan) n ≡ Some c → list_for w.plan c.command ≡ Some list
+    → slice_get w.answers n ≡ Some (Some a)
     → IsOver list c.command (state_by list c.command (own_entries n w.history)) a ⊎ (is_cut_off a ≡ true)
 answer-due w legal n c list a at listed is = elim (answer_is_due w legal n c at a is) [
   | inl scripts ↦ inl (by-scripts w n c list a listed scripts)
@@ -72,6 +76,7 @@ answer-due w legal n c list a at listed is = elim (answer_is_due w legal n c at 
 ]
 
 -- a run that is over makes no call
-pub over-calls : (c : Command) (ending : Ending) (given : List Addr) (call : Call) → turn c (Over ending given) ≡ Calls call → ⊥
+pub over-calls : (c : Command) (ending : Ending) (given : List Addr) (call : Call)
+    → turn c (Over ending given) ≡ Calls call → ⊥
 unfolding turn
 over-calls c ending given call is = cc

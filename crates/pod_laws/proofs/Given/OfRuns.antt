@@ -44,7 +44,8 @@ Says list c given (Skipped skip) a = a ≡ answers.Skipped skip
 Says list c given Versions a = a ≡ answers.Versions list.version
 Says list c given (Refused cause) a = a ≡ answers.Refused (error_of list.version c cause)
 
-pub says : (list : NetList) (c : Command) (given : List Addr) (ending : Ending) (a : Answer) → a ≡ answer_of list c (record { ending = ending; given = given }) → Says list c given ending a
+pub says : (list : NetList) (c : Command) (given : List Addr) (ending : Ending) (a : Answer)
+    → a ≡ answer_of list c (record { ending = ending; given = given }) → Says list c given ending a
 unfolding answer_of
 says list c given Added a is = is
 says list c given Yes a is = is
@@ -70,7 +71,9 @@ at-over : (F : RunFact) (list : NetList) (c : Command) (es : List Entry) (st : S
 at-over F list c es st ending given s collected (inl is) h = subst (λ u. F list c es u s) is h
 at-over F list c es st ending given s collected (inr swept) h = collected swept.work swept.faults (subst (λ u. F list c es u s) swept.collecting h) (swept-ending st ending swept)
 
-ended : (w : World) → Legal w → (n : ℕ) (c : Placed) (list : NetList) (a : Answer) → slice_get (commands_of w.plan) n ≡ Some c → list_for w.plan c.command ≡ Some list → slice_get w.answers n ≡ Some (Some a) → is_cut_off a ≡ false
+ended : (w : World) → Legal w → (n : ℕ) (c : Placed) (list : NetList) (a : Answer)
+    → slice_get (commands_of w.plan) n ≡ Some c → list_for w.plan c.command ≡ Some list
+    → slice_get w.answers n ≡ Some (Some a) → is_cut_off a ≡ false
     → IsEnded w n c.command list a
 ended w legal n c list a at listed is whole =
     let over = over-by w legal n c list a at listed is whole in
@@ -103,7 +106,9 @@ each-answered verb Is network by w legal n c a at is_verb is = elim (cases_Bool 
 ]
 
 -- a run that was refused ended so
-refused-ending : (list : NetList) (c : Command) (given : List Addr) (ending : Ending) (error : CniError) → Says list c given ending (answers.Refused error) → (cause : Cause) × (error ≡ error_of list.version c cause) × (ending ≡ Refused cause)
+refused-ending : (list : NetList) (c : Command) (given : List Addr) (ending : Ending) (error : CniError)
+    → Says list c given ending (answers.Refused error)
+    → (cause : Cause) × (error ≡ error_of list.version c cause) × (ending ≡ Refused cause)
 refused-ending list c given Added error says = cc
 refused-ending list c given Yes error says = cc
 refused-ending list c given (Skipped skip) error says = cc
@@ -111,7 +116,9 @@ refused-ending list c given Versions error says = cc
 refused-ending list c given (Refused cause) error says = (cause, let e = says in cc, refl)
 
 -- a refusal is for what the ending of such a run says
-each-refused : (verb : Verb) (IsFor : Command → List Entry → Share → Cause → Type 0) → ((c : Command) (es : List Entry) (s : Share) (cause : Cause) → c.verb ≡ verb → Ends c es (Refused cause) s → IsFor c es s cause) → EachRefusal verb IsFor
+each-refused : (verb : Verb) (IsFor : Command → List Entry → Share → Cause → Type 0)
+    → ((c : Command) (es : List Entry) (s : Share) (cause : Cause) → c.verb ≡ verb → Ends c es (Refused cause) s → IsFor c es s cause)
+    → EachRefusal verb IsFor
 each-refused verb IsFor why w legal n c a at is_verb is = λ list listed error refused.
     let es = own_entries n w.history in
     let s = share_of (att_of c.command) (host_at_end w n) in
@@ -120,7 +127,8 @@ each-refused verb IsFor why w legal n c a at is_verb is = λ list listed error r
     (r.0, r.1, why c.command es s r.0 is_verb (subst (λ x. Ends c.command es x s) r.2 e.ends))
 
 -- what no cause goes with is answered so
-each-where : (verb : Verb) (AreGood : Command → List Entry → Type 0) (Is : Answer → Type 0) (IsFor : Command → List Entry → Share → Cause → Type 0) → is_of_network verb ≡ true → EachIsOrRefused verb Is → EachRefusal verb IsFor
+each-where : (verb : Verb) (AreGood : Command → List Entry → Type 0) (Is : Answer → Type 0) (IsFor : Command → List Entry → Share → Cause → Type 0)
+    → is_of_network verb ≡ true → EachIsOrRefused verb Is → EachRefusal verb IsFor
     → ((c : Command) (es : List Entry) (s : Share) (cause : Cause) → AreGood c es → IsFor c es s cause → ⊥) → EachIsWhere verb AreGood Is
 each-where verb AreGood Is IsFor network answered refused never w legal n c a at is_verb is = λ good.
     elim (answered w legal n c a at is_verb is) [
@@ -133,7 +141,8 @@ each-where verb AreGood Is IsFor network answered refused never w legal n c a at
 
 -- ---- ADD
 
-added-by : (w : World) (n : ℕ) (c : Command) (list : NetList) (r : AddResult) (ending : Ending) (given : List Addr) → Says list c given ending (answers.Added r)
+added-by : (w : World) (n : ℕ) (c : Command) (list : NetList) (r : AddResult) (ending : Ending) (given : List Addr)
+    → Says list c given ending (answers.Added r)
     → IsAddedWith list c (own_entries n w.history) ending given (share_of (att_of c) (host_at_end w n)) → IsSound (host_at_end w n) → Ends c (own_entries n w.history) ending (share_of (att_of c) (host_at_end w n)) → HasMade w n c list r
 added-by w n c list r Added given says was sound ends =
     let same : r ≡ result_of_add list (att_of c) c.netns given = let e = says in cc in
@@ -156,7 +165,8 @@ was_added w legal n c list r at listed is =
     let e = ended w legal n c list (answers.Added r) at listed is refl in
     added-by w n c.command list r e.ending e.given e.says e.achieved (sound-at_end w legal n) e.ends
 
-answer-add : (c : Command) (list : NetList) (es : List Entry) (s : Share) (a : Answer) (ending : Ending) (given : List Addr) → c.verb ≡ verbs.Add → Says list c given ending a → Ends c es ending s → IsResult a ⊎ IsRefusedAnswer a
+answer-add : (c : Command) (list : NetList) (es : List Entry) (s : Share) (a : Answer) (ending : Ending) (given : List Addr)
+    → c.verb ≡ verbs.Add → Says list c given ending a → Ends c es ending s → IsResult a ⊎ IsRefusedAnswer a
 answer-add c list es s a Added given verb says ends = inl (_, says)
 answer-add c list es s a Yes given verb says ends = elim ends [ inl del ↦ absurd (not-both c verb del.verb) | inr other ↦ absurd (subst IsOtherVerb verb other) ]
 answer-add c list es s a (Skipped skip) given verb says ends = absurd (subst IsOtherVerb verb ends)
@@ -166,7 +176,8 @@ answer-add c list es s a (Refused cause) given verb says ends = inr (_, says)
 pub answers_of_add : AnswersOfAdd
 answers_of_add = each-answered verbs.Add IsResult refl answer-add
 
-why-refused : (c : Command) (es : List Entry) (s : Share) (cause : Cause) → c.verb ≡ verbs.Add → Ends c es (Refused cause) s → IsRefusedFor c es s cause
+why-refused : (c : Command) (es : List Entry) (s : Share) (cause : Cause) → c.verb ≡ verbs.Add
+    → Ends c es (Refused cause) s → IsRefusedFor c es s cause
 why-refused c es s cause verb ends = elim ends [
   | inl add ↦ add.why
   | inr (inl del) ↦ absurd (not-both c verb del.verb)
@@ -181,7 +192,8 @@ begin_leaves_the_host host att netns n reply = by_test (λ (k : Host). k ≡ hos
 
 -- ---- DEL
 
-deleted-by : (c : Command) (list : NetList) (es : List Entry) (s : Share) (ending : Ending) (given : List Addr) → c.verb ≡ verbs.Del → Says list c given ending answers.Yes → Ends c es ending s → HasDeleted c es s
+deleted-by : (c : Command) (list : NetList) (es : List Entry) (s : Share) (ending : Ending) (given : List Addr)
+    → c.verb ≡ verbs.Del → Says list c given ending answers.Yes → Ends c es ending s → HasDeleted c es s
 deleted-by c list es s Added given verb says ends = cc
 deleted-by c list es s Yes given verb says ends = elim ends [ inl del ↦ del.gone | inr other ↦ absurd (subst IsOtherVerb verb other) ]
 deleted-by c list es s (Skipped skip) given verb says ends = cc
@@ -194,7 +206,8 @@ was_deleted w legal n c a at verb is = λ yes.
     let e = ended w legal n c found.0 a at found.1 is (ap is_cut_off yes) in
     deleted-by c.command found.0 (own_entries n w.history) (share_of (att_of c.command) (host_at_end w n)) e.ending e.given verb (subst (Says found.0 c.command e.given e.ending) yes e.says) e.ends
 
-answer-del : (c : Command) (list : NetList) (es : List Entry) (s : Share) (a : Answer) (ending : Ending) (given : List Addr) → c.verb ≡ verbs.Del → Says list c given ending a → Ends c es ending s → IsYes a ⊎ IsRefusedAnswer a
+answer-del : (c : Command) (list : NetList) (es : List Entry) (s : Share) (a : Answer) (ending : Ending) (given : List Addr)
+    → c.verb ≡ verbs.Del → Says list c given ending a → Ends c es ending s → IsYes a ⊎ IsRefusedAnswer a
 answer-del c list es s a Added given verb says ends = absurd (not-both c ends.verb verb)
 answer-del c list es s a Yes given verb says ends = inl says
 answer-del c list es s a (Skipped skip) given verb says ends = absurd (subst IsOtherVerb verb ends)
@@ -204,7 +217,8 @@ answer-del c list es s a (Refused cause) given verb says ends = inr (_, says)
 pub answers_of_del : AnswersOfDel
 answers_of_del = each-answered verbs.Del IsYes refl answer-del
 
-why-undeleted : (c : Command) (es : List Entry) (s : Share) (cause : Cause) → c.verb ≡ verbs.Del → Ends c es (Refused cause) s → IsUndeletedFor c es cause
+why-undeleted : (c : Command) (es : List Entry) (s : Share) (cause : Cause) → c.verb ≡ verbs.Del
+    → Ends c es (Refused cause) s → IsUndeletedFor c es cause
 why-undeleted c es s cause verb ends = elim ends [
   | inl add ↦ absurd (not-both c add.verb verb)
   | inr (inl del) ↦ del.why
@@ -216,14 +230,16 @@ was_not_deleted = each-refused verbs.Del (λ c es s. IsUndeletedFor c es) why-un
 
 -- ---- where nothing refuses
 
-cause-refuses : (number : ℕ) (call : Call) (reply : Reply) (cause : Cause) → IsCause number call reply cause → is_granted reply ≡ false
+cause-refuses : (number : ℕ) (call : Call) (reply : Reply) (cause : Cause) → IsCause number call reply cause
+    → is_granted reply ≡ false
 cause-refuses _ _ _ _ (no_namespace number call) = refl
 cause-refuses _ _ _ _ (name_taken number call tag) = refl
 cause-refuses _ _ _ _ (pool_empty number att set ranges) = refl
 cause-refuses _ _ _ _ (no_master number link) = refl
 cause-refuses _ _ _ _ (fault number call) = refl
 
-never-refused : (c : Command) (es : List Entry) (s : Share) (cause : Cause) → NothingRefuses c es → IsRefusedFor c es s cause → ⊥
+never-refused : (c : Command) (es : List Entry) (s : Share) (cause : Cause) → NothingRefuses c es
+    → IsRefusedFor c es s cause → ⊥
 never-refused c es s cause good (inl r) = none-some cause (sym good.0 ∙ r.fields)
 never-refused c es s cause good (inr (inl r)) =
     both_ways (lets_go_on r.by) (cause-refuses 1 r.by.call r.by.reply cause r.decides) (middle-passes lets_go_on [] r.by [] (ap (list_all lets_go_on) (sym r.alone) ∙ good.1))
@@ -232,7 +248,8 @@ never-refused c es s cause good (inr (inr r)) = first-fails lets_go_on es r.firs
 pub unrefused_is_added : UnrefusedIsAdded
 unrefused_is_added = each-where verbs.Add NothingRefuses IsResult IsRefusedFor refl answers_of_add was_refused never-refused
 
-never-fails : (c : Command) (es : List Entry) (s : Share) (cause : Cause) → NothingFails c es → IsUndeletedFor c es cause → ⊥
+never-fails : (c : Command) (es : List Entry) (s : Share) (cause : Cause) → NothingFails c es
+    → IsUndeletedFor c es cause → ⊥
 never-fails c es s cause good (inl r) = none-some cause (sym good.0 ∙ r.fields)
 never-fails c es s cause good (inr r) = both_ways (has_fault es) good.1 (ap has_fault r.are ∙ fault-last r.past r.by (ap is_fault r.fault))
 

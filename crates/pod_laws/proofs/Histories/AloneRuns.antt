@@ -57,7 +57,8 @@ next-turn c st call is = elim (calls_or_over c st) [
   | inr o ↦ absurd (let e : Calls call ≡ Finishes o.finish = sym is ∙ o.turn_is in cc)
 ]
 
-run-push : (list : NetList) (c : Command) (made : ℕ) (st : State) (host : Host) (es : List Entry) (e : Entry) (faulty : Bool) → IsRunFrom list c made st host (made_in es) → turn c (state_from list c made st (replies_in es)) ≡ Calls e.call
+run-push : (list : NetList) (c : Command) (made : ℕ) (st : State) (host : Host) (es : List Entry) (e : Entry) (faulty : Bool)
+    → IsRunFrom list c made st host (made_in es) → turn c (state_from list c made st (replies_in es)) ≡ Calls e.call
     → e.reply ≡ reply_to (after host es) e.call faulty → IsRunFrom list c made st host (made_in (es ++ e ∷ []))
 run-push list c made st host [] e faulty run is reply = (next-turn c st e.call is, (faulty, reply), tt)
 run-push list c made st host (x ∷ xs) e faulty run is reply = (run.0, run.1, run-push list c (made + 1) (advance list c (made + 1) st x.reply) (after_entry host x) xs e faulty run.2 is reply)
@@ -84,7 +85,8 @@ pub record StandsTogether (p : Plan) (h : List Entry) (n : ℕ) (c : Placed) : T
 abbrev AllTogether : Plan → List Entry → Type 0
 AllTogether p h = (m : ℕ) (d : Placed) → slice_get (commands_of p) m ≡ Some d → IsExclusive d → StandsTogether p h m d
 
-together-other : (p : Plan) (h : List Entry) (m : ℕ) (d : Placed) (e : Entry) → is_of m e ≡ false → StandsTogether p h m d → StandsTogether p (h ++ e ∷ []) m d
+together-other : (p : Plan) (h : List Entry) (m : ℕ) (d : Placed) (e : Entry) → is_of m e ≡ false
+    → StandsTogether p h m d → StandsTogether p (h ++ e ∷ []) m d
 together-other p h m d e far was = record {
   before = was.before;
   until = until_last-other m h e far ∙ was.until ∙ ap (λ l. was.before ++ l) (sym (own_entries-other m h e far));
@@ -94,7 +96,8 @@ together-other p h m d e far was = record {
 }
 
 -- one entry more of a command whose entries, after these, are the last ones
-run-more : (w : World) (n : ℕ) (c : Placed) (call : Call) (faulty : Bool) (before : List Entry) → Goes w n c call faulty → w.history ≡ before ++ own_entries n w.history → RunsFrom w.plan n c before (own_entries n w.history)
+run-more : (w : World) (n : ℕ) (c : Placed) (call : Call) (faulty : Bool) (before : List Entry) → Goes w n c call faulty
+    → w.history ≡ before ++ own_entries n w.history → RunsFrom w.plan n c before (own_entries n w.history)
     → RunsFrom w.plan n c before (own_entries n w.history ++ entry_of (host_of w) n call faulty ∷ [])
 run-more w n c call faulty before (inr on) split run = λ list listed. absurd (none-some list (sym on.unlisted ∙ listed))
 run-more w n c call faulty before (inl on) split run = λ list listed.
@@ -107,7 +110,8 @@ run-more w n c call faulty before (inl on) split run = λ list listed.
     subst P same
     (run-push on.0 c.command 0 (start_state on.0 c.command) start own e faulty (run on.0 on.1.listed) (own-state w n c on.0 call faulty on.1).turn_is (ap (λ k. reply_to k call faulty) here))
 
-together-own : (w : World) (n : ℕ) (c : Placed) (call : Call) (faulty : Bool) → Goes w n c call faulty → (replies_of n w.history ≡ []) ⊎ (until_last n w.history ≡ w.history) → StandsTogether w.plan w.history n c
+together-own : (w : World) (n : ℕ) (c : Placed) (call : Call) (faulty : Bool) → Goes w n c call faulty
+    → (replies_of n w.history ≡ []) ⊎ (until_last n w.history ≡ w.history) → StandsTogether w.plan w.history n c
     → StandsTogether w.plan (w.history ++ entry_of (host_of w) n call faulty ∷ []) n c
 together-own w n c call faulty goes (inl none) was =
     let h = w.history in
@@ -135,7 +139,8 @@ together-own w n c call faulty goes (inr last) was =
       sound = was.sound;
     }
 
-together-next : (w : World) (n : ℕ) (c : Placed) (call : Call) (faulty : Bool) → Goes w n c call faulty → AllTogether w.plan w.history → AllTogether w.plan (w.history ++ entry_of (host_of w) n call faulty ∷ [])
+together-next : (w : World) (n : ℕ) (c : Placed) (call : Call) (faulty : Bool) → Goes w n c call faulty
+    → AllTogether w.plan w.history → AllTogether w.plan (w.history ++ entry_of (host_of w) n call faulty ∷ [])
 together-next w n c call faulty goes was = λ m d at exclusive.
     let e = entry_of (host_of w) n call faulty in
     let ready = ready-of w n c call faulty goes in
@@ -156,16 +161,19 @@ together-changed : ChangesKeep AllTogether
 together-changed w n c call faulty on was = together-next w n c call faulty (inr on) was
 
 -- in every history the entries of an exclusive command stand together
-pub stands_together : (w : World) → Legal w → (n : ℕ) (c : Placed) → slice_get (commands_of w.plan) n ≡ Some c → is_exclusive_verb c.command.verb ≡ true → StandsTogether w.plan w.history n c
+pub stands_together : (w : World) → Legal w → (n : ℕ) (c : Placed) → slice_get (commands_of w.plan) n ≡ Some c
+    → is_exclusive_verb c.command.verb ≡ true → StandsTogether w.plan w.history n c
 stands_together w legal =
     by-entries AllTogether (λ p well m d at exclusive. record { before = []; until = refl; none_before = refl; run = λ list listed. tt; sound = well.pods.opening.sound }) together-kept together-changed w legal
 
 -- ---- and lead from the host at its start to the one at its end
 
-pub alone-end : (w : World) (n : ℕ) (c : Placed) (t : StandsTogether w.plan w.history n c) → host_at_end w n ≡ after (after w.plan.pods.opening t.before) (own_entries n w.history)
+pub alone-end : (w : World) (n : ℕ) (c : Placed) (t : StandsTogether w.plan w.history n c)
+    → host_at_end w n ≡ after (after w.plan.pods.opening t.before) (own_entries n w.history)
 alone-end w n c t = ap (after w.plan.pods.opening) t.until ∙ after-both w.plan.pods.opening t.before (own_entries n w.history)
 
-prefix-if : (b : Bool) (x : Entry) (t xs : List Entry) → (later : List Entry) × (xs ≡ t ++ later) → (later : List Entry) × (x ∷ xs ≡ (if b then x ∷ t else []) ++ later)
+prefix-if : (b : Bool) (x : Entry) (t xs : List Entry) → (later : List Entry) × (xs ≡ t ++ later)
+    → (later : List Entry) × (x ∷ xs ≡ (if b then x ∷ t else []) ++ later)
 prefix-if true x t xs h = (h.0, ap (λ l. x ∷ l) h.1)
 prefix-if false x t xs h = (x ∷ xs, refl)
 
@@ -173,7 +181,8 @@ until_last-prefix : (n : ℕ) (h : List Entry) → (later : List Entry) × (h �
 until_last-prefix n [] = ([], refl)
 until_last-prefix n (x ∷ xs) = prefix-if (list_any (is_of n) (x ∷ xs)) x (until_last n xs) xs (until_last-prefix n xs)
 
-first-if : (n : ℕ) (b : Bool) (x : Entry) (t : List Entry) (y : Entry) (ys : List Entry) → is_of n x ≡ b → (t ≡ y ∷ ys → is_of n y ≡ true) → (if b then x ∷ t else t) ≡ y ∷ ys → is_of n y ≡ true
+first-if : (n : ℕ) (b : Bool) (x : Entry) (t : List Entry) (y : Entry) (ys : List Entry) → is_of n x ≡ b
+    → (t ≡ y ∷ ys → is_of n y ≡ true) → (if b then x ∷ t else t) ≡ y ∷ ys → is_of n y ≡ true
 first-if n true x t y ys own rest is = let e : x ≡ y = cc in ap (is_of n) (sym e) ∙ own
 first-if n false x t y ys own rest is = rest is
 
@@ -185,13 +194,15 @@ none-if : (b : Bool) (x : Entry) (t : List Entry) → (if b then x ∷ t else t)
 none-if true x t is = cc
 none-if false x t is = (refl, is)
 
-pub until_first-own : (n : ℕ) (before : List Entry) (e : Entry) (rest : List Entry) → own_entries n before ≡ [] → is_of n e ≡ true → until_first n (before ++ e ∷ rest) ≡ before
+pub until_first-own : (n : ℕ) (before : List Entry) (e : Entry) (rest : List Entry) → own_entries n before ≡ []
+    → is_of n e ≡ true → until_first n (before ++ e ∷ rest) ≡ before
 until_first-own n [] e rest none own = ap (λ b. if b then [] else e ∷ until_first n rest) own
 until_first-own n (x ∷ xs) e rest none own =
     let parts = none-if (is_of n x) x (own_entries n xs) none in
     ap (λ b. if b then [] else x ∷ until_first n (xs ++ e ∷ rest)) parts.0 ∙ ap (λ l. x ∷ l) (until_first-own n xs e rest parts.1 own)
 
-start-of : (h : List Entry) (n : ℕ) (own : List Entry) → own_entries n h ≡ own → own ≢ [] → (before : List Entry) → until_last n h ≡ before ++ own_entries n h → own_entries n before ≡ [] → until_first n h ≡ before
+start-of : (h : List Entry) (n : ℕ) (own : List Entry) → own_entries n h ≡ own → own ≢ [] → (before : List Entry)
+    → until_last n h ≡ before ++ own_entries n h → own_entries n before ≡ [] → until_first n h ≡ before
 start-of h n [] is some before until none = absurd (some refl)
 start-of h n (e ∷ es) is some before until none =
     let front = until_last-prefix n h in
@@ -199,5 +210,6 @@ start-of h n (e ∷ es) is some before until none =
     ap (until_first n) whole ∙ until_first-own n before e (es ++ front.0) none (first-own n h e es is)
 
 -- where it made a call
-pub alone-start : (w : World) (n : ℕ) (c : Placed) (t : StandsTogether w.plan w.history n c) → own_entries n w.history ≢ [] → host_at_start w n ≡ after w.plan.pods.opening t.before
+pub alone-start : (w : World) (n : ℕ) (c : Placed) (t : StandsTogether w.plan w.history n c)
+    → own_entries n w.history ≢ [] → host_at_start w n ≡ after w.plan.pods.opening t.before
 alone-start w n c t some = ap (after w.plan.pods.opening) (start-of w.history n (own_entries n w.history) refl some t.before t.until t.none_before)

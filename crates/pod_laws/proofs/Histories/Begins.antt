@@ -39,24 +39,29 @@ or-assoc : (a b d : Option ℕ) → option_or (option_or a b) d ≡ option_or a 
 or-assoc None b d = refl
 or-assoc (Some x) b d = refl
 
-last_begun-push : (att : Att) (h : List Entry) (e : Entry) → last_begun att (h ++ e ∷ []) ≡ option_or (if begins att e then Some e.command else None) (last_begun att h)
+last_begun-push : (att : Att) (h : List Entry) (e : Entry)
+    → last_begun att (h ++ e ∷ []) ≡ option_or (if begins att e then Some e.command else None) (last_begun att h)
 last_begun-push att [] e = begun-step (begins att e) e.command
 last_begun-push att (x ∷ xs) e =
     ap (λ o. option_or o (if begins att x then Some x.command else None)) (last_begun-push att xs e)
     ∙ or-assoc (if begins att e then Some e.command else None) (last_begun att xs) (if begins att x then Some x.command else None)
 
-pub last_begun-same : (att : Att) (h : List Entry) (e : Entry) → begins att e ≡ false → last_begun att (h ++ e ∷ []) ≡ last_begun att h
+pub last_begun-same : (att : Att) (h : List Entry) (e : Entry) → begins att e ≡ false
+    → last_begun att (h ++ e ∷ []) ≡ last_begun att h
 last_begun-same att h e not = last_begun-push att h e ∙ ap (λ b. option_or (if b then Some e.command else None) (last_begun att h)) not
 
-last_begun-new : (att : Att) (h : List Entry) (e : Entry) → begins att e ≡ true → last_begun att (h ++ e ∷ []) ≡ Some e.command
+last_begun-new : (att : Att) (h : List Entry) (e : Entry) → begins att e ≡ true
+    → last_begun att (h ++ e ∷ []) ≡ Some e.command
 last_begun-new att h e is = last_begun-push att h e ∙ ap (λ b. option_or (if b then Some e.command else None) (last_begun att h)) is
 
 -- a call of one attachment begins no other
-pub begin-apart : (att other : Att) (call : Call) → att_eq att other ≡ false → is_call_of att call ≡ true → is_begin_of other call ≡ false
+pub begin-apart : (att other : Att) (call : Call) → att_eq att other ≡ false → is_call_of att call ≡ true
+    → is_begin_of other call ≡ false
 begin-apart att other (Begin a netns) differ is = (call-apart att other (Begin a netns) differ is).unnamed
 begin-apart att other _ differ is = refl
 
-pub plugin-no_begin : (att other : Att) (call : Call) → is_plugin_call_of att call ≡ true → is_begin_of other call ≡ false
+pub plugin-no_begin : (att other : Att) (call : Call) → is_plugin_call_of att call ≡ true
+    → is_begin_of other call ≡ false
 plugin-no_begin att other (Begin a netns) is = cc
 plugin-no_begin att other _ is = refl
 
@@ -80,7 +85,8 @@ aside-no_begin other c call (inl asked) = question-no_begin other call asked
 aside-no_begin other c call (inr collected) = ap (is_begin_of other) (sym collected.deletes) ∙ deletion-no_begin collected.att other collected.kind
 
 -- a run begins no other attachment than its own
-pub turn-no_begin : (other : Att) (c : Command) (call : Call) → att_eq (att_of c) other ≡ false → IsTurnOf c call → is_begin_of other call ≡ false
+pub turn-no_begin : (other : Att) (c : Command) (call : Call) → att_eq (att_of c) other ≡ false → IsTurnOf c call
+    → is_begin_of other call ≡ false
 turn-no_begin other c call differ (inl own) = begin-apart (att_of c) other call differ own
 turn-no_begin other c call differ (inr aside) = aside-no_begin other c call aside
 
@@ -96,7 +102,8 @@ no-lead c es (Skipped skip) verb none h = h
 no-lead c es Versions verb none h = h
 no-lead c es (Refused cause) verb none h = let f = h.first.refuses in split_nil f.past f.later h.first.by (sym none ∙ f.are)
 
-pub first-call : (list : NetList) (c : Command) (es : List Entry) (st : State) (s : Share) (call : Call) → c.verb ≡ verbs.Add → es ≡ [] → turn c st ≡ Calls call → Undoing list c es st s → call ≡ Begin (att_of c) c.netns
+pub first-call : (list : NetList) (c : Command) (es : List Entry) (st : State) (s : Share) (call : Call)
+    → c.verb ≡ verbs.Add → es ≡ [] → turn c st ≡ Calls call → Undoing list c es st s → call ≡ Begin (att_of c) c.netns
 unfolding turn
 first-call list c es AtBegin s call verb none is was = cc
 first-call list c es (BeforeLeases x xs) s call verb none is was = absurd (was.begun none)
@@ -110,7 +117,9 @@ first-call list c es _ s call verb none is was = absurd (subst IsOtherVerb verb 
 abbrev BeginsNone : Att → Call → Type 0
 BeginsNone att call = is_begin_of att call ≡ false
 
-later-call : (list : NetList) (c : Command) (es : List Entry) (st : State) (s : Share) (att : Att) (call : Call) → c.verb ≡ verbs.Add → es ≢ [] → LeftAreOfPlugins list c st → turn c st ≡ Calls call → Undoing list c es st s → BeginsNone att call
+later-call : (list : NetList) (c : Command) (es : List Entry) (st : State) (s : Share) (att : Att) (call : Call)
+    → c.verb ≡ verbs.Add → es ≢ [] → LeftAreOfPlugins list c st → turn c st ≡ Calls call → Undoing list c es st s
+    → BeginsNone att call
 unfolding turn
 later-call list c es AtBegin s att call verb some left is was = absurd (some was.none)
 later-call list c es (BeforeLeases x xs) s att call verb some left is was = subst (BeginsNone att) (let e : x ≡ call = cc in e) (plugin-no_begin (att_of c) att x left.0.0.0)
@@ -132,7 +141,9 @@ abbrev IsLast : OpenFact
 IsLast p h m d = d.command.verb ≡ verbs.Add → own_entries m h ≢ [] → list_all lets_go_on (own_entries m h) ≡ true → last_begun (att_of d.command) h ≡ Some (m + 1)
 
 -- the entry of a ready ADD that is granted
-last-own : (w : World) (n : ℕ) (c : Placed) (list : NetList) (call : Call) (faulty : Bool) → GoesOn w n c list call faulty → AllOpen IsLast w → IsLast w.plan (w.history ++ entry_of (host_of w) n call faulty ∷ []) n c
+last-own : (w : World) (n : ℕ) (c : Placed) (list : NetList) (call : Call) (faulty : Bool)
+    → GoesOn w n c list call faulty → AllOpen IsLast w
+    → IsLast w.plan (w.history ++ entry_of (host_of w) n call faulty ∷ []) n c
 last-own w n c list call faulty on last = λ verb some go_on.
     let e = entry_of (host_of w) n call faulty in
     let es = own_entries n w.history in
@@ -153,7 +164,9 @@ last-own w n c list call faulty on last = λ verb some go_on.
     ]
 
 -- an entry of another command
-last-other : (w : World) (n m : ℕ) (c d : Placed) (list : NetList) (call : Call) (faulty : Bool) → GoesOn w n c list call faulty → m ≢ n → slice_get (commands_of w.plan) m ≡ Some d → slice_get w.answers m ≡ Some None → IsLast w.plan w.history m d
+last-other : (w : World) (n m : ℕ) (c d : Placed) (list : NetList) (call : Call) (faulty : Bool)
+    → GoesOn w n c list call faulty → m ≢ n → slice_get (commands_of w.plan) m ≡ Some d
+    → slice_get w.answers m ≡ Some None → IsLast w.plan w.history m d
     → IsLast w.plan (w.history ++ entry_of (host_of w) n call faulty ∷ []) m d
 last-other w n m c d list call faulty on differs at is_open last = λ verb some go_on.
     let e = entry_of (host_of w) n call faulty in
@@ -171,7 +184,9 @@ last-other w n m c d list call faulty on differs at is_open last = λ verb some 
 not-add : (v : Verb) → v ≡ verbs.Add → is_of_network v ≡ false → ⊥
 not-add v is outside = let e : true ≡ false = sym (ap is_of_network is) ∙ outside in cc
 
-last-changed : (w : World) (n m : ℕ) (c d : Placed) (call : Call) (faulty : Bool) → Changes w n c call faulty → slice_get (commands_of w.plan) m ≡ Some d → IsLast w.plan w.history m d → IsLast w.plan (w.history ++ entry_of (host_of w) n call faulty ∷ []) m d
+last-changed : (w : World) (n m : ℕ) (c d : Placed) (call : Call) (faulty : Bool) → Changes w n c call faulty
+    → slice_get (commands_of w.plan) m ≡ Some d → IsLast w.plan w.history m d
+    → IsLast w.plan (w.history ++ entry_of (host_of w) n call faulty ∷ []) m d
 last-changed w n m c d call faulty on at last = λ verb some go_on.
     let e = entry_of (host_of w) n call faulty in
     let change = change-of w n c call faulty on in

@@ -11,7 +11,9 @@ use Rattle.pod_laws.specs.Single.{AllDo, EachEntry, ByVerb}
 use Rattle.pod_laws.proofs.Histories.{Steps.{Changes, GoesOn, by-entries}, Turns.change-of}
 
 -- one entry more
-do-next : (Does : Plan → Entry → Host → Host → Type 0) (w : World) (x : Entry) → Does w.plan x (host_of w) (after_entry (host_of w) x) → AllDo Does w.plan w.history → AllDo Does w.plan (w.history ++ x ∷ [])
+do-next : (Does : Plan → Entry → Host → Host → Type 0) (w : World) (x : Entry)
+    → Does w.plan x (host_of w) (after_entry (host_of w) x) → AllDo Does w.plan w.history
+    → AllDo Does w.plan (w.history ++ x ∷ [])
 do-next Does w x now was = λ before later e is.
     let opening = w.plan.pods.opening in
     elim (split_snoc w.history before later x e is) [
@@ -46,7 +48,8 @@ abbrev pub DoesByVerb : (Verb → Type 0) → (Command → Host → Host → Typ
 DoesByVerb IsOfVerb Does = (w : World) (n : ℕ) (c : Placed) (list : NetList) (call : Call) (faulty : Bool) → GoesOn w n c list call faulty → IsOfVerb c.command.verb
     → Does c.command (host_of w) (after_entry (host_of w) (entry_of (host_of w) n call faulty))
 
-by-now : (IsOfVerb : Verb → Type 0) (Does : Command → Host → Host → Type 0) → DoesByVerb IsOfVerb Does → DoesNow (ByVerb IsOfVerb Does)
+by-now : (IsOfVerb : Verb → Type 0) (Does : Command → Host → Host → Type 0) → DoesByVerb IsOfVerb Does
+    → DoesNow (ByVerb IsOfVerb Does)
 by-now IsOfVerb Does now w n c list call faulty on = λ m d at number verb.
     let x = entry_of (host_of w) n call faulty in
     let place : m ≡ n = let a : n + 1 ≡ m + 1 = number in omega (arith, a) in
@@ -54,11 +57,13 @@ by-now IsOfVerb Does now w n c list call faulty on = λ m d at number verb.
     subst (λ (z : Placed). Does z.command (host_of w) (after_entry (host_of w) x)) (sym same) (now w n c list call faulty on (subst (λ (z : Placed). IsOfVerb z.command.verb) same verb))
 
 -- a command with a list has no entry from outside
-pub by-outside : (IsOfVerb : Verb → Type 0) (Does : Command → Host → Host → Type 0) → ((v : Verb) → IsOfVerb v → is_of_network v ≡ true) → DoesOutside (ByVerb IsOfVerb Does)
+pub by-outside : (IsOfVerb : Verb → Type 0) (Does : Command → Host → Host → Type 0)
+    → ((v : Verb) → IsOfVerb v → is_of_network v ≡ true) → DoesOutside (ByVerb IsOfVerb Does)
 by-outside IsOfVerb Does listed w n c call faulty on = λ m d at number verb.
     let place : m ≡ n = let a : n + 1 ≡ m + 1 = number in omega (arith, a) in
     let same : d ≡ c = ready_is w n m c d on.ready place at in
     absurd (both_ways (is_of_network c.command.verb) (change-of w n c call faulty on).verb_is (ap (λ (z : Placed). is_of_network z.command.verb) (sym same) ∙ listed d.command.verb verb))
 
-pub each-entry_of : (IsOfVerb : Verb → Type 0) (Does : Command → Host → Host → Type 0) → ((v : Verb) → IsOfVerb v → is_of_network v ≡ true) → DoesByVerb IsOfVerb Does → EachEntry (ByVerb IsOfVerb Does)
+pub each-entry_of : (IsOfVerb : Verb → Type 0) (Does : Command → Host → Host → Type 0)
+    → ((v : Verb) → IsOfVerb v → is_of_network v ≡ true) → DoesByVerb IsOfVerb Does → EachEntry (ByVerb IsOfVerb Does)
 each-entry_of IsOfVerb Does listed now = each-entry (ByVerb IsOfVerb Does) (by-now IsOfVerb Does now) (by-outside IsOfVerb Does listed)

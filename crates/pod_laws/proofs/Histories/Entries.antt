@@ -23,7 +23,8 @@ pub pushed : (es : List Entry) (e : Entry) → es ++ e ∷ [] ≢ []
 pushed es e = λ none. split_nil es [] e (sym none)
 
 -- the entry of another command is not its own
-pub apart-entry : (w : World) (n m : ℕ) (call : Call) (faulty : Bool) → m ≢ n → is_of m (entry_of (host_of w) n call faulty) ≡ false
+pub apart-entry : (w : World) (n m : ℕ) (call : Call) (faulty : Bool) → m ≢ n
+    → is_of m (entry_of (host_of w) n call faulty) ≡ false
 apart-entry w n m call faulty differs = let e = entry_of (host_of w) n call faulty in is_of-other m e (other_number e n m refl differs)
 
 -- ---- until the last entry
@@ -42,7 +43,8 @@ until_last-own n (x ∷ xs) e is =
 any-other : {X : Type 0} (p : X → Bool) (xs : List X) (y : X) → p y ≡ false → list_any p (xs ++ y ∷ []) ≡ list_any p xs
 any-other p xs y h = let e = list_any-snoc p xs y in grind (arith, e, h)
 
-pub until_last-other : (n : ℕ) (h : List Entry) (e : Entry) → is_of n e ≡ false → until_last n (h ++ e ∷ []) ≡ until_last n h
+pub until_last-other : (n : ℕ) (h : List Entry) (e : Entry) → is_of n e ≡ false
+    → until_last n (h ++ e ∷ []) ≡ until_last n h
 until_last-other n [] e is = ap (λ b. if b then e ∷ [] else []) (any-other (is_of n) [] e is)
 until_last-other n (x ∷ xs) e is =
     ap (λ b. if b then x ∷ until_last n (xs ++ e ∷ []) else []) (any-other (is_of n) (x ∷ xs) e is)

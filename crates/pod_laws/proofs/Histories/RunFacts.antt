@@ -17,7 +17,8 @@ use Rattle.pod_laws.proofs.Histories.Steps.{IsOtherKept, IsOwnKept, by-listed}
 abbrev pub state_by : NetList → Command → List Entry → State
 state_by list c es = state_after list c (replies_in es)
 
-pub state_by-append : (list : NetList) (c : Command) (es : List Entry) (e : Entry) → state_by list c (es ++ e ∷ []) ≡ advance list c (length es + 1) (state_by list c es) e.reply
+pub state_by-append : (list : NetList) (c : Command) (es : List Entry) (e : Entry)
+    → state_by list c (es ++ e ∷ []) ≡ advance list c (length es + 1) (state_by list c es) e.reply
 state_by-append list c es e =
     let rs = replies_in es in
     let long : 0 + length rs + 1 ≡ length es + 1 = let same = length-map es (λ (x : Entry). x.reply) in omega (arith, same) in
@@ -59,7 +60,8 @@ pub record IsNow (R : Keeping) (F : HostFact) (w : World) (n : ℕ) (c : Placed)
   pub keeps : R c.command old (host_of w)
   pub holds : F list c.command (own_entries n w.history) (state_by list c.command (own_entries n w.history)) old
 
-run-now : (R : Keeping) (F : HostFact) → IsKeptBetween R → StartsOn F → (w : World) (n : ℕ) (c : Placed) (list : NetList) → Legal w → IsReady w n c → RunAt F w.plan w.history n c list
+run-now : (R : Keeping) (F : HostFact) → IsKeptBetween R → StartsOn F
+    → (w : World) (n : ℕ) (c : Placed) (list : NetList) → Legal w → IsReady w n c → RunAt F w.plan w.history n c list
     → IsNow R F w n c list
 run-now R F kept start w n c list legal ready last = elim (kept.since w legal n c ready.there ready.unanswered) [
   | inl none ↦
@@ -90,9 +92,12 @@ run-own R F kept start step w n c list call faulty on last =
     subst (F list c.command (own_entries n (h ++ e ∷ [])) (state_by list c.command (own_entries n (h ++ e ∷ [])))) at_end at_entries
 
 -- a fact that holds at the start of each run, and that each own entry keeps, holds of every run at its last entry
-pub each-run : (R : Keeping) (F : HostFact) → IsKeptBetween R → StartsOn F → IsHostFact R F → (w : World) → Legal w → EachRun F w.plan w.history
+pub each-run : (R : Keeping) (F : HostFact) → IsKeptBetween R → StartsOn F → IsHostFact R F → (w : World) → Legal w
+    → EachRun F w.plan w.history
 each-run R F kept start step w legal = by-listed (RunAt F) (λ p n c list. start list c.command _) (run-own R F kept start step) (run-other F) w legal
 
 -- and of a run that goes on, at its last entry
-pub each-run-now : (R : Keeping) (F : HostFact) → IsKeptBetween R → StartsOn F → IsHostFact R F → (w : World) (n : ℕ) (c : Placed) (list : NetList) (call : Call) (faulty : Bool) → GoesOn w n c list call faulty → IsNow R F w n c list
+pub each-run-now : (R : Keeping) (F : HostFact) → IsKeptBetween R → StartsOn F → IsHostFact R F
+    → (w : World) (n : ℕ) (c : Placed) (list : NetList) (call : Call) (faulty : Bool) → GoesOn w n c list call faulty
+    → IsNow R F w n c list
 each-run-now R F kept start step w n c list call faulty on = run-now R F kept start w n c list on.legal on.ready (each-run R F kept start step w on.legal n c list on.ready.there on.listed)

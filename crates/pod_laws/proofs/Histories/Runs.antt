@@ -31,13 +31,17 @@ pub record IsKeptBeside (R : Keeping) : Type 0 where
 abbrev Since : Keeping → OpenFact
 Since R p h m d = (replies_of m h ≡ []) ⊎ R d.command (after p.pods.opening (until_last m h)) (after p.pods.opening h)
 
-since-own : (R : Keeping) → IsKeptBeside R → (w : World) (n m : ℕ) (d : Placed) (call : Call) (faulty : Bool) → m ≡ n → Since R w.plan (w.history ++ entry_of (host_of w) n call faulty ∷ []) m d
+since-own : (R : Keeping) → IsKeptBeside R → (w : World) (n m : ℕ) (d : Placed) (call : Call) (faulty : Bool) → m ≡ n
+    → Since R w.plan (w.history ++ entry_of (host_of w) n call faulty ∷ []) m d
 since-own R kept w n m d call faulty same =
     let e = entry_of (host_of w) n call faulty in
     let h = w.history ++ e ∷ [] in
     inr (subst (λ l. R d.command (after w.plan.pods.opening l) (after w.plan.pods.opening h)) (sym (until_last-own m w.history e (is_of-own m e (ap (λ j. j + 1) (sym same))))) (kept.same d.command (after w.plan.pods.opening h)))
 
-since-other : (R : Keeping) → IsKeptBeside R → (w : World) (n m : ℕ) (c d : Placed) (list : NetList) (call : Call) (faulty : Bool) → GoesOn w n c list call faulty → m ≢ n → slice_get (commands_of w.plan) m ≡ Some d → slice_get w.answers m ≡ Some None
+since-other : (R : Keeping) → IsKeptBeside R
+    → (w : World) (n m : ℕ) (c d : Placed) (list : NetList) (call : Call) (faulty : Bool)
+    → GoesOn w n c list call faulty → m ≢ n → slice_get (commands_of w.plan) m ≡ Some d
+    → slice_get w.answers m ≡ Some None
     → Since R w.plan w.history m d → Since R w.plan (w.history ++ entry_of (host_of w) n call faulty ∷ []) m d
 since-other R kept w n m c d list call faulty on differs at is_open since =
     let e = entry_of (host_of w) n call faulty in
@@ -105,7 +109,8 @@ pub record IsOwnState (w : World) (n : ℕ) (c : Placed) (list : NetList) (call 
   pub fits : LeftFit list c.command (state_by list c.command (own_entries n w.history))
   pub turn_is : turn c.command (state_by list c.command (own_entries n w.history)) ≡ Calls call
 
-pub own-state : (w : World) (n : ℕ) (c : Placed) (list : NetList) (call : Call) (faulty : Bool) → GoesOn w n c list call faulty → IsOwnState w n c list call
+pub own-state : (w : World) (n : ℕ) (c : Placed) (list : NetList) (call : Call) (faulty : Bool)
+    → GoesOn w n c list call faulty → IsOwnState w n c list call
 own-state w n c list call faulty on = record {
   of_plugins = left-are-of_plugins list c.command (replies_in (own_entries n w.history));
   fits = left-fit list c.command (replies_in (own_entries n w.history));
@@ -127,11 +132,15 @@ share-step F step w n c list call faulty old on same was =
     step w n c list call faulty on (subst (F list c.command (own_entries n w.history) (state_by list c.command (own_entries n w.history))) (sym same) was)
 
 -- a fact that holds at the start of each run, and that each own entry keeps, holds of every run at its last entry
-pub every-run : (F : RunFact) → StartsWith F → IsRunFact F → (w : World) → Legal w → (n : ℕ) (c : Placed) (list : NetList) → slice_get (commands_of w.plan) n ≡ Some c → list_for w.plan c.command ≡ Some list → AtRun F w n c list (host_at_end w n)
+pub every-run : (F : RunFact) → StartsWith F → IsRunFact F → (w : World) → Legal w
+    → (n : ℕ) (c : Placed) (list : NetList) → slice_get (commands_of w.plan) n ≡ Some c
+    → list_for w.plan c.command ≡ Some list → AtRun F w n c list (host_at_end w n)
 every-run F start step w legal n c list at listed = each-run SameShare (of_share F) share-kept (λ list c host. start list c (share_of (att_of c) host)) (share-step F step) w legal n c list at listed
 
 -- the fact about a ready run, at the host as it is
-pub every-run-now : (F : RunFact) → StartsWith F → IsRunFact F → (w : World) (n : ℕ) (c : Placed) (list : NetList) (call : Call) (faulty : Bool) → GoesOn w n c list call faulty → AtRun F w n c list (host_of w)
+pub every-run-now : (F : RunFact) → StartsWith F → IsRunFact F
+    → (w : World) (n : ℕ) (c : Placed) (list : NetList) (call : Call) (faulty : Bool) → GoesOn w n c list call faulty
+    → AtRun F w n c list (host_of w)
 every-run-now F start step w n c list call faulty on =
     let now = each-run-now SameShare (of_share F) share-kept (λ list c host. start list c (share_of (att_of c) host)) (share-step F step) w n c list call faulty on in
     subst (F list c.command (own_entries n w.history) (state_by list c.command (own_entries n w.history))) (sym now.keeps) now.holds

@@ -61,15 +61,18 @@ LeftFit list c (Changing change) = ⊥
 LeftFit list c (Collecting work faults) = c.verb ≡ verbs.Gc
 LeftFit list c (Over ending given) = Unit {0}
 
-fit-after_leases : (list : NetList) (c : Command) (left : List Call) (given : List Addr) → list_all (is_of_kinds (kinds_of list)) left ≡ true → LeftFit list c (after_leases left given)
+fit-after_leases : (list : NetList) (c : Command) (left : List Call) (given : List Addr)
+    → list_all (is_of_kinds (kinds_of list)) left ≡ true → LeftFit list c (after_leases left given)
 fit-after_leases list c [] given h = tt
 fit-after_leases list c (x ∷ xs) given h = h
 
-fit-leasing : (list : NetList) (c : Command) (left : List RangeSet) (given : List Addr) → LeftFit list c (leasing list c left given)
+fit-leasing : (list : NetList) (c : Command) (left : List RangeSet) (given : List Addr)
+    → LeftFit list c (leasing list c left given)
 fit-leasing list c [] given = fit-after_leases list c (back_of list c given) given (of_kinds-back list (att_of c) c.netns _ given)
 fit-leasing list c (s ∷ ss) given = tt
 
-fit-before_leases : (list : NetList) (c : Command) (left : List Call) → list_all (is_of_kinds (kinds_of list)) left ≡ true → LeftFit list c (before_leases list c left)
+fit-before_leases : (list : NetList) (c : Command) (left : List Call)
+    → list_all (is_of_kinds (kinds_of list)) left ≡ true → LeftFit list c (before_leases list c left)
 fit-before_leases list c [] h = fit-leasing list c (sets_of list) []
 fit-before_leases list c (x ∷ xs) h = h
 
@@ -122,7 +125,8 @@ IsAside (Collecting work faults) = Unit {0}
 IsAside (Over ending given) = IsNoResult ending
 
 -- what holds of each of them, said by what it is of each kind
-pub by-aside : (P : State → Type 0) → P FindingEntry → ((next : Question) (left : List Question) → P (Asking next left)) → ((change : Call) → P (Changing change)) → ((work : Work) (faults : List ℕ) → P (Collecting work faults))
+pub by-aside : (P : State → Type 0) → P FindingEntry → ((next : Question) (left : List Question) → P (Asking next left))
+    → ((change : Call) → P (Changing change)) → ((work : Work) (faults : List ℕ) → P (Collecting work faults))
     → ((ending : Ending) (given : List Addr) → IsNoResult ending → P (Over ending given)) → (st : State) → IsAside st → P st
 by-aside P entry asking change work over AtBegin h = absurd h
 by-aside P entry asking change work over (BeforeLeases next left) h = absurd h
@@ -148,7 +152,8 @@ changed-no_result : (number : ℕ) (r : Reply) → IsNoResult (changed number r)
 changed-no_result number (Gone b) = changed-gone number b
 changed-no_result number _ = tt
 
-pub aside-advance : (list : NetList) (c : Command) (number : ℕ) (s : State) (r : Reply) → IsAside s → IsAside (advance list c number s r)
+pub aside-advance : (list : NetList) (c : Command) (number : ℕ) (s : State) (r : Reply) → IsAside s
+    → IsAside (advance list c number s r)
 unfolding advance
 aside-advance list c number AtBegin r h = absurd h
 aside-advance list c number (BeforeLeases next left) r h = absurd h
@@ -195,7 +200,8 @@ aside-start list c verbs.Drop h = tt
 aside-start list c verbs.Flush h = tt
 
 -- what holds of each state aside, and where an ADD or a DEL begins, holds at the start
-pub by-start : (P : State → Type 0) (list : NetList) (c : Command) (v : Verb) → ((s : State) → IsAside s → P s) → P AtBegin → P (ReadingCache Yes) → P (start_of list v c)
+pub by-start : (P : State → Type 0) (list : NetList) (c : Command) (v : Verb) → ((s : State) → IsAside s → P s)
+    → P AtBegin → P (ReadingCache Yes) → P (start_of list v c)
 by-start P list c verbs.Add aside begin cache = by-unless P (add_refusal c) AtBegin (λ cause. aside (Over (Refused cause) []) tt) (λ none. begin)
 by-start P list c verbs.Del aside begin cache = by-unless P (del_refusal c) (ReadingCache Yes) (λ cause. aside (Over (Refused cause) []) tt) (λ none. cache)
 by-start P list c v aside begin cache = aside (start_of list v c) (aside-start list c v tt)

@@ -38,15 +38,18 @@ first-change c (Changing change) call starts is = cc
 first-change c _ call starts is = absurd starts
 
 -- after it nothing is left
-after-change : (c : Command) (e : Entry) → MakesOne c (e ∷ []) → outside_after c (e.reply ∷ []) ≡ Over (changed 1 e.reply) []
+after-change : (c : Command) (e : Entry) → MakesOne c (e ∷ [])
+    → outside_after c (e.reply ∷ []) ≡ Over (changed 1 e.reply) []
 after-change c e one = ap (λ s. outside_advance 1 s e.reply) one
 
-one-more : (c : Command) (es : List Entry) (e : Entry) → MakesOne c es → turn c (outside_after c (replies_in es)) ≡ Calls e.call → MakesOne c (es ++ e ∷ [])
+one-more : (c : Command) (es : List Entry) (e : Entry) → MakesOne c es
+    → turn c (outside_after c (replies_in es)) ≡ Calls e.call → MakesOne c (es ++ e ∷ [])
 one-more c [] e was is = first-change c (outside_start c) e.call (left-is-outside c []) is
 one-more c (x ∷ []) e was is = absurd (over-calls c (changed 1 x.reply) [] e.call (ap (turn c) (sym (after-change c x was)) ∙ is))
 one-more c (x ∷ y ∷ es) e was is = absurd was
 
-one-other : (m n : ℕ) (d : Command) (h : List Entry) (e : Entry) → e.command ≡ n + 1 → m ≢ n → MakesOne d (own_entries m h) → MakesOne d (own_entries m (h ++ e ∷ []))
+one-other : (m n : ℕ) (d : Command) (h : List Entry) (e : Entry) → e.command ≡ n + 1 → m ≢ n
+    → MakesOne d (own_entries m h) → MakesOne d (own_entries m (h ++ e ∷ []))
 one-other m n d h e number differs was = subst (MakesOne d) (sym (own_entries-other m h e (is_of-other m e (other_number e n m number differs)))) was
 
 one-kept : EntriesKeep AllMakeOne
@@ -80,7 +83,8 @@ few-made c [] one = omega arith
 few-made c (e ∷ []) one = omega arith
 few-made c (e ∷ f ∷ es) one = absurd one
 
-pub one-call : (w : World) → Legal w → (n : ℕ) (c : Placed) → slice_get (commands_of w.plan) n ≡ Some c → list_for w.plan c.command ≡ None → length (own_replies w n) ≤ 1
+pub one-call : (w : World) → Legal w → (n : ℕ) (c : Placed) → slice_get (commands_of w.plan) n ≡ Some c
+    → list_for w.plan c.command ≡ None → length (own_replies w n) ≤ 1
 one-call w legal n c at none =
     let few = few-made c.command (own_entries n w.history) (makes-one w legal n c at none) in
     let long = length-map (own_entries n w.history) (λ (y : Entry). y.reply) in
@@ -88,24 +92,30 @@ one-call w legal n c at none =
 
 -- ---- the answer
 
-finishes-over : (c : Command) (ending : Ending) (given : List Addr) (finish : Finish) → turn c (Over ending given) ≡ Finishes finish → answer_outside c finish ≡ outside_by c ending
+finishes-over : (c : Command) (ending : Ending) (given : List Addr) (finish : Finish)
+    → turn c (Over ending given) ≡ Finishes finish → answer_outside c finish ≡ outside_by c ending
 unfolding turn answer_outside
 finishes-over c ending given finish is = let e : ending ≡ finish.ending = cc in ap (outside_by c) (sym e)
 
-unchanged-by : (c : Command) (s : State) (a : Answer) (finish : Finish) → LeftIsOutside c s → turn c s ≡ Finishes finish → a ≡ answer_outside c finish → IsChangedBy c s [] a
+unchanged-by : (c : Command) (s : State) (a : Answer) (finish : Finish) → LeftIsOutside c s → turn c s ≡ Finishes finish
+    → a ≡ answer_outside c finish → IsChangedBy c s [] a
 unfolding turn
 unchanged-by c (Over ending given) a finish starts is a_is = a_is ∙ finishes-over c ending given finish is
 unchanged-by c (Changing change) a finish starts is a_is = cc
 unchanged-by c _ a finish starts is a_is = absurd starts
 
-changed-by : (c : Command) (es : List Entry) (a : Answer) (finish : Finish) → MakesOne c es → turn c (outside_after c (replies_in es)) ≡ Finishes finish → a ≡ answer_outside c finish → IsChangedBy c (outside_start c) es a
+changed-by : (c : Command) (es : List Entry) (a : Answer) (finish : Finish) → MakesOne c es
+    → turn c (outside_after c (replies_in es)) ≡ Finishes finish → a ≡ answer_outside c finish
+    → IsChangedBy c (outside_start c) es a
 changed-by c [] a finish one is a_is = unchanged-by c (outside_start c) a finish (left-is-outside c []) is a_is
 changed-by c (e ∷ []) a finish one is a_is =
     let over : turn c (Over (changed 1 e.reply) []) ≡ Finishes finish = ap (turn c) (sym (after-change c e one)) ∙ is in
     subst (λ s. IsChangedBy c s (e ∷ []) a) (sym one) (refl, a_is ∙ finishes-over c (changed 1 e.reply) [] finish over)
 changed-by c (e ∷ f ∷ es) a finish one is a_is = absurd one
 
-changed-script : (w : World) (n : ℕ) (c : Placed) (a : Answer) → list_for w.plan c.command ≡ None → MakesOne c.command (own_entries n w.history) → IsScripts w n c a → IsChangedBy c.command (outside_start c.command) (own_entries n w.history) a
+changed-script : (w : World) (n : ℕ) (c : Placed) (a : Answer) → list_for w.plan c.command ≡ None
+    → MakesOne c.command (own_entries n w.history) → IsScripts w n c a
+    → IsChangedBy c.command (outside_start c.command) (own_entries n w.history) a
 changed-script w n c a none one due =
     let finish = due.0 in
     let rs = own_replies w n in

@@ -30,7 +30,8 @@ other-verb verbs.Add is = cc
 other-verb verbs.Del is = cc
 other-verb _ is = tt
 
-asking-turn : (list : NetList) (c : Command) (st : State) (call : Call) → only_asks c.verb ≡ true → IsAside st → LeftFit list c st → turn c st ≡ Calls call → is_question call ≡ true
+asking-turn : (list : NetList) (c : Command) (st : State) (call : Call) → only_asks c.verb ≡ true → IsAside st
+    → LeftFit list c st → turn c st ≡ Calls call → is_question call ≡ true
 unfolding turn
 asking-turn list c FindingEntry call only aside fit is = ap is_question (let e : call ≡ CacheGet (att_of c) = cc in e)
 asking-turn list c (Asking q qs) call only aside fit is = ap is_question (let e : call ≡ q.call = cc in e) ∙ asked-is_question list q.call fit.0
@@ -39,7 +40,8 @@ asking-turn list c (Changing change) call only aside fit is = absurd fit
 asking-turn list c (Over ending given) call only aside fit is = cc
 asking-turn list c _ call only aside fit is = absurd aside
 
-pub question-turn : (w : World) (n : ℕ) (c : Placed) (list : NetList) (call : Call) (faulty : Bool) → GoesOn w n c list call faulty → only_asks c.command.verb ≡ true → is_question call ≡ true
+pub question-turn : (w : World) (n : ℕ) (c : Placed) (list : NetList) (call : Call) (faulty : Bool)
+    → GoesOn w n c list call faulty → only_asks c.command.verb ≡ true → is_question call ≡ true
 question-turn w n c list call faulty on only =
     let own = own-state w n c list call faulty on in
     asking-turn list c.command _ call only (every-run-now StaysAside aside-begun aside-step w n c list call faulty on (other-verb c.command.verb only)) own.fits own.turn_is

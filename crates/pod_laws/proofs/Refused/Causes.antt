@@ -55,7 +55,8 @@ begin-reply host att netns =
     by_test IsPluginReply (is_host_or_ns host.namespaces netns) (if has_objects host att then Taken _ else Done) NoNs
     (λ _. by_test IsPluginReply (has_objects host att) (Taken _) Done (λ _. tt) (λ _. tt)) (λ _. tt)
 
-plugin-reply : (att : Att) (host : Host) (call : Call) → is_plugin_call_of att call ≡ true → IsPluginStep (apply host call)
+plugin-reply : (att : Att) (host : Host) (call : Call) → is_plugin_call_of att call ≡ true
+    → IsPluginStep (apply host call)
 plugin-reply att host (BridgeEnsure name mtu promisc) is = bridge-reply host (find (is_host_link name) host.links) (new_bridge name mtu promisc)
 plugin-reply att host (GatewayEnsure bridge cidr) is =
     by_test IsPluginStep (has_host_bridge host bridge) _ _
@@ -108,7 +109,8 @@ pub record Refuses (number : ℕ) (call : Call) (reply : Reply) (cause : Cause) 
 no_link-refuses : (number : ℕ) (call : Call) → IsMacvlan call → Refuses number call NoLink causes.NoMaster
 no_link-refuses number call link = subst (λ j. Refuses number j NoLink causes.NoMaster) (sym link.1) (record { refuses = refl; decides = no_master number link.0 })
 
-plugin-refuses : (number : ℕ) (call : Call) (r : Reply) → IsPluginReply r → (r ≡ NoLink → IsMacvlan call) → (r ≡ Done → ⊥) → Refuses number call r (cause_of 0 number r)
+plugin-refuses : (number : ℕ) (call : Call) (r : Reply) → IsPluginReply r → (r ≡ NoLink → IsMacvlan call)
+    → (r ≡ Done → ⊥) → Refuses number call r (cause_of 0 number r)
 plugin-refuses number call Done may over not = absurd (not refl)
 plugin-refuses number call NoNs may over not = record { refuses = refl; decides = no_namespace number call }
 plugin-refuses number call NoLink may over not = no_link-refuses number call (over refl)
@@ -121,7 +123,8 @@ plugin-refuses number call (Has has) may over not = absurd may
 plugin-refuses number call (Owners owners) may over not = absurd may
 plugin-refuses number call (Kept cached) may over not = absurd may
 
-lease-refuses : (number : ℕ) (att : Att) (place : ℕ) (set : RangeSet) (r : Reply) → IsLeaseReply r → ((a : Addr) → r ≡ Leased a → ⊥) → Refuses number (LeaseNext att place set) r (cause_of place number r)
+lease-refuses : (number : ℕ) (att : Att) (place : ℕ) (set : RangeSet) (r : Reply) → IsLeaseReply r
+    → ((a : Addr) → r ≡ Leased a → ⊥) → Refuses number (LeaseNext att place set) r (cause_of place number r)
 lease-refuses number att place set Empty may not = record { refuses = refl; decides = pool_empty number att place set }
 lease-refuses number att place set (Leased addr) may not = absurd (not addr refl)
 lease-refuses number att place set Fault may not = record { refuses = refl; decides = fault number (LeaseNext att place set) }
@@ -134,15 +137,18 @@ lease-refuses number att place set (Has has) may not = absurd may
 lease-refuses number att place set (Owners owners) may not = absurd may
 lease-refuses number att place set (Kept cached) may not = absurd may
 
-pub begin-may : (att : Att) (netns : List ℕ) (k : Host) (faulty : Bool) → IsPluginReply (reply_to k (Begin att netns) faulty)
+pub begin-may : (att : Att) (netns : List ℕ) (k : Host) (faulty : Bool)
+    → IsPluginReply (reply_to k (Begin att netns) faulty)
 begin-may att netns k true = tt
 begin-may att netns k false = begin-reply k att netns
 
-pub plugin-may : (att : Att) (k : Host) (call : Call) (faulty : Bool) → is_plugin_call_of att call ≡ true → IsPluginReply (reply_to k call faulty)
+pub plugin-may : (att : Att) (k : Host) (call : Call) (faulty : Bool) → is_plugin_call_of att call ≡ true
+    → IsPluginReply (reply_to k call faulty)
 plugin-may att k call true is = tt
 plugin-may att k call false is = plugin-reply att k call is
 
-pub lease-may : (att : Att) (place : ℕ) (set : RangeSet) (k : Host) (faulty : Bool) → IsLeaseReply (reply_to k (LeaseNext att place set) faulty)
+pub lease-may : (att : Att) (place : ℕ) (set : RangeSet) (k : Host) (faulty : Bool)
+    → IsLeaseReply (reply_to k (LeaseNext att place set) faulty)
 lease-may att place set k true = tt
 lease-may att place set k false = lease-reply k att place (pick_of set (last_leased k att.network place) (leased_addresses k att.network))
 
@@ -151,19 +157,27 @@ begin-found host att netns =
     by_test (λ (r : Reply). r ≡ NoLink → ⊥) (is_host_or_ns host.namespaces netns) (if has_objects host att then Taken _ else Done) NoNs
     (λ _. by_test (λ (r : Reply). r ≡ NoLink → ⊥) (has_objects host att) (Taken _) Done (λ _ e. cc) (λ _ e. cc)) (λ _ e. cc)
 
-begin-over : (att : Att) (netns : List ℕ) (k : Host) (faulty : Bool) → reply_to k (Begin att netns) faulty ≡ NoLink → IsMacvlan (Begin att netns)
+begin-over : (att : Att) (netns : List ℕ) (k : Host) (faulty : Bool) → reply_to k (Begin att netns) faulty ≡ NoLink
+    → IsMacvlan (Begin att netns)
 begin-over att netns k true e = cc
 begin-over att netns k false e = absurd (begin-found k att netns e)
 
-plugin-over : (k : Host) (call : Call) (faulty : Bool) → ((apply k call).1 ≡ NoLink → IsMacvlan call) → reply_to k call faulty ≡ NoLink → IsMacvlan call
+plugin-over : (k : Host) (call : Call) (faulty : Bool) → ((apply k call).1 ≡ NoLink → IsMacvlan call)
+    → reply_to k call faulty ≡ NoLink → IsMacvlan call
 plugin-over k call true over e = cc
 plugin-over k call false over e = over e
 
-pub begin-refused : (att : Att) (netns : List ℕ) (k : Host) (faulty : Bool) (number : ℕ) → let r = reply_to k (Begin att netns) faulty in (r ≡ Done → ⊥) → Refuses number (Begin att netns) r (cause_of 0 number r)
+pub begin-refused : (att : Att) (netns : List ℕ) (k : Host) (faulty : Bool) (number : ℕ)
+    → let r = reply_to k (Begin att netns) faulty in (r ≡ Done → ⊥)
+    → Refuses number (Begin att netns) r (cause_of 0 number r)
 begin-refused att netns k faulty number not = plugin-refuses number (Begin att netns) (reply_to k (Begin att netns) faulty) (begin-may att netns k faulty) (begin-over att netns k faulty) not
 
-pub plugin-refused : (att : Att) (k : Host) (call : Call) (faulty : Bool) (number : ℕ) → is_plugin_call_of att call ≡ true → ((apply k call).1 ≡ NoLink → IsMacvlan call) → let r = reply_to k call faulty in (r ≡ Done → ⊥) → Refuses number call r (cause_of 0 number r)
+pub plugin-refused : (att : Att) (k : Host) (call : Call) (faulty : Bool) (number : ℕ)
+    → is_plugin_call_of att call ≡ true → ((apply k call).1 ≡ NoLink → IsMacvlan call)
+    → let r = reply_to k call faulty in (r ≡ Done → ⊥) → Refuses number call r (cause_of 0 number r)
 plugin-refused att k call faulty number is over not = plugin-refuses number call (reply_to k call faulty) (plugin-may att k call faulty is) (plugin-over k call faulty over) not
 
-pub lease-refused : (att : Att) (place : ℕ) (set : RangeSet) (k : Host) (faulty : Bool) (number : ℕ) → let r = reply_to k (LeaseNext att place set) faulty in ((a : Addr) → r ≡ Leased a → ⊥) → Refuses number (LeaseNext att place set) r (cause_of place number r)
+pub lease-refused : (att : Att) (place : ℕ) (set : RangeSet) (k : Host) (faulty : Bool) (number : ℕ)
+    → let r = reply_to k (LeaseNext att place set) faulty in ((a : Addr) → r ≡ Leased a → ⊥)
+    → Refuses number (LeaseNext att place set) r (cause_of place number r)
 lease-refused att place set k faulty number not = lease-refuses number att place set (reply_to k (LeaseNext att place set) faulty) (lease-may att place set k faulty) not

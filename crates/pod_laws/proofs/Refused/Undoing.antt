@@ -108,24 +108,29 @@ Undoing list c es (Over ending given) s = Ends c es ending s
 
 -- ---- an ADD that goes on
 
-to-after_leases : (list : NetList) (c : Command) (es : List Entry) (left : List Call) (given : List Addr) (s : Share) → IsUnrefused c es → Undoing list c es (after_leases left given) s
+to-after_leases : (list : NetList) (c : Command) (es : List Entry) (left : List Call) (given : List Addr) (s : Share)
+    → IsUnrefused c es → Undoing list c es (after_leases left given) s
 to-after_leases list c es [] given s h = h
 to-after_leases list c es (x ∷ xs) given s h = h
 
-to-leasing : (list : NetList) (c : Command) (es : List Entry) (left : List RangeSet) (given : List Addr) (s : Share) → IsUnrefused c es → Undoing list c es (leasing list c left given) s
+to-leasing : (list : NetList) (c : Command) (es : List Entry) (left : List RangeSet) (given : List Addr) (s : Share)
+    → IsUnrefused c es → Undoing list c es (leasing list c left given) s
 to-leasing list c es [] given s h = to-after_leases list c es (back_of list c given) given s h
 to-leasing list c es (x ∷ xs) given s h = h
 
-to-before_leases : (list : NetList) (c : Command) (es : List Entry) (left : List Call) (s : Share) → IsUnrefused c es → Undoing list c es (before_leases list c left) s
+to-before_leases : (list : NetList) (c : Command) (es : List Entry) (left : List Call) (s : Share) → IsUnrefused c es
+    → Undoing list c es (before_leases list c left) s
 to-before_leases list c es [] s h = to-leasing list c es (sets_of list) [] s h
 to-before_leases list c es (x ∷ xs) s h = h
 
-unrefused-more : (c : Command) (es : List Entry) (e : Entry) → IsUnrefused c es → lets_go_on e ≡ true → IsUnrefused c (es ++ e ∷ [])
+unrefused-more : (c : Command) (es : List Entry) (e : Entry) → IsUnrefused c es → lets_go_on e ≡ true
+    → IsUnrefused c (es ++ e ∷ [])
 unrefused-more c es e h g = record { verb = h.verb; fields = h.fields; go_on = list_all-push lets_go_on es e h.go_on g; begun = pushed es e }
 
 -- ---- the first refusal
 
-refusing-now : (c : Command) (es : List Entry) (e : Entry) (cause : Cause) → IsUnrefused c es → Refuses (length es + 1) e.call e.reply cause → IsRefusing c (es ++ e ∷ []) cause
+refusing-now : (c : Command) (es : List Entry) (e : Entry) (cause : Cause) → IsUnrefused c es
+    → Refuses (length es + 1) e.call e.reply cause → IsRefusing c (es ++ e ∷ []) cause
 refusing-now c es e cause h why = record {
   verb = h.verb;
   fields = h.fields;
@@ -134,7 +139,8 @@ refusing-now c es e cause h why = record {
 }
 
 -- one entry more after it
-refusing-more : (c : Command) (es : List Entry) (e : Entry) (cause : Cause) → IsRefusing c es cause → IsRefusing c (es ++ e ∷ []) cause
+refusing-more : (c : Command) (es : List Entry) (e : Entry) (cause : Cause) → IsRefusing c es cause
+    → IsRefusing c (es ++ e ∷ []) cause
 refusing-more c es e cause h =
     let f = h.first.refuses in
     record {
@@ -150,14 +156,16 @@ refusing-more c es e cause h =
 
 -- ---- deletions
 
-leads-more : (c : Command) (es : List Entry) (e : Entry) (ending : Ending) → Leads c es ending → is_fault e.reply ≡ false → Leads c (es ++ e ∷ []) ending
+leads-more : (c : Command) (es : List Entry) (e : Entry) (ending : Ending) → Leads c es ending
+    → is_fault e.reply ≡ false → Leads c (es ++ e ∷ []) ending
 leads-more c es e Added h g = h
 leads-more c es e (Skipped skip) h g = h
 leads-more c es e Versions h g = h
 leads-more c es e Yes h g = record { verb = h.verb; fields = h.fields; no_fault = no_fault-more es e h.no_fault g }
 leads-more c es e (Refused cause) h g = refusing-more c es e cause h
 
-ends-faulted : (c : Command) (es : List Entry) (e : Entry) (ending : Ending) (s : Share) → Leads c es ending → e.reply ≡ Fault → Ends c (es ++ e ∷ []) (faulted (length es + 1) ending) s
+ends-faulted : (c : Command) (es : List Entry) (e : Entry) (ending : Ending) (s : Share) → Leads c es ending
+    → e.reply ≡ Fault → Ends c (es ++ e ∷ []) (faulted (length es + 1) ending) s
 unfolding refusing-more
 ends-faulted c es e Added s h is = absurd h
 ends-faulted c es e (Skipped skip) s h is = absurd h
@@ -167,20 +175,24 @@ ends-faulted c es e (Refused cause) s h is =
     let more = refusing-more c es e cause h in
     inl (record { verb = h.verb; why = inr (inr (record { fields = h.fields; first = more.first; begun = more.begun; undone = inr (fault-last h.first.refuses.later e (ap is_fault is)) })) })
 
-ends-gone : (c : Command) (es : List Entry) (ending : Ending) (s : Share) → Leads c es ending → s ≡ no_objects → Ends c es ending s
+ends-gone : (c : Command) (es : List Entry) (ending : Ending) (s : Share) → Leads c es ending → s ≡ no_objects
+    → Ends c es ending s
 ends-gone c es Added s h none = absurd h
 ends-gone c es (Skipped skip) s h none = absurd h
 ends-gone c es Versions s h none = absurd h
 ends-gone c es Yes s h none = inl (record { verb = h.verb; gone = record { unfailed = (h.fields, h.no_fault); gone = none } })
 ends-gone c es (Refused cause) s h none = inl (record { verb = h.verb; why = inr (inr (record { fields = h.fields; first = h.first; begun = h.begun; undone = inl none })) })
 
-to-deleting : (list : NetList) (c : Command) (es : List Entry) (ks : List Kind) (ending : Ending) (s : Share) → Leads c es ending → HasKindsAlone ks s → (HasKindsAlone [] s → s ≡ no_objects) → Undoing list c es (deleting ks ending) s
+to-deleting : (list : NetList) (c : Command) (es : List Entry) (ks : List Kind) (ending : Ending) (s : Share)
+    → Leads c es ending → HasKindsAlone ks s → (HasKindsAlone [] s → s ≡ no_objects)
+    → Undoing list c es (deleting ks ending) s
 to-deleting list c es [] ending s h w none = ends-gone c es ending s h (none w)
 to-deleting list c es (k ∷ ks) ending s h w none = (h, w)
 
 -- ---- one entry, by its reply
 
-undo-at_begin : (list : NetList) (c : Command) (e : Entry) (r : Reply) (t : Share) → e.reply ≡ r → e.call ≡ Begin (att_of c) c.netns → IsAtBegin c [] → ((r ≡ Done → ⊥) → Refuses 1 e.call e.reply (cause_of 0 1 r))
+undo-at_begin : (list : NetList) (c : Command) (e : Entry) (r : Reply) (t : Share) → e.reply ≡ r
+    → e.call ≡ Begin (att_of c) c.netns → IsAtBegin c [] → ((r ≡ Done → ⊥) → Refuses 1 e.call e.reply (cause_of 0 1 r))
     → Undoing list c (e ∷ []) (at_begin list c 1 r) t
 undo-at_begin list c e Done t is call h why =
     to-before_leases list c (e ∷ []) (before_of list c) t
@@ -188,32 +200,39 @@ undo-at_begin list c e Done t is call h why =
 undo-at_begin list c e _ t is call h why =
     inl (record { verb = h.verb; why = inr (inl (record { fields = h.fields; by = e; alone = refl; begin_call = call; decides = (why (λ q. cc)).decides })) })
 
-undo-before : (list : NetList) (c : Command) (es : List Entry) (e : Entry) (xs : List Call) (r : Reply) (t : Share) → e.reply ≡ r → IsUnrefused c es → ((r ≡ Done → ⊥) → Refuses (length es + 1) e.call e.reply (cause_of 0 (length es + 1) r))
+undo-before : (list : NetList) (c : Command) (es : List Entry) (e : Entry) (xs : List Call) (r : Reply) (t : Share)
+    → e.reply ≡ r → IsUnrefused c es
+    → ((r ≡ Done → ⊥) → Refuses (length es + 1) e.call e.reply (cause_of 0 (length es + 1) r))
     → Undoing list c (es ++ e ∷ []) (at_call_before list c (length es + 1) xs r) t
 undo-before list c es e xs Done t is h why = to-before_leases list c (es ++ e ∷ []) xs t (unrefused-more c es e h (ap is_granted is))
 undo-before list c es e xs _ t is h why = refusing-now c es e _ h (why (λ q. cc))
 
-undo-lease : (list : NetList) (c : Command) (es : List Entry) (e : Entry) (sets : List RangeSet) (given : List Addr) (r : Reply) (t : Share) → e.reply ≡ r → IsUnrefused c es
+undo-lease : (list : NetList) (c : Command) (es : List Entry) (e : Entry) (sets : List RangeSet) (given : List Addr) (r : Reply) (t : Share)
+    → e.reply ≡ r → IsUnrefused c es
     → (((a : Addr) → r ≡ Leased a → ⊥) → Refuses (length es + 1) e.call e.reply (cause_of (length given) (length es + 1) r)) → Undoing list c (es ++ e ∷ []) (at_lease list c (length es + 1) sets given r) t
 undo-lease list c es e sets given (Leased a) t is h why = to-leasing list c (es ++ e ∷ []) sets (given ++ a ∷ []) t (unrefused-more c es e h (ap is_granted is))
 undo-lease list c es e sets given _ t is h why = refusing-now c es e _ h (why (λ a q. cc))
 
-undo-after : (list : NetList) (c : Command) (es : List Entry) (e : Entry) (xs : List Call) (given : List Addr) (r : Reply) (t : Share) → e.reply ≡ r → IsUnrefused c es
+undo-after : (list : NetList) (c : Command) (es : List Entry) (e : Entry) (xs : List Call) (given : List Addr) (r : Reply) (t : Share)
+    → e.reply ≡ r → IsUnrefused c es
     → ((r ≡ Done → ⊥) → Refuses (length es + 1) e.call e.reply (cause_of 0 (length es + 1) r)) → Undoing list c (es ++ e ∷ []) (at_call_after (length es + 1) xs given r) t
 undo-after list c es e xs given Done t is h why = to-after_leases list c (es ++ e ∷ []) xs given t (unrefused-more c es e h (ap is_granted is))
 undo-after list c es e xs given _ t is h why = refusing-now c es e _ h (why (λ q. cc))
 
-undo-cache : (list : NetList) (c : Command) (es : List Entry) (e : Entry) (ending : Ending) (r : Reply) (t : Share) → e.reply ≡ r → Leads c es ending → HasKindsAlone (kinds_of list) t → (HasKindsAlone [] t → t ≡ no_objects)
+undo-cache : (list : NetList) (c : Command) (es : List Entry) (e : Entry) (ending : Ending) (r : Reply) (t : Share)
+    → e.reply ≡ r → Leads c es ending → HasKindsAlone (kinds_of list) t → (HasKindsAlone [] t → t ≡ no_objects)
     → Undoing list c (es ++ e ∷ []) (at_cache list (length es + 1) ending r) t
 undo-cache list c es e ending Fault t is h w none = ends-faulted c es e ending t h is
 undo-cache list c es e ending _ t is h w none = to-deleting list c (es ++ e ∷ []) (kinds_of list) ending t (leads-more c es e ending h (ap is_fault is)) w none
 
-undo-gone : (list : NetList) (c : Command) (es : List Entry) (e : Entry) (k : Kind) (ks : List Kind) (ending : Ending) (b : Bool) (t : Share) → e.reply ≡ Gone b → Leads c es ending → HasKindsAlone (k ∷ ks) t → (b ≡ false → HasKindsAlone ks t)
+undo-gone : (list : NetList) (c : Command) (es : List Entry) (e : Entry) (k : Kind) (ks : List Kind) (ending : Ending) (b : Bool) (t : Share)
+    → e.reply ≡ Gone b → Leads c es ending → HasKindsAlone (k ∷ ks) t → (b ≡ false → HasKindsAlone ks t)
     → (HasKindsAlone [] t → t ≡ no_objects) → Undoing list c (es ++ e ∷ []) (at_deletion (length es + 1) k ks ending (Gone b)) t
 undo-gone list c es e k ks ending true t is h w less none = (leads-more c es e ending h (ap is_fault is), w)
 undo-gone list c es e k ks ending false t is h w less none = to-deleting list c (es ++ e ∷ []) ks ending t (leads-more c es e ending h (ap is_fault is)) (less refl) none
 
-undo-deletion : (list : NetList) (c : Command) (es : List Entry) (e : Entry) (k : Kind) (ks : List Kind) (ending : Ending) (r : Reply) (t : Share) → e.reply ≡ r → Leads c es ending → HasKindsAlone (k ∷ ks) t → (r ≡ Gone false → HasKindsAlone ks t)
+undo-deletion : (list : NetList) (c : Command) (es : List Entry) (e : Entry) (k : Kind) (ks : List Kind) (ending : Ending) (r : Reply) (t : Share)
+    → e.reply ≡ r → Leads c es ending → HasKindsAlone (k ∷ ks) t → (r ≡ Gone false → HasKindsAlone ks t)
     → (HasKindsAlone [] t → t ≡ no_objects) → Undoing list c (es ++ e ∷ []) (at_deletion (length es + 1) k ks ending r) t
 undo-deletion list c es e k ks ending (Gone b) t is h w less none = undo-gone list c es e k ks ending b t is h w (λ f. less (ap (λ q. Gone q) f)) none
 undo-deletion list c es e k ks ending Fault t is h w less none = ends-faulted c es e ending t h is
@@ -221,25 +240,31 @@ undo-deletion list c es e k ks ending _ t is h w less none = (leads-more c es e 
 
 -- ---- what a deletion leaves of the share
 
-within-deleted : (att : Att) (k : Host) (n : ℕ) (faulty : Bool) (ks : List Kind) (kind : Kind) → IsSound k → HasKindsAlone ks (share_of att k) → HasKindsAlone ks (share_of att (after_entry k (entry_of k n (deletion att kind) faulty)))
+within-deleted : (att : Att) (k : Host) (n : ℕ) (faulty : Bool) (ks : List Kind) (kind : Kind) → IsSound k
+    → HasKindsAlone ks (share_of att k)
+    → HasKindsAlone ks (share_of att (after_entry k (entry_of k n (deletion att kind) faulty)))
 within-deleted att k n faulty ks kind sound w =
     on-entry (λ h. HasKindsAlone ks (share_of att h)) k n (deletion att kind) faulty w
     (λ f. HasKindsAlone-removes att ks k (apply k (deletion att kind)).0 (removes-deletion att k kind sound) w)
 
-gone-link : (att : Att) (k : Host) (o : Option Link) (ks : List Kind) → find (λ l. is_own att l.tag) k.links ≡ o → (without_link k o).1 ≡ Gone false → HasKindsAlone (kinds.Links ∷ ks) (share_of att k) → HasKindsAlone ks (share_of att (without_link k o).0)
+gone-link : (att : Att) (k : Host) (o : Option Link) (ks : List Kind) → find (λ l. is_own att l.tag) k.links ≡ o
+    → (without_link k o).1 ≡ Gone false → HasKindsAlone (kinds.Links ∷ ks) (share_of att k)
+    → HasKindsAlone ks (share_of att (without_link k o).0)
 gone-link att k o ks is h w =
     let g = gone-links att k o is h in
     subst (λ j. HasKindsAlone ks (share_of att j)) (sym g.0) (record { links = λ _. g.1; rules = w.rules; settings = w.settings; leases = w.leases; cached = w.cached })
 
 -- a deletion that found nothing: nothing of its kind is there
-gone-kind : (att : Att) (k : Host) (kind : Kind) (ks : List Kind) → (apply k (deletion att kind)).1 ≡ Gone false → HasKindsAlone (kind ∷ ks) (share_of att k) → HasKindsAlone ks (share_of att (apply k (deletion att kind)).0)
+gone-kind : (att : Att) (k : Host) (kind : Kind) (ks : List Kind) → (apply k (deletion att kind)).1 ≡ Gone false
+    → HasKindsAlone (kind ∷ ks) (share_of att k) → HasKindsAlone ks (share_of att (apply k (deletion att kind)).0)
 gone-kind att k kinds.Links ks h w = gone-link att k (find (λ l. is_own att l.tag) k.links) ks refl h w
 gone-kind att k kinds.Rules ks h w = let g = gone-none (λ r. is_own att r.tag) k.rules h in rw g.0 (record { links = w.links; rules = λ _. g.1; settings = w.settings; leases = w.leases; cached = w.cached })
 gone-kind att k kinds.Settings ks h w = let g = gone-none (λ r. is_own att r.tag) k.settings h in rw g.0 (record { links = w.links; rules = w.rules; settings = λ _. g.1; leases = w.leases; cached = w.cached })
 gone-kind att k kinds.Leases ks h w = let g = gone-none (λ r. is_own att r.tag) k.leases h in rw g.0 (record { links = w.links; rules = w.rules; settings = w.settings; leases = λ _. g.1; cached = w.cached })
 gone-kind att k kinds.Cached ks h w = let g = gone-none (λ r. is_own att r.tag) k.cached h in rw g.0 (record { links = w.links; rules = w.rules; settings = w.settings; leases = w.leases; cached = λ _. g.1 })
 
-gone-deleted : (att : Att) (k : Host) (n : ℕ) (faulty : Bool) (kind : Kind) (ks : List Kind) → reply_to k (deletion att kind) faulty ≡ Gone false → HasKindsAlone (kind ∷ ks) (share_of att k)
+gone-deleted : (att : Att) (k : Host) (n : ℕ) (faulty : Bool) (kind : Kind) (ks : List Kind)
+    → reply_to k (deletion att kind) faulty ≡ Gone false → HasKindsAlone (kind ∷ ks) (share_of att k)
     → HasKindsAlone ks (share_of att (after_entry k (entry_of k n (deletion att kind) faulty)))
 gone-deleted att k n true kind ks h w = cc
 gone-deleted att k n false kind ks h w = subst (λ j. HasKindsAlone ks (share_of att j)) (sym (host-made k n (deletion att kind))) (gone-kind att k kind ks h w)
@@ -251,17 +276,20 @@ none-left att k sound w =
 
 -- ---- runs that make no attachment
 
-pub undone-end : (c : Command) (es : List Entry) (ending : Ending) (s : Share) → IsOther c → IsNoResult ending → Ends c es ending s
+pub undone-end : (c : Command) (es : List Entry) (ending : Ending) (s : Share) → IsOther c → IsNoResult ending
+    → Ends c es ending s
 undone-end c es Added s other h = absurd h
 undone-end c es Yes s other h = inr other
 undone-end c es (Skipped skip) s other h = other
 undone-end c es Versions s other h = other
 undone-end c es (Refused cause) s other h = inr (inr other)
 
-undone-aside : (list : NetList) (c : Command) (es : List Entry) (st : State) (s : Share) → IsOther c → IsAside st → Undoing list c es st s
+undone-aside : (list : NetList) (c : Command) (es : List Entry) (st : State) (s : Share) → IsOther c → IsAside st
+    → Undoing list c es st s
 undone-aside list c es st s other = by-aside (λ x. Undoing list c es x s) other (λ next left. other) (λ change. other) (λ work faults. other) (λ ending given none. undone-end c es ending s other none) st
 
-undone-next : (list : NetList) (c : Command) (es : List Entry) (number : ℕ) (st : State) (r : Reply) (s : Share) → IsOther c → IsAside st → Undoing list c es (advance list c number st r) s
+undone-next : (list : NetList) (c : Command) (es : List Entry) (number : ℕ) (st : State) (r : Reply) (s : Share)
+    → IsOther c → IsAside st → Undoing list c es (advance list c number st r) s
 undone-next list c es number st r s other h = undone-aside list c es (advance list c number st r) s other (aside-advance list c number st r h)
 
 -- ---- every run
@@ -272,7 +300,8 @@ pub record IsEntered (list : NetList) (c : Command) (k : Host) (n : ℕ) (faulty
   pub sound : IsSound (after_entry k (entry_of k n call faulty))
   pub over : is_plugin_call_of (att_of c) call ≡ true → (apply k call).1 ≡ NoLink → IsMacvlan call
 
-begin-first : (list : NetList) (c : Command) (es : List Entry) (k : Host) (n : ℕ) (faulty : Bool) → IsAtBegin c es → AfterEntry Undoing list c es AtBegin k n faulty (Begin (att_of c) c.netns)
+begin-first : (list : NetList) (c : Command) (es : List Entry) (k : Host) (n : ℕ) (faulty : Bool) → IsAtBegin c es
+    → AfterEntry Undoing list c es AtBegin k n faulty (Begin (att_of c) c.netns)
 unfolding advance
 begin-first list c es k n faulty h =
     let e = entry_of k n (Begin (att_of c) c.netns) faulty in
@@ -280,7 +309,8 @@ begin-first list c es k n faulty h =
     subst P (sym h.none)
     (undo-at_begin list c e _ _ refl refl (record { verb = h.verb; fields = h.fields; none = refl }) (λ not. begin-refused (att_of c) c.netns k faulty 1 not))
 
-undone-own : (list : NetList) (c : Command) (es : List Entry) (st : State) (k : Host) (n : ℕ) (faulty : Bool) (call : Call) → LeftAreOfPlugins list c st → turn c st ≡ Calls call → IsSound k → IsEntered list c k n faulty call
+undone-own : (list : NetList) (c : Command) (es : List Entry) (st : State) (k : Host) (n : ℕ) (faulty : Bool) (call : Call)
+    → LeftAreOfPlugins list c st → turn c st ≡ Calls call → IsSound k → IsEntered list c k n faulty call
     → Undoing list c es st (share_of (att_of c) k) → AfterEntry Undoing list c es st k n faulty call
 unfolding turn advance
 undone-own list c es AtBegin k n faulty call left is sound on was =
@@ -316,11 +346,13 @@ undone-step w n c list call faulty on was =
 
 -- ---- the start
 
-start-add : (list : NetList) (c : Command) (o : Option Cause) (s : Share) → c.verb ≡ verbs.Add → add_refusal c ≡ o → Undoing list c [] (unless_refused o AtBegin) s
+start-add : (list : NetList) (c : Command) (o : Option Cause) (s : Share) → c.verb ≡ verbs.Add → add_refusal c ≡ o
+    → Undoing list c [] (unless_refused o AtBegin) s
 start-add list c None s verb fields = record { verb = verb; fields = fields; none = refl }
 start-add list c (Some cause) s verb fields = inl (record { verb = verb; why = inl (record { fields = fields; no_entry = refl }) })
 
-start-del : (list : NetList) (c : Command) (o : Option Cause) (s : Share) → c.verb ≡ verbs.Del → del_refusal c ≡ o → Undoing list c [] (unless_refused o (ReadingCache Yes)) s
+start-del : (list : NetList) (c : Command) (o : Option Cause) (s : Share) → c.verb ≡ verbs.Del → del_refusal c ≡ o
+    → Undoing list c [] (unless_refused o (ReadingCache Yes)) s
 start-del list c None s verb fields = record { verb = verb; fields = fields; no_fault = refl }
 start-del list c (Some cause) s verb fields = inr (inl (record { verb = verb; why = inl (record { fields = fields; no_entry = refl }) }))
 

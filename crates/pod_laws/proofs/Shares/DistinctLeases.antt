@@ -13,7 +13,8 @@ use Rattle.pod_workers.proofs.Histories.{after-append}
 use Rattle.pod_laws.specs.Moments.{host_at_end, is_of, until_last}
 use Rattle.pod_laws.proofs.Histories.{Entries.{until_last-own, until_last-other}, Steps.{by-entries, sound-entered}}
 
-distinct-of-map : {X Y : Type 0} (same : Y → Y → Bool) (f : X → Y) (test : X → X → Bool) → ((x y : X) → same (f x) (f y) ≡ test x y) → (xs : List X) → distinct same (map f xs) ≡ distinct test xs
+distinct-of-map : {X Y : Type 0} (same : Y → Y → Bool) (f : X → Y) (test : X → X → Bool)
+    → ((x y : X) → same (f x) (f y) ≡ test x y) → (xs : List X) → distinct same (map f xs) ≡ distinct test xs
 distinct-of-map same f test e [] = refl
 distinct-of-map same f test e (x ∷ xs) =
     let again : list_any (same (f x)) (map f xs) ≡ list_any (test x) xs = list_any-map (same (f x)) f xs ∙ list_any-same_test (λ y. same (f x) (f y)) (test x) (e x) xs in
@@ -23,7 +24,8 @@ same_lease : (att : Att) (a b : Addr) → (bytes_eq att.network att.network && a
 same_lease att a b = grind (arith, nat_list_eq_equiv.refl att.network)
 
 -- in a sound host the leases of one attachment are of distinct addresses
-pub leases-distinct : (att : Att) (host : Host) (addrs : List Addr) → IsSound host → (share_of att host).leases ≡ map (lease_of att) addrs → distinct addr_eq addrs ≡ true
+pub leases-distinct : (att : Att) (host : Host) (addrs : List Addr) → IsSound host
+    → (share_of att host).leases ≡ map (lease_of att) addrs → distinct addr_eq addrs ≡ true
 leases-distinct att host addrs sound is =
     let same : Lease → Lease → Bool = λ a b. bytes_eq a.network b.network && addr_eq a.addr b.addr in
     sym (distinct-of-map same (lease_of att) addr_eq (same_lease att) addrs) ∙ ap (distinct same) (sym is)
@@ -33,7 +35,8 @@ leases-distinct att host addrs sound is =
 abbrev AllSound : Plan → List Entry → Type 0
 AllSound p h = (m : ℕ) → IsSound (after p.pods.opening (until_last m h))
 
-sound-next : (w : World) (e : Entry) → IsSound (after_entry (host_of w) e) → AllSound w.plan w.history → AllSound w.plan (w.history ++ e ∷ [])
+sound-next : (w : World) (e : Entry) → IsSound (after_entry (host_of w) e) → AllSound w.plan w.history
+    → AllSound w.plan (w.history ++ e ∷ [])
 sound-next w e sound was = λ m.
     let opening = w.plan.pods.opening in
     elim (cases_Bool (is_of m e)) [

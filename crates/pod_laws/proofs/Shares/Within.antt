@@ -34,14 +34,16 @@ use Rattle.pod_laws.proofs.Histories.Turns.{removes-changed, turn-of, work-turn}
 abbrev AfterCall : Att → Host → List Kind → Call → Type 0
 AfterCall att k ks call = HasKindsAlone ks (share_of att (apply k call).0)
 
-within-plugin : (att : Att) (k : Host) (ks : List Kind) (call : Call) → is_plugin_call_of att call ≡ true → is_of_kinds ks call ≡ true → HasKindsAlone ks (share_of att k) → AfterCall att k ks call
+within-plugin : (att : Att) (k : Host) (ks : List Kind) (call : Call) → is_plugin_call_of att call ≡ true
+    → is_of_kinds ks call ≡ true → HasKindsAlone ks (share_of att k) → AfterCall att k ks call
 within-plugin att k ks call own fits w =
     elim (done_or_not (apply k call).1) [
       | inl done ↦ subst (HasKindsAlone ks) (sym (share-own att k call own done)) (HasKindsAlone-call ks (share_of att k) call fits w)
       | inr not ↦ subst (λ h. HasKindsAlone ks (share_of att h)) (sym (refused-same att k call own not)) w
     ]
 
-within-lease : (att : Att) (k : Host) (ks : List Kind) (number : ℕ) (set : RangeSet) → has_kind kinds.Leases ks ≡ true → HasKindsAlone ks (share_of att k) → AfterCall att k ks (LeaseNext att number set)
+within-lease : (att : Att) (k : Host) (ks : List Kind) (number : ℕ) (set : RangeSet) → has_kind kinds.Leases ks ≡ true
+    → HasKindsAlone ks (share_of att k) → AfterCall att k ks (LeaseNext att number set)
 within-lease att k ks number set there w =
     elim (leased_or_not (apply k (LeaseNext att number set)).1) [
       | inl leased ↦
@@ -51,12 +53,14 @@ within-lease att k ks number set there w =
     ]
 
 -- what only asks, or deletes for a GC
-within-aside : (att : Att) (c : Command) (k : Host) (ks : List Kind) (call : Call) → IsSound k → AsksOrCollects c call → HasKindsAlone ks (share_of att k) → AfterCall att k ks call
+within-aside : (att : Att) (c : Command) (k : Host) (ks : List Kind) (call : Call) → IsSound k → AsksOrCollects c call
+    → HasKindsAlone ks (share_of att k) → AfterCall att k ks call
 within-aside att c k ks call sound (inl asked) w = subst (λ h. HasKindsAlone ks (share_of att h)) (sym (question-leaves k call asked)) w
 within-aside att c k ks call sound (inr collected) w =
     subst (AfterCall att k ks) collected.deletes (HasKindsAlone-removes att ks k (apply k (deletion collected.att collected.kind)).0 (removes-deletion collected.att k collected.kind sound) w)
 
-within-turn : (list : NetList) (c : Command) (st : State) (k : Host) (call : Call) → LeftAreOfPlugins list c st → LeftFit list c st → IsSound k → turn c st ≡ Calls call → HasKindsAlone (kinds_of list) (share_of (att_of c) k)
+within-turn : (list : NetList) (c : Command) (st : State) (k : Host) (call : Call) → LeftAreOfPlugins list c st
+    → LeftFit list c st → IsSound k → turn c st ≡ Calls call → HasKindsAlone (kinds_of list) (share_of (att_of c) k)
     → AfterCall (att_of c) k (kinds_of list) call
 unfolding turn
 within-turn list c AtBegin k call left fit sound is w = subst (AfterCall (att_of c) k (kinds_of list)) (let e : Begin (att_of c) c.netns ≡ call = cc in e) w
@@ -86,7 +90,8 @@ within-turn list c (Over ending given) k call left fit sound is w = cc
 abbrev AllWithin : Plan → List Entry → Type 0
 AllWithin p h = (att : Att) (list : NetList) → list_named p.lists att.network ≡ Some list → HasKindsAlone (kinds_of list) (objects_after p att h)
 
-pub list_named-listed : (p : Plan) (c : Command) (list : NetList) → list_for p c ≡ Some list → list_named p.lists c.network ≡ Some list
+pub list_named-listed : (p : Plan) (c : Command) (list : NetList) → list_for p c ≡ Some list
+    → list_named p.lists c.network ≡ Some list
 unfolding list_for
 list_named-listed p c list is = if-listed (is_of_network c.verb) (list_named p.lists c.network) list is
 
@@ -109,7 +114,8 @@ opening-share att host opening =
 within-start : (p : Plan) → IsWellFormed p → AllWithin p []
 within-start p well = λ att list listed. subst (HasKindsAlone (kinds_of list)) (sym (opening-share att p.pods.opening well.pods.opening)) (HasKindsAlone-nothing (kinds_of list))
 
-within-mine : (w : World) (n : ℕ) (c : Placed) (list : NetList) (call : Call) (faulty : Bool) → GoesOn w n c list call faulty → HasKindsAlone (kinds_of list) (share_of (att_of c.command) (host_of w))
+within-mine : (w : World) (n : ℕ) (c : Placed) (list : NetList) (call : Call) (faulty : Bool)
+    → GoesOn w n c list call faulty → HasKindsAlone (kinds_of list) (share_of (att_of c.command) (host_of w))
     → HasKindsAlone (kinds_of list) (share_of (att_of c.command) (after_entry (host_of w) (entry_of (host_of w) n call faulty)))
 within-mine w n c list call faulty on was =
     let rs = own_replies w n in
@@ -117,7 +123,9 @@ within-mine w n c list call faulty on was =
     (λ f. within-turn list c.command (state_after list c.command rs) (host_of w) call (left-are-of_plugins list c.command rs) (left-fit list c.command rs) (sound_host w on.legal) on.turn_is was)
 
 -- another attachment's share is the same, or a GC takes from it
-within-other : (w : World) (n : ℕ) (c : Placed) (list : NetList) (call : Call) (faulty : Bool) (att : Att) (ks : List Kind) → GoesOn w n c list call faulty → att_eq (att_of c.command) att ≡ false → HasKindsAlone ks (share_of att (host_of w))
+within-other : (w : World) (n : ℕ) (c : Placed) (list : NetList) (call : Call) (faulty : Bool) (att : Att) (ks : List Kind)
+    → GoesOn w n c list call faulty → att_eq (att_of c.command) att ≡ false
+    → HasKindsAlone ks (share_of att (host_of w))
     → HasKindsAlone ks (share_of att (after_entry (host_of w) (entry_of (host_of w) n call faulty)))
 within-other w n c list call faulty att ks on apart was =
     let sound = sound_host w on.legal in
@@ -127,7 +135,9 @@ within-other w n c list call faulty att ks on apart was =
       | inr aside ↦ within-aside att c.command (host_of w) ks call sound aside was
     ])
 
-within-kept : (w : World) (n : ℕ) (c : Placed) (list : NetList) (call : Call) (faulty : Bool) → GoesOn w n c list call faulty → AllWithin w.plan w.history → AllWithin w.plan (w.history ++ entry_of (host_of w) n call faulty ∷ [])
+within-kept : (w : World) (n : ℕ) (c : Placed) (list : NetList) (call : Call) (faulty : Bool)
+    → GoesOn w n c list call faulty → AllWithin w.plan w.history
+    → AllWithin w.plan (w.history ++ entry_of (host_of w) n call faulty ∷ [])
 within-kept w n c list call faulty on was = λ att other listed.
     let e = entry_of (host_of w) n call faulty in
     let found : list_named w.plan.lists (att_of c.command).network ≡ Some list = list_named-listed w.plan c.command list on.listed in
@@ -141,7 +151,8 @@ within-kept w n c list call faulty on was = λ att other listed.
       | inr apart ↦ within-other w n c list call faulty att (kinds_of other) on apart (was att other listed)
     ])
 
-within-changed : (w : World) (n : ℕ) (c : Placed) (call : Call) (faulty : Bool) → Changes w n c call faulty → AllWithin w.plan w.history → AllWithin w.plan (w.history ++ entry_of (host_of w) n call faulty ∷ [])
+within-changed : (w : World) (n : ℕ) (c : Placed) (call : Call) (faulty : Bool) → Changes w n c call faulty
+    → AllWithin w.plan w.history → AllWithin w.plan (w.history ++ entry_of (host_of w) n call faulty ∷ [])
 within-changed w n c call faulty on was = λ att other listed.
     let e = entry_of (host_of w) n call faulty in
     subst (λ k. HasKindsAlone (kinds_of other) (share_of att k)) (sym (after-append w.plan.pods.opening w.history e))
@@ -151,6 +162,7 @@ pub all-within : (w : World) → Legal w → AllWithin w.plan w.history
 all-within w legal = by-entries AllWithin within-start within-kept within-changed w legal
 
 -- so it is after one entry more
-pub within-entered : (w : World) (n : ℕ) (c : Placed) (list : NetList) (call : Call) (faulty : Bool) → GoesOn w n c list call faulty
+pub within-entered : (w : World) (n : ℕ) (c : Placed) (list : NetList) (call : Call) (faulty : Bool)
+    → GoesOn w n c list call faulty
     → HasKindsAlone (kinds_of list) (share_of (att_of c.command) (after_entry (host_of w) (entry_of (host_of w) n call faulty)))
 within-entered w n c list call faulty on = within-mine w n c list call faulty on (all-within w on.legal (att_of c.command) list (list_named-listed w.plan c.command list on.listed))

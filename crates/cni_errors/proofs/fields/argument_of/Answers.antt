@@ -5,7 +5,8 @@ use Rattle.cni_errors.proofs.{Arguments.{uncut_is_none, argument_is}, fields.arg
 use Rattle.cni_errors.proofs.fields.argument_of.Goals as goal
 
 -- a piece that is cut at `=`, by whether the two parts are a pair
-cut : (c : After-is_pair) (b : Bool) → c.is_pair.result ≡ b → fields.argument_of c.args.piece.now ≡ cond b (Some (c.in-Some.key.now, c.in-Some.value.now)) None
+cut : (c : After-is_pair) (b : Bool) → c.is_pair.result ≡ b
+    → fields.argument_of c.args.piece.now ≡ cond b (Some (c.in-Some.key.now, c.in-Some.value.now)) None
 cut c b is =
     let first = split_once_first 61 c.args.piece.now c.split_once.result c.split_once.ensures.cases (lit< tt) in
     let here = rw c.in-Some.is at first in

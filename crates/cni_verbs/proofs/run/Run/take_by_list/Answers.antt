@@ -8,7 +8,8 @@ use Rattle.cni_verbs.specs.declared.phase.Phase.{Phase}
 use Rattle.cni_verbs.proofs.PhaseSteps.{awaits}
 use Rattle.cni_verbs.proofs.run.Run.take_by_list.Goals as goal
 
-listed-awaits : (list : Option NetList) (c : Command) (addrs : List Addr) (phase : Phase) → is_some list ≡ true → IsOpen (state_by_phase list c addrs phase)
+listed-awaits : (list : Option NetList) (c : Command) (addrs : List Addr) (phase : Phase) → is_some list ≡ true
+    → IsOpen (state_by_phase list c addrs phase)
     → is_prepared_by list phase ≡ true → Awaits phase
 listed-awaits None c addrs phase listed open_by prepared = absurd cc
 listed-awaits (Some list) c addrs phase listed open_by prepared = awaits list c addrs phase open_by prepared
