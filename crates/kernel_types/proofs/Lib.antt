@@ -13,6 +13,7 @@ pub mod Removal
 pub mod Replies
 pub mod SoundHosts
 pub mod SoundOpening
+pub mod ToldByKeys
 pub mod TouchRemoval
 mod Adds
 mod Append

@@ -1,5 +1,5 @@
 -- When an object has the key of a new one: a list has at most one object of each key.
-use Rattle.std.specs.{Prelude.{Bool, ◌&&◌}, Str.bytes_eq}
+use Rattle.std.specs.{Prelude.{◌≡◌, ◌↔◌, Bool, true, ◌&&◌}, Str.bytes_eq}
 use Rattle.kernel_types.specs.{Equal.{addr_eq, cidr_eq, rule_eq, tag_eq}, Terms.{is_at, is_lease_at, is_of_pool}}
 use Rattle.kernel_types.specs.declared.keys.{AddrKey.AddrKey, RouteKey.RouteKey, SettingKey.SettingKey}
 use Rattle.kernel_types.specs.declared.object.{AddrObj.AddrObj, CachedObj.CachedObj, Last.Last, Lease.Lease, Link.Link}
@@ -45,3 +45,7 @@ is_same_cached new c = tag_eq c.tag new.tag
 
 abbrev pub is_same_last : Last → Last → Bool
 is_same_last new l = is_of_pool new.network new.set l
+
+-- the test tells which objects have equal keys
+abbrev pub TellsKeys : {X K : Type 0} → (X → X → Bool) → (X → K) → Type 0
+TellsKeys {X} same key_of = (new x : X) → (same new x ≡ true) ↔ (key_of x ≡ key_of new)

@@ -10,6 +10,7 @@ ghost use Rattle.kernel_types.specs.Allowed.{IsAllowed};
 ghost use Rattle.kernel_types.specs.Apply.{apply};
 ghost use Rattle.kernel_types.specs.Apply.Calls.{goes_with, goes_with_ns, lease_next_of};
 ghost use Rattle.kernel_types.specs.Isolation.{deletes_for, ensures_shared, is_from_outside, KeepsPart, KeepsUnowned, names_att, RemovesOwn};
+ghost use Rattle.kernel_types.specs.Keys.{TellsKeys, addr_key, is_same_addr, is_same_route, is_same_setting, route_key, setting_key};
 ghost use Rattle.kernel_types.specs.Opening.{opening_with, AreNamespaceNames, AreOutsideLinks};
 ghost use Rattle.kernel_types.specs.Replies.{is_fault, holds_text_or_list};
 ghost use Rattle.kernel_types.specs.Sound.{AreInPlaces, HasTagsOn, IsSound, is_in_ns_or_peer, is_link_or_peer, NoAddressTwice, NoNamespaceOwned};
@@ -150,4 +151,11 @@ pub fn a_leased_address_is_the_next(
 pub fn no_address_is_left_where_empty(host: &Host, att: &Att, number: u32, set: &RangeSet)
     requires { (lease_next_of host.now att.now number set.now).1 ≡ Reply.Empty }
     ensures { IsExhausted set.now (leased_addresses host.now att.now.network) }
+{}
+
+/// Objects are the same to their list just where their keys are equal.
+pub fn keys_tell_objects_apart()
+    ensures addresses { TellsKeys is_same_addr addr_key }
+    ensures routes { TellsKeys is_same_route route_key }
+    ensures settings { TellsKeys is_same_setting setting_key }
 {}
