@@ -1,5 +1,5 @@
 -- What each plugin does, by its configuration: with the laws that it keeps (`proofs/PluginLaws.antt`) and its code
--- (`src/plugins.rt`) all that tells plugins apart above `net_conf`.
+-- (`src/plugins.rt`) all that tells plugins apart above `net_conf`, but for laws.
 use Rattle.net_conf.specs.declared.chained.Chained.{Chained, TheVariants.{Portmap, Firewall, Tuning}}
 use Rattle.net_conf.specs.declared.first.First.{First, TheVariants.{Bridge, Ptp, Macvlan}}
 use Rattle.plugin_base.specs.Plugins.{ChainedPlugin, FirstPlugin}
