@@ -46,7 +46,8 @@ pub struct SweepPlace {
 impl SweepPlace {
     /// The place before the first call. Takes no memory.
     pub fn start(alloc: Global) -> SweepPlace
-        ensures work { (kinds : List Kind) → work_of kinds result ≡ record { jobs = []; sweeps = all_sweeps kinds } }
+        ensures work { (kinds : List Kind)
+            → work_of kinds result ≡ record { jobs = []; sweeps = all_sweeps kinds } }
         ensures range { (kinds : List Kind) → IsPlace kinds result }
     {
         SweepPlace {
@@ -117,31 +118,10 @@ impl SweepPlace {
         ensures frees { holds_text_or_list reply.now ≡ false → IsOk result }
     {
         if self.has_owner() {
-            match reply {
-                Reply::Gone(false) | Reply::Entry(_) => {
-                    step_done(kinds, self);
-                    Ok(())
-                }
-                Reply::Fault => {
-                    owner_done(kinds, self);
-                    Ok(())
-                }
-                _ => Ok(()),
-            }
+            take_step(kinds, self, reply);
+            Ok(())
         } else {
-            match reply {
-                Reply::Owners(owners) => {
-                    let owners = owners.copy()?;
-                    next_sweep(kinds, valid, self, owners);
-                    Ok(())
-                }
-                Reply::Fault => {
-                    let alloc = *self.owners.allocator();
-                    next_sweep(kinds, valid, self, Items::new(alloc));
-                    Ok(())
-                }
-                _ => Ok(()),
-            }
+            take_owners(kinds, valid, self, reply)
         }
     }
 }
@@ -213,6 +193,49 @@ fn call_of(att: &Att, step: OwnerStep) -> Result<Call, NoMemory>
 }
 
 // ---- one reply
+
+/// Goes on as a reply about the owner at hand says.
+fn take_step(kinds: &[Kind], place: &mut SweepPlace, reply: &Reply)
+    requires range { IsPlace kinds.now place.old }
+    requires here { place.old.at < length place.old.owners.items }
+    ensures work { (valid : List ValidAtt) → HasTaken kinds.now valid reply.now place.old place.new }
+    ensures range { IsPlace kinds.now place.new }
+{
+    match reply {
+        Reply::Gone(false) | Reply::Entry(_) => step_done(kinds, place),
+        Reply::Fault => owner_done(kinds, place),
+        _ => {}
+    }
+}
+
+/// Goes on to the next sweep with the owners that a reply tells, or with none where it is a fault.
+fn take_owners(
+    kinds: &[Kind],
+    valid: &ValidIndex,
+    place: &mut SweepPlace,
+    reply: &Reply,
+) -> Result<(), NoMemory>
+    requires range { IsPlace kinds.now place.old }
+    requires past { length place.old.owners.items ≤ place.old.at }
+    ensures work { OnOk result ((list : List ValidAtt) → IsIndexOf list valid.now
+        → HasTaken kinds.now list reply.now place.old place.new) }
+    ensures range { IsPlace kinds.now place.new }
+    ensures err { OnErr result ((place.new ≡ place.old) × (is_fault reply.now ≡ false)) }
+    ensures frees { holds_text_or_list reply.now ≡ false → IsOk result }
+{
+    match reply {
+        Reply::Owners(owners) => {
+            let owners = owners.copy()?;
+            next_sweep(kinds, valid, place, owners);
+        }
+        Reply::Fault => {
+            let alloc = *place.owners.allocator();
+            next_sweep(kinds, valid, place, Items::new(alloc));
+        }
+        _ => {}
+    }
+    Ok(())
+}
 
 fn drop_valid(owners: &mut Vec<Att>, valid: &ValidIndex)
     ensures { (list : List ValidAtt) → IsIndexOf list valid.now
