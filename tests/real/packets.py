@@ -10,7 +10,6 @@ which tells whether a rule accepts it. An uplink joins the host to a machine out
 """
 
 import json
-import os
 import pathlib
 import subprocess
 import sys
@@ -18,18 +17,15 @@ import tempfile
 import time
 
 sys.dont_write_bytecode = True
-HERE = pathlib.Path(__file__).resolve().parent
-sys.path += [str(HERE.parent), str(HERE.parent / "legal")]
 
-import private
+from start import HERE, PLUGINS, given_program, of_words
+
 from beside import Beside, Difference
 from differences import known, read_differences
 from host import HOST, Host, ip, make
 from private import command
-from program import compact, lines_of, program_of, read_json, run_on
+from program import compact, lines_of, read_json, run_on
 
-PLUGINS = os.environ.get("CNI_PATH", "/usr/lib/cni")
-PROGRAM = [os.environ["PROGRAM"]] if "PROGRAM" in os.environ else []
 KEPT = HERE / "packets"
 OUTSIDE = "outside"
 MACHINE, UPLINK = {4: "198.51.100.9", 6: "2001:db8::9"}, {4: "198.51.100.1", 6: "2001:db8::1"}
@@ -171,7 +167,7 @@ def real(name):
     """What became of the real packets of a case, while the host forwards all, and while it forwards nothing itself."""
     lists, pods, packets = case(name)
     host = Host(pods["opening"], PLUGINS, [])
-    beside = Beside(program_of(PROGRAM), pods, lists)
+    beside = Beside(given_program(), pods, lists)
     beside.carry_out(host)
     join_outside()
     spaces = {OUTSIDE: OUTSIDE, HOST: HOST, **{it[-1]: name for it, name in host.names.items()}}
@@ -227,14 +223,11 @@ def differences(program, name, kept):
 
 
 def make_all(version):
-    if os.environ.get(private.INSIDE) is None and (missing := [*private.missing(PLUGINS)]):
-        sys.exit("\n".join(f"packets.py: {it}" for it in missing))
-    private.enter()
     KEPT.mkdir(exist_ok=True)
     kept = {name: real(name) for name in CASES}
     lines = [f"{compact(name)}: [\n {(',' + chr(10) + ' ').join(map(compact, it))}]" for name, it in kept.items()]
     (KEPT / f"{version}.json").write_text("{" + ",\n".join(lines) + "}\n", encoding="utf-8")
-    return tell(program_of(PROGRAM))
+    return tell(given_program())
 
 
 def tell(program):
@@ -251,14 +244,5 @@ def tell(program):
     return 1 if wrong else 0
 
 
-def main():
-    words = sys.argv[1:]
-    if words[:1] == ["--kept"]:
-        return tell(program_of(words[1:]))
-    if len(words) != 1:
-        sys.exit(__doc__)
-    return make_all(words[0])
-
-
 if __name__ == "__main__":
-    sys.exit(main())
+    sys.exit(of_words(make_all, tell, __doc__))

@@ -14,24 +14,19 @@ that no recording shows.
 
 import collections
 import json
-import os
 import pathlib
 import sys
 
 sys.dont_write_bytecode = True
-HERE = pathlib.Path(__file__).resolve().parent
-sys.path += [str(HERE.parent), str(HERE.parent / "legal")]
 
-import private
+from start import HERE, PLUGINS, begin, given_program
+
 from beside import Beside
 from differences import known, read_differences, untold
 from host import Host
 from program import compact, program_of, read_json
 from recording import Recorded, Recorder
 
-PLUGINS = os.environ.get("CNI_PATH", "/usr/lib/cni")
-# the program, where it isn't the one that ./test built
-PROGRAM = [os.environ["PROGRAM"]] if "PROGRAM" in os.environ else []
 RECORDINGS = HERE / "recordings"
 # what packets.py compares
 OF_PACKETS = ("packet.rewritten", "packet.masqueraded")
@@ -39,14 +34,6 @@ OF_PACKETS = ("packet.rewritten", "packet.masqueraded")
 
 def real_host(beside):
     return Host(beside.pods.get("opening", {}), PLUGINS, beside.settings())
-
-
-def begin():
-    """Goes where nothing is shared, or ends and says why it can't."""
-    missing = [*private.missing(PLUGINS)] if os.environ.get(private.INSIDE) is None else []
-    if missing:
-        sys.exit("\n".join(f"run.py: {it}" for it in missing))
-    private.enter()
 
 
 def line_of(it, name):
@@ -58,7 +45,7 @@ def once(files):
     """A pod file and its lists, on the plugins that are there."""
     begin()
     pods, *lists = (read_json(pathlib.Path(it)) for it in files)
-    beside = Beside(program_of(PROGRAM), pods, lists)
+    beside = Beside(given_program(), pods, lists)
     beside.carry_out(real_host(beside))
     table, wrong = read_differences(), 0
     for it in beside.found:
@@ -85,7 +72,7 @@ def again(version, word=""):
         kept = read_json(path)
         if not is_for(version, kept["lists"]):
             continue
-        beside = Beside(program_of(PROGRAM), kept["pods"], kept["lists"])
+        beside = Beside(given_program(), kept["pods"], kept["lists"])
         recorder = Recorder(real_host(beside))
         beside.carry_out(recorder)
         told = recorder.told(compact(kept["lists"]))
