@@ -4,6 +4,9 @@
 Of a folder it takes the files that libcni would: *.conf, *.conflist and *.json. Each line has file, line and column,
 the place, the reason and what to do. Of a pod file it tells the keys that are ignored. Ends with 1 where it told
 anything but a key that CNI knows.
+
+With --mend it prints one list as the program takes it, where engines.json has what to change in such a list, and tells
+each change and what is lost by it on standard error. Ends with 1, and prints no list, where it can't mend it.
 """
 
 import argparse
@@ -17,6 +20,7 @@ sys.dont_write_bytecode = True
 
 import keys
 import lists
+import mending
 import places
 
 SUFFIXES = (".conf", ".conflist", ".json")
@@ -171,6 +175,31 @@ def check(names):
     return [*found, *same_names(taken), *shared_subnets(taken)]
 
 
+def told_of_mending(name):
+    """A list as the program takes it, or None, and what is told of it."""
+    file = read(name)
+    if isinstance(file, Finding):
+        return None, [file]
+    refusals = list(lists.refusals(file.value))
+    if not refusals:
+        return file.value, []
+    done = mending.mend(file.value, refusals)
+    if done is None:
+        told = [file.finding("not mended", it.place, f"{it.reason}; {it.remedy}") for it in refusals]
+        return None, [*told, file.finding("not mended", (), "engines.json doesn't say what to write for these in an engine's list")]
+    mended, changes = done
+    return mended, [file.finding("mended", it.place, it.sentence) for it in changes]
+
+
+def mend(name):
+    mended, told = told_of_mending(name)
+    print("".join(f"{it}\n" for it in told), end="", file=sys.stderr)
+    if mended is None:
+        return 1
+    print(json.dumps(mended, indent=2, ensure_ascii=False))
+    return 0
+
+
 def sarif(found):
     """The findings as SARIF 2.1.0 (OASIS), of one run."""
     results = [
@@ -197,8 +226,11 @@ def main():
     words = argparse.ArgumentParser(description=__doc__, formatter_class=argparse.RawDescriptionHelpFormatter)
     words.add_argument("--all", action="store_true", help="tell keys too that CNI knows and the program ignores")
     words.add_argument("--sarif", action="store_true", help="print SARIF 2.1.0")
+    words.add_argument("--mend", action="store_true", help="print one list as the program takes it")
     words.add_argument("names", nargs="+", metavar="FILE|FOLDER")
     given = words.parse_args()
+    if given.mend:
+        return mend(*given.names) if len(given.names) == 1 else words.error("--mend takes one file")
     told = [it for it in check(given.names) if given.all or it.level != "ignored"]
     print(sarif(told) if given.sarif else "".join(f"{it}\n" for it in told), end="\n" * given.sarif)
     return 1 if any(it.level != "ignored" for it in told) else 0

@@ -6,6 +6,8 @@
 - readers: of each list of ../readers its first refusal is the row's;
 - told:    of each list of wrong_lists.json it prints these lines, and ends with 1;
 - alike:   of COUNT lists, 300 where it isn't given, each changed at random, the first refusal is the program's;
+- mend:    each list of engine_lists.json is mended as is written there, the program carries it out, and
+           docs/COMPATIBILITY.md tells of the change; other lists aren't mended;
 - files:   a folder, keys that are known, pod files, SARIF, and files that can't be read.
 """
 
@@ -21,6 +23,7 @@ for folder in (TESTS, TESTS / "hostile", TESTS / "rows", TESTS.parent / "tools")
     sys.path.insert(0, str(folder))
 
 import lists
+import mending
 import mutations
 import places
 from program import NO_PODS, REFUSED, TOP, bridge, count_failed, in_folder, network_list, program_of, read_json, run
@@ -34,6 +37,13 @@ PODS = {
         [{"verb": "GC", "network": "pods", "vaild": [{"containerID": "c1", "ifname": "eth0"}]}],
         [{"verb": "ADD", "portMappings": [{"hostport": 1}], "valid": None}],
     ],
+}
+COMPATIBILITY = (TOP / "docs/COMPATIBILITY.md").read_text(encoding="utf-8")
+C1 = {"network": "pods", "container": "c1"}
+# what is done with a list that was mended; podman's macvlan list has the master lo
+MENDED = {
+    "opening": {"namespaces": ["/ns/a"], "links": [{"name": "lo", "kind": "device"}]},
+    "rounds": [[{"verb": "ADD", **C1, "netns": "/ns/a"}], [{"verb": "CHECK", **C1}], [{"verb": "DEL", **C1}]],
 }
 SMALL = {"subnet": "10.1.0.0/24"}
 FILES = {
@@ -123,6 +133,60 @@ def alike(program):
             yield f"{text!r}: {first_refusal(text.decode('utf-8'))}, and the program says {due}"
 
 
+def mend_by(folder, *words):
+    """What --mend prints, what it tells, and how it ends."""
+    ended = subprocess.run([CHECK, "--mend", *words], cwd=folder, capture_output=True, encoding="utf-8", check=False)
+    return ended.stdout, ended.stderr, ended.returncode
+
+
+def wrong_of_mended(row, program):
+    with in_folder({"net.json": row["list"]}) as folder:
+        printed, told, status = mend_by(folder, "net.json")
+        if status != 0 or json.loads(printed) != row["mended"]:
+            yield f"status {status}, {printed}"
+        if [it.split(": mended: ")[1].partition(" (")[0] for it in told.splitlines()] != row["told"]:
+            yield told
+        if row["file"] not in told:
+            yield f"it isn't told of {row['file']}: {told}"
+    with in_folder({"net.json": {**row["mended"], "name": "pods"}, "pods.json": MENDED}) as folder:
+        ended = run(program, ["pods.json", "net.json"], folder)
+        if ended.returncode != 0:
+            yield f"status {ended.returncode}: {ended.stdout}"
+    for change in (it for engine in mending.ENGINES for it in engine["changes"] if row["file"] in it["file"]):
+        lines = [it for it in COMPATIBILITY.splitlines() if change["so"] in it and row["file"] in it]
+        if not lines:
+            yield f"docs/COMPATIBILITY.md doesn't tell of {change}"
+
+
+def mend(program):
+    rows = read_json(TOP / "tests/tools/engine_lists.json")
+    for row in rows:
+        yield from (f"{row['file']}: {it}" for it in wrong_of_mended(row, program))
+    if {pathlib.Path(it["file"]).name for engine in mending.ENGINES for it in engine["changes"]} != {
+        row["file"] for row in rows
+    }:
+        yield "engine_lists.json hasn't a list for each change"
+    by_nerdctl = next(it for it in read_json(TOP / "tests/readers/network_lists.json") if "nerdctl" in it["about"])
+    isolated = next(it["list"] for it in rows if it["file"] == "isolate.conflist")
+    others = {
+        "another engine's": by_nerdctl["input"].encode("utf-8"),
+        "with a key of its own": {**isolated, "plugins": [{**isolated["plugins"][0], "x": 1}, *isolated["plugins"][1:]]},
+        "with another fault": {**isolated, "name": "a b"},
+        "a pod file": PODS,
+        "no JSON": b"{",
+    }
+    for name, content in others.items():
+        with in_folder({"net.json": content}) as folder:
+            printed, told, status = mend_by(folder, "net.json")
+        if (printed, status) != ("", 1) or not told.startswith("net.json:"):
+            yield f"{name}: status {status}, {printed}, {told}"
+    with in_folder({"net.json": rows[0]["mended"]}) as folder:
+        if (json.loads(mend_by(folder, "net.json")[0]), *mend_by(folder, "net.json")[1:]) != (rows[0]["mended"], "", 0):
+            yield "a list that is taken isn't left as it is"
+        if mend_by(folder, "net.json", "net.json")[2] != 2:
+            yield "two files are mended"
+
+
 def files(_):
     with in_folder(FILES) as folder:
         if printed_by(folder, ".") != (TOLD, 1):
@@ -145,7 +209,7 @@ def files(_):
 
 def main():
     program = program_of(sys.argv[1:])
-    failed = count_failed((it.__name__, list(it(program))) for it in (readers, told, alike, files))
+    failed = count_failed((it.__name__, list(it(program))) for it in (readers, told, alike, mend, files))
     print(f"checks: {failed} wrong")
     return 1 if failed else 0
 
