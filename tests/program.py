@@ -59,7 +59,8 @@ def run_on(program, words, files, stdout=subprocess.PIPE):
 
 
 def lines_of(printed):
-    return printed.decode("utf-8").splitlines()
+    """The lines, which line feeds alone end: a text may have other characters that part lines."""
+    return printed.decode("utf-8").removesuffix("\n").split("\n") if printed else []
 
 
 def least(runs, seconds, program, files):

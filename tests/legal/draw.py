@@ -1,11 +1,12 @@
-"""Network lists and pod files drawn at random: all verbs, stops, faults, fields that are refused, small pools, and
-networks that share a bridge, an interface name or a subnet."""
+"""Pod files drawn at random, on network lists of a table or drawn too: all verbs, stops, faults, fields that are refused,
+small pools, and networks that share a bridge, an interface name or a subnet."""
 
 import pathlib
 import sys
 
 sys.path.insert(0, str(pathlib.Path(__file__).resolve().parent.parent))
 
+from networks import network
 from program import bridge, network_list
 
 PORTMAP = {"type": "portmap", "capabilities": {"portMappings": True}}
@@ -106,9 +107,16 @@ def rounds_of(rng, lists, attachments):
     return [first, [{"verb": "CHECK", **it} for it in attachments]] if changed else [first]
 
 
+def lists_of(rng):
+    """Lists of the table, or drawn by themselves."""
+    if rng.random() < 0.5:
+        return rng.sample(LISTS, rng.randrange(2, 4))
+    return [network(rng, name) for name in ["one", "two", "three"][: rng.randrange(2, 4)]]
+
+
 def drawn(rng):
     """Words and files of a run."""
-    lists = rng.sample(LISTS, rng.randrange(2, 4))
+    lists = lists_of(rng)
     links = [MASTER] * (rng.random() < 0.8) + [rng.choice(IN_THE_WAY)] * (rng.random() < 0.2)
     attachments = [attachment(rng, lists) for _ in range(rng.randrange(3, 9))]
     rounds = [it for _ in range(rng.randrange(3, 14)) for it in rounds_of(rng, lists, attachments)]
