@@ -1,5 +1,5 @@
-"""Pod files drawn at random, on network lists of a table or drawn too: all verbs, stops, faults, fields that are refused,
-small pools, and networks that share a bridge, an interface name or a subnet."""
+"""Pod files drawn at random, on network lists of a table or drawn too: all verbs, stops, faults, fields that are
+refused, small pools, and networks that share a bridge, an interface name or a subnet."""
 
 import pathlib
 import sys

@@ -1,5 +1,5 @@
-"""Network lists drawn at random, with every key that the pages of docs/plugins/ name, keys that they don't, keys in whose
-place a runtime writes its own, nulls, and texts and numbers at their limits; and JSON that is spelled in other ways."""
+"""Network lists drawn at random: with every key that the pages of docs/plugins/ name, keys that they don't, keys in
+whose place a runtime writes its own, nulls, and texts and numbers at their limits; and JSON in other spellings."""
 
 import ipaddress
 import json
@@ -11,7 +11,8 @@ NUMBERS = [0, 1, -1, 255, 65536, 2**53 + 1, 2**63 - 1, -(2**63), 2**63, 2**64 - 
 # keys that no page names, some of them nearly keys that a page does name
 UNNAMED = ["x", "Mtu", "bridge ", "is_gateway", "é", "", "\u0000", "ips", "args", "cni", "cni.dev", "typ", "😀"]
 # keys in whose place the runtime writes its own
-OF_RUNTIME = ["cniVersion", "cniVersions", "name", "prevResult", "runtimeConfig", "cni.dev/valid-attachments", "cni.dev/x"]
+OF_CNI = ["cni.dev/valid-attachments", "cni.dev/x"]
+OF_RUNTIME = ["cniVersion", "cniVersions", "name", "prevResult", "runtimeConfig", *OF_CNI]
 BRIDGES = ["cni0", "br1", "é", "b.-_"]
 MTUS = [0, 68, 1400, 1500, 65535]
 SYSCTL = ["net.a", "net.core.somaxconn", "net.ipv4.ip_forward", "net.é", "net."]
@@ -150,7 +151,8 @@ def object_of(rng, plugin):
     """The plugin's object, with keys that mean nothing to it."""
     unacted = some(rng, 0.2, UNACTED[plugin["type"]])
     odd = {key: it for key, it in strange(rng, UNNAMED + OF_RUNTIME).items() if key not in plugin}
-    takes = {} if "capabilities" in plugin else some(rng, 0.2, {"capabilities": [{"portMappings": True}, {"ips": True}]})
+    asks = some(rng, 0.2, {"capabilities": [{"portMappings": True}, {"ips": True}]})
+    takes = {} if "capabilities" in plugin else asks
     return shuffled(rng, {**odd, **takes, **unacted, **plugin})
 
 

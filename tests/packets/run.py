@@ -5,7 +5,8 @@
 
 COUNT is 100 and SEED 1 where they aren't given. Each fate is to be what the rules of the dump come to (tools/fates.py),
 and on a complete host what the cached results say (cached.py). What isn't so is printed with its files. It fails, too,
-where hosts or packets of some sort weren't met at all, since then nothing was said of them.
+where hosts or packets of some sort weren't met at all, since then nothing was said of them. Altered fates, and hosts
+that no run leads to (altered.py), are to be found out.
 """
 
 import collections
@@ -18,10 +19,11 @@ sys.dont_write_bytecode = True
 HERE = pathlib.Path(__file__).resolve().parent
 sys.path += [str(HERE.parent), str(HERE.parent / "legal"), str(HERE.parent.parent / "tools")]
 
+from altered import incomplete_hosts, sample, wrong_fates, wrong_hosts
 from cached import Host
 from drawing import drawn
 from fates import RETURNING, deciding, fate_of
-from program import FAILURE, SUCCESS, compact, lines_of, program_of, run_on
+from program import FAILURE, SUCCESS, compact, count_failed, lines_of, program_of, run_on
 from rules import first_match
 
 COUNT, SEED = 100, 1
@@ -61,35 +63,67 @@ def by_cached(host, packet, fate, met):
         yield f"accepted: {accepted}"
 
 
-def wrong_in(program, lists, pods, packets, met):
-    status, objects, fates = carried_out(program, lists, pods, packets)
-    if status not in (SUCCESS, FAILURE) or len(fates) != len(packets):
-        yield f"status {status}, {len(fates)} fates"
-        return
+def fates_by_rules(objects, packets):
+    """What becomes of packets by the rules among these objects, as the program prints it."""
+    rules = [it for it in objects if it["kind"] == "rule"]
+    return [{**fate_of(rules, it), "packet": number} for number, it in enumerate(packets)]
+
+
+def complaints(lists, objects, packets, fates, met):
+    """What isn't so of these fates on the host of these objects, a text each."""
     host = Host({it["name"]: it for it in lists}, objects)
     complete = host.is_complete()
     met["complete" if complete else "incomplete"] += 1
-    for number, (packet, fate) in enumerate(zip(packets, fates)):
-        if {**fate_of(host.of.get("rule", []), packet), "packet": number} != fate:
+    for packet, fate, by_rules in zip(packets, fates, fates_by_rules(objects, packets)):
+        if fate != by_rules:
             yield f"{compact(packet)} by the rules: {compact(fate)}"
         for text in by_cached(host, packet, fate, met) if complete else []:
             yield f"{compact(packet)} by the cached results: {compact(fate)}, {text}"
 
 
+def wrong_in(program, lists, pods, packets, met):
+    status, objects, fates = carried_out(program, lists, pods, packets)
+    if status not in (SUCCESS, FAILURE) or len(fates) != len(packets):
+        return [f"status {status}, {len(fates)} fates"]
+    return [*complaints(lists, objects, packets, fates, met)]
+
+
+def of_draws(program, count, rng, met):
+    for number in range(count):
+        files = drawn(rng)
+        wrong = wrong_in(program, *files, met)
+        yield f"draw {number}", [*wrong, *map(compact, files)] if wrong else []
+
+
+def of_alterations(program):
+    """A host, and each alteration of its fates and of itself, which is to be found out, or to be incomplete."""
+    lists, pods, packets = sample()
+    _, objects, fates = carried_out(program, lists, pods, packets)
+    met = collections.Counter()
+    yield "sample", [*complaints(lists, objects, packets, fates, met)] if objects else ["there is no host"]
+    for name, other in wrong_fates(fates):
+        yield name, [] if [*complaints(lists, objects, packets, other, met)] else ["isn't found out"]
+    for name, other in wrong_hosts(objects):
+        found = [*complaints(lists, other, packets, fates_by_rules(other, packets), met)]
+        yield name, [] if found else ["isn't found out"]
+    yield "complete hosts", ["there is none, or another isn't"] if met["incomplete"] else []
+    for name, other in incomplete_hosts(objects):
+        yield name, ["is complete"] if Host({it["name"]: it for it in lists}, other).is_complete() else []
+
+
 def main():
     program = program_of(sys.argv[1:])
     count, seed = (int(it) for it in (sys.argv[2:] + [COUNT, SEED][len(sys.argv[2:]) :]))
-    rng, met, wrong = random.Random(seed), collections.Counter(), 0
-    for _ in range(count):
-        files = drawn(rng)
-        for text in wrong_in(program, *files, met):
-            wrong += 1
-            print(text, *map(compact, files), sep="\n  ")
+    met = collections.Counter()
+    wrong = count_failed(of_draws(program, count, random.Random(seed), met))
     never = [it for it in SORTS if not met[it]]
-    print(f"packets: {wrong} wrong on {met['complete']} complete hosts and {met['incomplete']} others")
+    print(f"packets, draws: {wrong} wrong on {met['complete']} complete hosts and {met['incomplete']} others")
     if never:
         print(f"packets: never met: {', '.join(never)}")
-    return 1 if wrong or never else 0
+    found = [*of_alterations(program)]
+    failed = count_failed(found)
+    print(f"packets, alterations: {len(found) - failed} passed, {failed} failed")
+    return 1 if wrong or never or failed else 0
 
 
 if __name__ == "__main__":

@@ -1,16 +1,21 @@
-"""A run with requests, and runs in which one line of them is altered: what some other program could hand its plugins."""
+"""A run with requests, and runs in which one line of them is altered: what another program could hand its plugins."""
 
 import json
 
 from handed import canonical
 
-MAPPINGS = [{"hostPort": 8080, "containerPort": 80, "hostIP": "::"}, {"hostPort": 53, "containerPort": 53, "protocol": "udp"}]
+MAPPINGS = [
+    {"hostPort": 8080, "containerPort": 80, "hostIP": "::"},
+    {"hostPort": 53, "containerPort": 53, "protocol": "udp"},
+]
 OWN = {"x": {"big": 2**64 - 1, "none": None, "é": "\u2028\u0001"}, "y": None}
 OF_RUNTIME = {"prevResult": {"a": 1}, "runtimeConfig": {"x": 1}, "cni.dev/x": True, "name": "other"}
 BRIDGE = {"type": "bridge", "ipam": {"type": "host-local", "subnet": "10.88.0.0/16"}, **OWN, **OF_RUNTIME}
 PORTMAP = {"type": "portmap", "capabilities": {"portMappings": True}}
 # two members of a request, and the same in another order
 TURNED = ('"cniVersion":"1.1.0","name":"net"', '"name":"net","cniVersion":"1.1.0"')
+# ports of a mapping, and the same with a host address that doesn't restrict
+UNRESTRICTED = ('80,"hostPort":8080', '80,"hostIP":"::","hostPort":8080')
 PLUGINS = [BRIDGE, {"type": "tuning", "mac": "02:00:00:00:00:01"}, PORTMAP, {"type": "firewall"}]
 
 
@@ -84,7 +89,7 @@ def altered(lines):
     yield "the last plugin is handed no result", without(1, 3, "prevResult")
     yield "mappings go to one that asks for none", handed(1, 3, runtimeConfig=request(1, 2)["runtimeConfig"])
     yield "mappings aren't handed", without(1, 2, "runtimeConfig")
-    yield "a host address that doesn't restrict is handed", respelled(1, 2, '80,"hostPort"', '80,"hostIP":"::","hostPort"')
+    yield "a host address that doesn't restrict is handed", respelled(1, 2, *UNRESTRICTED)
     yield "a protocol is left out", respelled(1, 2, ',"protocol":"tcp"', "")
     yield "a check has the command's namespace", worded(2, 0, CNI_NETNS="/ns/b")
     yield "a check has the command's mappings", without(2, 2, "runtimeConfig")
