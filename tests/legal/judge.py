@@ -69,10 +69,11 @@ class Entry:
 class Run:
     """A run, carried out again entry by entry as its trace tells."""
 
-    def __init__(self, pods, lists, stop_at=None):
+    def __init__(self, pods, lists, words=()):
         pods = without_null(pods)
         self.lists = {it.name: it for it in map(NetList, lists)}
-        self.host, self.stop_at = Host(pods.get("opening", {})), stop_at
+        self.host, self.stop_at = Host(pods.get("opening", {})), number_of(words, "--stop-at")
+        self.is_alone = number_of(words, "--threads") in (None, 1)
         self.opening = self.host.copy()
         self.rounds, self.commands, self.entries, self.round = [], [], [], 0
         for place, given in enumerate(pods["rounds"]):
@@ -127,8 +128,8 @@ class Run:
         return [it.number for it in self.commands if it.call is not None]
 
 
-def stop_at_of(words):
-    return int(words[words.index("--stop-at") + 1]) if "--stop-at" in words else None
+def number_of(words, option):
+    return int(words[words.index(option) + 1]) if option in words else None
 
 
 def parts_of(lines):
@@ -178,7 +179,7 @@ def files_in(words):
 def main():
     words = sys.argv[1:]
     pods, *lists = (json.loads(pathlib.Path(it).read_text(encoding="utf-8")) for it in files_in(words))
-    run = Run(pods, lists, stop_at_of(words))
+    run = Run(pods, lists, words)
     lines = sys.stdin.read().split("\n")[:-1]
     wrong = [*complaints(run, words, None, lines)]
     for it in wrong:

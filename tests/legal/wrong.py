@@ -1,5 +1,4 @@
-"""A lawful run, and runs that aren't: in each, one thing is altered of the first one's lines, its status, or the hosts
-that its calls came to."""
+"""A lawful run, and runs that aren't: in each, one thing is altered of the first one's lines, or its status."""
 
 import json
 
@@ -151,30 +150,3 @@ def altered(status, lines):
 def in_another_order(lines):
     """The same run as it could have been with two threads: calls of two containers in another order."""
     return moved(lines, place_of(lines, n=2, call="Begin"), place_of(lines, n=1, call="CachePut"))
-
-
-def last(run, n):
-    return next(it for it in reversed(run.entries) if it.command.number == n)
-
-
-def broken_histories():
-    """What no run comes to: the promise that it breaks, and a change of the hosts of a run that was carried out."""
-
-    def with_one(n, kind, **members):
-        return lambda run: last(run, n).after.of[kind].append({"kind": kind, **members})
-
-    def without_one(n, kind):
-        return lambda run: last(run, n).after.of[kind].pop(0)
-
-    again = {"address": "10.88.0.2", "network": "dual", "tag": "dual/c2/eth0"}
-    setting = {"key": "net.a", "ns": "/ns/b", "tag": "pods/c2/eth0", "value": "1"}
-    left = {"address": "10.9.0.9", "network": "pods"}
-    yield "an address is leased twice", "moments", with_one(2, "lease", **again)
-    yield "an attachment has a setting unasked", "asked_for", with_one(2, "setting", **setting)
-    yield "an ADD has made no route", "adds", without_one(1, "route")
-    yield "a refused ADD leaves a lease", "adds", with_one(8, "lease", **left, tag="pods/c4/eth0")
-    yield "a DEL leaves a lease", "dels", with_one(3, "lease", **left, tag="pods/c2/eth0")
-    yield "a CHECK succeeds without a lease", "checks", without_one(4, "lease")
-    yield "a GC takes another network's lease", "collections", without_one(9, "lease")
-    yield "a GC leaves what isn't kept", "collections", with_one(9, "lease", **left, tag="pods/c2/eth0")
-    yield "a deletion takes the bridge", "entries", without_one(3, "link")
