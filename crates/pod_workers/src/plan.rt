@@ -34,6 +34,9 @@ pub struct Entry {
     pub reply: Reply,
 }
 
+// Most of a long run's memory is its history, an entry for each call.
+const _: () = prove!(size_of::<Entry>() == 64);
+
 /// What a step came to: a call was made, or the command got its answer.
 #[derive(Clone, Copy, Debug, PartialEq, Eq)]
 pub enum StepEnd {
