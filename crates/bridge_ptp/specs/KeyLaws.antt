@@ -1,49 +1,24 @@
--- The test whether two objects have one key is an equivalence, and objects of one key feed a hasher alike.
-use Rattle.std.specs.{Cmp.{IsEquivalence, on_equiv}, Hash.{Alike, HashWrites, on_Alike}, Prelude.{◌≡◌, true, refl}}
-use Rattle.std.proofs.Common.{sym, true≢false}
-use Rattle.plugin_base.specs.KeyLaws.{addr_alike, addr_key-alike, addr_key-laws, addr_laws, route_key-alike}
-use Rattle.plugin_base.specs.{KeyLaws.route_key-laws, KeyWrites.{addr_writes, cidr_writes}}
+-- Objects are the same by the test just where their keys compare as equal.
+use Rattle.std.specs.{Ordering.eq_by_cmp, Prelude.{◌≡◌, refl}}
+use Rattle.std.proofs.Common.{◌∙◌}
+use Rattle.cni_addr.specs.contracts.address.AddrEq.TheImpl.Laws.{laws-law as addr_laws}
+use Rattle.cni_addr.specs.contracts.address.AddrOrd.TheImpl.{cmp-value as addr_cmp, Laws.matches_eq-law as addr-tied}
+use Rattle.kernel_types.specs.Keys.{addr_key, route_key}
+use Rattle.plugin_base.specs.KeyLaws.{addr-by_key, route-by_key}
 use Rattle.bridge_ptp.specs.{Gateways.is_same_gateway, Ptp.{AddressOrRoute, Address, Route, same_key}}
-use Rattle.bridge_ptp.specs.declared.bridge.Gateway.{Gateway}
+use Rattle.bridge_ptp.specs.contracts.ptp.ObjectKeyOrd.TheImpl.{cmp-value as object_key_cmp}
+use Rattle.bridge_ptp.specs.declared.{bridge.Gateway.Gateway, ptp.ObjectKey.ObjectKey}
+use Rattle.bridge_ptp.specs.declared.ptp.ObjectKey.TheVariants as keys
 
--- ---- gateways
+pub gateway-by_key : (new g : Gateway) → is_same_gateway new g ≡ eq_by_cmp addr_cmp.it g.cidr.addr new.cidr.addr
+gateway-by_key new g = addr_laws.symm new.cidr.addr g.cidr.addr ∙ addr-tied g.cidr.addr new.cidr.addr
 
-pub gateway_key-laws : IsEquivalence is_same_gateway
-gateway_key-laws = on_equiv (λ (g : Gateway). g.cidr.addr) addr_laws
+abbrev pub key_of : AddressOrRoute → ObjectKey
+key_of (Address obj) = keys.Address (addr_key obj)
+key_of (Route obj) = keys.Route (route_key obj)
 
-pub gateway_key-alike : Alike is_same_gateway (λ g. addr_writes g.cidr.addr)
-gateway_key-alike = on_Alike (λ (g : Gateway). g.cidr.addr) addr_alike
-
--- ---- addresses and routes
-
-abbrev pub key_writes : AddressOrRoute → HashWrites
-key_writes (Address obj) = addr_writes obj.cidr.addr
-key_writes (Route obj) = cidr_writes obj.dst
-
-keys_refl : (x : AddressOrRoute) → same_key x x ≡ true
-keys_refl (Address a) = addr_key-laws.refl a
-keys_refl (Route r) = route_key-laws.refl r
-
-keys_symm : (x y : AddressOrRoute) → same_key x y ≡ same_key y x
-keys_symm (Address a) (Address b) = addr_key-laws.symm a b
-keys_symm (Address a) (Route s) = refl
-keys_symm (Route r) (Address b) = refl
-keys_symm (Route r) (Route s) = route_key-laws.symm r s
-
-keys_congr : (x y z : AddressOrRoute) → same_key x y ≡ true → same_key x z ≡ same_key y z
-keys_congr (Address a) (Address b) (Address c) h = addr_key-laws.congr a b c h
-keys_congr (Address a) (Address b) (Route t) h = refl
-keys_congr (Route r) (Route s) (Address c) h = refl
-keys_congr (Route r) (Route s) (Route t) h = route_key-laws.congr r s t h
-keys_congr x y z h = absurd (true≢false (sym h))
-
-pub same_key-laws : IsEquivalence same_key
-same_key-laws = record { refl = keys_refl; symm = keys_symm; congr = keys_congr }
-
-keys_alike : (x y : AddressOrRoute) → same_key x y ≡ true → key_writes x ≡ key_writes y
-keys_alike (Address a) (Address b) h = addr_key-alike.fed a b h
-keys_alike (Route r) (Route s) h = route_key-alike.fed r s h
-keys_alike x y h = absurd (true≢false (sym h))
-
-pub same_key-alike : Alike same_key key_writes
-same_key-alike = record { fed = keys_alike }
+pub object-by_key : (new x : AddressOrRoute) → same_key new x ≡ eq_by_cmp object_key_cmp.it (key_of x) (key_of new)
+object-by_key (Address a) (Address b) = addr-by_key a b
+object-by_key (Address a) (Route s) = refl
+object-by_key (Route r) (Address b) = refl
+object-by_key (Route r) (Route s) = route-by_key r s

@@ -18,7 +18,6 @@ use plugin_base::{
     first_of_family, masquerade_rules, routes_on,
 };
 use std::alloc::Global;
-use std::hash::{Hash, Hasher};
 
 // ---- before the addresses
 
@@ -154,17 +153,16 @@ pub struct Gateway {
 }
 
 impl Asked for Gateway {
-    ghost use Rattle.plugin_base.specs.KeyWrites.{addr_writes};
     ghost use Rattle.bridge_ptp.specs.Gateways as gateways;
-    ghost use Rattle.bridge_ptp.specs.KeyLaws.{gateway_key-laws, gateway_key-alike};
+    ghost use Rattle.bridge_ptp.specs.KeyLaws.{gateway-by_key};
+
+    type Key = Addr;
+
+    ghost key_of = { λ gateway. gateway.cidr.addr };
 
     ghost same_key = { gateways.is_same_gateway };
 
-    ghost key_writes = { λ gateway. addr_writes gateway.cidr.addr };
-
-    ghost key_laws = { gateway_key-laws };
-
-    ghost respects_key = { gateway_key-alike.fed };
+    ghost same_by_key = { gateway-by_key };
 
     ghost call_for = { gateways.gateway_call };
 
@@ -172,8 +170,8 @@ impl Asked for Gateway {
         self.cidr.addr == other.cidr.addr
     }
 
-    fn hash_key<H: Hasher>(&self, state: &mut H) {
-        self.cidr.addr.bits.hash(state);
+    fn key(&self) -> Result<Addr, NoMemory> {
+        Ok(self.cidr.addr)
     }
 
     fn ask(self, _alloc: Global) -> Result<Call, NoMemory> {

@@ -11,14 +11,15 @@ use crate::veth::veth_pair;
 use cni_addr::{Addr, Duplicate, Items, NoMemory, Text, whole};
 use cni_result::{AddResult, RouteEntry};
 use host_local::interface_kinds;
-use kernel_types::{AddrObj, Att, Call, Given, Kind, LinkKey, NamedAtt, RouteObj};
+use kernel_types::{
+    AddrKey, AddrObj, Att, Call, Given, Kind, LinkKey, NamedAtt, RouteKey, RouteObj,
+};
 use net_conf::PtpConf;
 use plugin_base::{
     Asked, EachKeyOnce, Gateways, address_at, address_on, ask_all, ask_forward, completed,
     host_key, masquerade_rules, route_at, route_by, route_on,
 };
 use std::alloc::Global;
-use std::hash::Hasher;
 
 /// An address or a route: both are asked for in one order.
 #[derive(Drop)]
@@ -27,17 +28,24 @@ pub enum AddressOrRoute {
     Route(RouteObj),
 }
 
+/// The key of an address or of a route.
+#[derive(PartialEq, Eq, PartialOrd, Ord, Drop)]
+pub enum ObjectKey {
+    Address(AddrKey),
+    Route(RouteKey),
+}
+
 impl Asked for AddressOrRoute {
     ghost use Rattle.bridge_ptp.specs.Ptp as plan;
-    ghost use Rattle.bridge_ptp.specs.KeyLaws as keys;
+    ghost use Rattle.bridge_ptp.specs.KeyLaws.{key_of, object-by_key};
+
+    type Key = ObjectKey;
+
+    ghost key_of = { key_of };
 
     ghost same_key = { plan.same_key };
 
-    ghost key_writes = { keys.key_writes };
-
-    ghost key_laws = { keys.same_key-laws };
-
-    ghost respects_key = { keys.same_key-alike.fed };
+    ghost same_by_key = { object-by_key };
 
     ghost call_for = { plan.call_for };
 
@@ -49,10 +57,10 @@ impl Asked for AddressOrRoute {
         }
     }
 
-    fn hash_key<H: Hasher>(&self, state: &mut H) {
+    fn key(&self) -> Result<ObjectKey, NoMemory> {
         match self {
-            AddressOrRoute::Address(obj) => obj.hash_key(state),
-            AddressOrRoute::Route(obj) => obj.hash_key(state),
+            AddressOrRoute::Address(obj) => Ok(ObjectKey::Address(obj.key()?)),
+            AddressOrRoute::Route(obj) => Ok(ObjectKey::Route(obj.key()?)),
         }
     }
 

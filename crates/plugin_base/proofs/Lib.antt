@@ -1,4 +1,5 @@
 pub mod Appends
+pub mod Beginnings
 pub mod CallLists
 pub mod Counts
 pub mod Deletions

@@ -1,7 +1,7 @@
 pub mod Calls
+pub mod EachKey
 pub mod Families
 pub mod KeyLaws
-pub mod KeyWrites
 pub mod PluginCalls
 pub mod PluginLaws
 pub mod Plugins

@@ -1,22 +1,21 @@
 //! Objects that calls ask for, told apart by their keys.
 
-use crate::key_writes::{hash_addr, hash_cidr, hash_rule};
-use cni_addr::{NoMemory, RefCounted};
+use cni_addr::{Duplicate, NoMemory, RefCounted};
 use kernel_types::terms::{is_same_addr, is_same_route, is_same_setting};
-use kernel_types::{AddrObj, Call, RouteObj, Rule, Setting};
+use kernel_types::{AddrKey, AddrObj, Call, RouteKey, RouteObj, Rule, Setting, SettingKey};
 use std::alloc::Global;
-use std::hash::{Hash, Hasher};
 
-/// An object that a call asks for, with the test whether another has its key, and what its key feeds a hasher.
+/// An object that a call asks for, with its key, and the test whether another has it.
 pub trait Asked: Drop {
-    ghost use Rattle.std.specs.Prelude.{◌≡◌, Bool, IfOk, IsTrue, fold};
-    ghost use Rattle.std.specs.Cmp.{IsEquivalence};
-    ghost use Rattle.std.specs.Hash.{HashWrites};
+    ghost use Rattle.std.specs.Prelude.{◌≡◌, Bool, IfOk};
+    ghost use Rattle.std.specs.Ordering.{eq_by_cmp};
     ghost use Rattle.kernel_types.specs.declared.call.Call.{Call};
 
-    ghost same_key: { Self → Self → Bool };
+    type Key: Ord + Drop;
 
-    ghost key_writes: { Self → HashWrites };
+    ghost key_of: { Self → Self.Key };
+
+    ghost same_key: { Self → Self → Bool };
 
     ghost call_for: { Self → Call };
 
@@ -24,33 +23,29 @@ pub trait Asked: Drop {
     fn has_key(&self, other: &Self) -> bool
         ensures { result ≡ same_key self.now other.now };
 
-    /// Feeds a hasher with parts of the key. Few objects of one attachment differ in other parts of it alone: those
-    /// are told apart one by one.
-    fn hash_key<H: Hasher>(&self, state: &mut H)
-        ensures { state.new ≡ fold H.write state.old (key_writes self.now) };
+    /// Its key. Whoever chooses names and addresses could choose many of one hash, so keys have an order.
+    fn key(&self) -> Result<Self::Key, NoMemory>
+        ensures { IfOk result (λ key. key ≡ key_of self.now) };
 
     /// The call that asks for it.
     fn ask(self, alloc: Global) -> Result<Call, NoMemory>
         ensures { IfOk result (λ call. call ≡ call_for self) };
 
-    ghost key_laws: { IsEquivalence same_key };
-
-    ghost respects_key: { (x y : Self) → IsTrue (same_key x y) → key_writes x ≡ key_writes y };
+    ghost same_by_key: { (new x : Self) → same_key new x ≡ eq_by_cmp Self.Key.cmp (key_of x) (key_of new) };
 }
 
 impl Asked for AddrObj {
-    ghost use Rattle.kernel_types.specs.Keys.{is_same_addr};
+    ghost use Rattle.kernel_types.specs.Keys.{addr_key, is_same_addr};
     ghost use Rattle.kernel_types.specs.declared.call.Call.TheVariants.{AddrAdd};
-    ghost use Rattle.plugin_base.specs.KeyWrites.{addr_writes};
-    ghost use Rattle.plugin_base.specs.KeyLaws.{addr_key-laws, addr_key-alike};
+    ghost use Rattle.plugin_base.specs.KeyLaws.{addr-by_key};
+
+    type Key = AddrKey;
+
+    ghost key_of = { addr_key };
 
     ghost same_key = { is_same_addr };
 
-    ghost key_writes = { λ obj. addr_writes obj.cidr.addr };
-
-    ghost key_laws = { addr_key-laws };
-
-    ghost respects_key = { addr_key-alike.fed };
+    ghost same_by_key = { addr-by_key };
 
     ghost call_for = { λ obj. AddrAdd obj };
 
@@ -58,8 +53,8 @@ impl Asked for AddrObj {
         is_same_addr(self, other)
     }
 
-    fn hash_key<H: Hasher>(&self, state: &mut H) {
-        hash_addr(&self.cidr.addr, state);
+    fn key(&self) -> Result<AddrKey, NoMemory> {
+        AddrKey::of(self)
     }
 
     fn ask(self, alloc: Global) -> Result<Call, NoMemory> {
@@ -70,18 +65,17 @@ impl Asked for AddrObj {
 }
 
 impl Asked for RouteObj {
-    ghost use Rattle.kernel_types.specs.Keys.{is_same_route};
+    ghost use Rattle.kernel_types.specs.Keys.{route_key, is_same_route};
     ghost use Rattle.kernel_types.specs.declared.call.Call.TheVariants.{RouteAdd};
-    ghost use Rattle.plugin_base.specs.KeyWrites.{cidr_writes};
-    ghost use Rattle.plugin_base.specs.KeyLaws.{route_key-laws, route_key-alike};
+    ghost use Rattle.plugin_base.specs.KeyLaws.{route-by_key};
+
+    type Key = RouteKey;
+
+    ghost key_of = { route_key };
 
     ghost same_key = { is_same_route };
 
-    ghost key_writes = { λ obj. cidr_writes obj.dst };
-
-    ghost key_laws = { route_key-laws };
-
-    ghost respects_key = { route_key-alike.fed };
+    ghost same_by_key = { route-by_key };
 
     ghost call_for = { λ obj. RouteAdd obj };
 
@@ -89,8 +83,8 @@ impl Asked for RouteObj {
         is_same_route(self, other)
     }
 
-    fn hash_key<H: Hasher>(&self, state: &mut H) {
-        hash_cidr(&self.dst, state);
+    fn key(&self) -> Result<RouteKey, NoMemory> {
+        RouteKey::of(self)
     }
 
     fn ask(self, alloc: Global) -> Result<Call, NoMemory> {
@@ -103,16 +97,15 @@ impl Asked for RouteObj {
 impl Asked for Rule {
     ghost use Rattle.kernel_types.specs.Equal.{rule_eq};
     ghost use Rattle.kernel_types.specs.declared.call.Call.TheVariants.{RuleAppend};
-    ghost use Rattle.plugin_base.specs.KeyWrites.{rule_writes};
-    ghost use Rattle.plugin_base.specs.KeyLaws.{rule_key-laws, rule_key-alike};
+    ghost use Rattle.plugin_base.specs.KeyLaws.{rule-by_key};
+
+    type Key = Rule;
+
+    ghost key_of = { λ obj. obj };
 
     ghost same_key = { rule_eq };
 
-    ghost key_writes = { rule_writes };
-
-    ghost key_laws = { rule_key-laws };
-
-    ghost respects_key = { rule_key-alike.fed };
+    ghost same_by_key = { rule-by_key };
 
     ghost call_for = { λ obj. RuleAppend obj };
 
@@ -120,8 +113,8 @@ impl Asked for Rule {
         self == other
     }
 
-    fn hash_key<H: Hasher>(&self, state: &mut H) {
-        hash_rule(self, state);
+    fn key(&self) -> Result<Rule, NoMemory> {
+        self.copy()
     }
 
     fn ask(self, alloc: Global) -> Result<Call, NoMemory> {
@@ -132,18 +125,17 @@ impl Asked for Rule {
 }
 
 impl Asked for Setting {
-    ghost use Rattle.kernel_types.specs.Keys.{is_same_setting};
+    ghost use Rattle.kernel_types.specs.Keys.{setting_key, is_same_setting};
     ghost use Rattle.kernel_types.specs.declared.call.Call.TheVariants.{SettingSet};
-    ghost use Rattle.cni_addr.specs.TextLaws.{one_write};
-    ghost use Rattle.plugin_base.specs.KeyLaws.{setting_key-laws, setting_key-alike};
+    ghost use Rattle.plugin_base.specs.KeyLaws.{setting-by_key};
+
+    type Key = SettingKey;
+
+    ghost key_of = { setting_key };
 
     ghost same_key = { is_same_setting };
 
-    ghost key_writes = { λ obj. one_write obj.key };
-
-    ghost key_laws = { setting_key-laws };
-
-    ghost respects_key = { setting_key-alike.fed };
+    ghost same_by_key = { setting-by_key };
 
     ghost call_for = { λ obj. SettingSet obj };
 
@@ -151,8 +143,8 @@ impl Asked for Setting {
         is_same_setting(self, other)
     }
 
-    fn hash_key<H: Hasher>(&self, state: &mut H) {
-        self.key.hash(state);
+    fn key(&self) -> Result<SettingKey, NoMemory> {
+        SettingKey::of(self)
     }
 
     fn ask(self, alloc: Global) -> Result<Call, NoMemory> {

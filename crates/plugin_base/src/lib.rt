@@ -16,7 +16,6 @@ pub mod asked;
 pub mod each_key_once;
 pub mod families;
 pub mod gateways;
-mod key_writes;
 pub mod laws;
 pub mod results;
 pub mod shapes;
