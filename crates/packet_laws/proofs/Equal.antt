@@ -9,13 +9,13 @@ use Rattle.cni_addr.proofs.{KeyLists.each_key_once-first_of_each, Networks.famil
 use Rattle.cni_result.specs.declared.cached.Proto.{Proto}
 use Rattle.cni_result.specs.declared.cached.Proto.TheVariants as protos
 use Rattle.kernel_types.specs.Equal.{addr_eq, chain_eq, cidr_eq, family_eq, lease_eq, proto_eq, rule_eq, table_eq}
-use Rattle.kernel_types.specs.{Equal.target_eq, contracts.rule.RuleEq.TheImpl.Laws.laws-law as rule_laws}
-use Rattle.kernel_types.specs.declared.{object.{Lease.Lease, Tag.Tag}, rule.{Chain.Chain, Rule.Rule, Table.Table}}
-use Rattle.kernel_types.specs.declared.rule.Target.{Target}
+use Rattle.kernel_types.specs.{Equal.target_eq, declared.{object.{Lease.Lease, Tag.Tag}, rule.{Chain.Chain, Rule.Rule}}}
+use Rattle.kernel_types.specs.declared.rule.{Table.Table, Target.Target}
 use Rattle.kernel_types.specs.declared.rule.Chain.TheVariants as chains
 use Rattle.kernel_types.specs.declared.rule.Table.TheVariants as tables
 use Rattle.kernel_types.specs.declared.rule.Target.TheVariants as targets
 use Rattle.kernel_types.proofs.Isolation.{tag_eq-same}
+use Rattle.plugin_base.specs.KeyLaws.{rule_key-laws}
 use Rattle.packet_laws.proofs.Lists.{IsSame}
 
 -- ---- what has a number
@@ -129,11 +129,11 @@ rule-equal a b h0 =
     }
 
 pub rule-same : IsSame rule_eq
-rule-same = record { itself = rule_laws.refl; equal = rule-equal }
+rule-same = record { itself = rule_key-laws.refl; equal = rule-equal }
 
 -- a list of rules in which each stands once
 pub rules_once : HasFirstOfEachKey rule_eq (each_key_once rule_eq)
-rules_once = each_key_once-first_of_each rule_eq (partial_equiv_from_equiv rule_laws)
+rules_once = each_key_once-first_of_each rule_eq (partial_equiv_from_equiv rule_key-laws)
 
 -- ---- leases
 
