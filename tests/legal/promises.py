@@ -119,8 +119,8 @@ def kept_of(it, host):
 
 
 def collections(run):
-    """A GC that succeeds leaves exactly what its valid list keeps. One that met faults names them, and a call about what
-    it leaves over was faulty. Any adds nothing and takes nothing that is kept."""
+    """A GC that succeeds leaves exactly what its valid list keeps. One that met faults names them, and a call about
+    what it leaves over was faulty. Any adds nothing and takes nothing that is kept."""
     for it in told(run, "GC"):
         if not it.entries:
             continue

@@ -1,0 +1,163 @@
+"""Names and addresses that a hasher with a fixed key finds alike, others of the same lengths, and how names crowd in the
+tables of a hasher whose key is a digest of the input.
+
+The kit's own hasher (FoldHasher) multiplies what it reads, mixed with its state, by what it reads next, mixed with a
+constant. So whoever makes one factor 0 makes the state 0, whatever the other factor is:
+
+- of an address, where its upper half is the constant: all of one /64 are alike;
+- of a text, where eight of its bytes are the state that stood before them: what follows in it changes nothing.
+"""
+
+import hashlib
+import itertools
+import random
+
+WORD = 2**64 - 1
+MULTIPLIER = 0x9E3779B97F4A7C15
+INITIAL = 0x243F6A8885A308D3
+# what ends a text that is hashed
+END = b"\xff"
+LETTERS = b"ABCDEFGHIJKLMNOPQRSTUVWXYZabcdefghijklmnopqrstuvwxyz0123456789"
+OF_NAMES = LETTERS + b"_.-"
+# what may stand in a JSON text as it is
+OF_TEXTS = bytes(it for it in range(0x21, 0x7F) if it not in b'"\\')
+
+
+def low_word(of, at):
+    return int.from_bytes(of[at : at + 8], "little")
+
+
+def folded(one, other):
+    product = one * other
+    return (product & WORD) ^ (product >> 64)
+
+
+def fold(state, written):
+    """The state of the kit's hasher after these bytes, of which there are none or more than eight, or one."""
+    length = len(written)
+    if length <= 8:
+        middle = [written[0], written[length // 2] << 8, written[-1] << 16] if written else [0]
+        short = low_word(written, 0) & 0xFFFFFFFF | low_word(written, length - 4) << 32 if length >= 4 else sum(middle)
+        return folded(state ^ short, MULTIPLIER ^ 2 * length)
+    state, at = (state + length) & WORD, 0
+    while length - at > 16:
+        state = folded(low_word(written, at) ^ state, low_word(written, at + 8) ^ MULTIPLIER)
+        at += 16
+    return folded(low_word(written, max(length - 16, 0)) ^ state, low_word(written, length - 8) ^ MULTIPLIER)
+
+
+def folded_text(state, text):
+    return fold(fold(state, text), END)
+
+
+def letters(rng, alphabet, count):
+    return bytes(rng.choice(alphabet) for _ in range(count))
+
+
+def consists_of(state, alphabet):
+    """The state as eight letters, the lowest first; None where it is none."""
+    spelled = state.to_bytes(8, "little")
+    return spelled if all(it in alphabet for it in spelled) else None
+
+
+def endings(rng, alphabet, before, count):
+    """So many texts, each with eight letters of its own behind these."""
+    found = set()
+    while len(found) < count:
+        found.add(before + letters(rng, alphabet, 8))
+    return [it.decode("ascii") for it in sorted(found)]
+
+
+def namespaces(count):
+    """So many names of namespaces that are alike, and so many that aren't."""
+    rng = random.Random(1)
+    start = (INITIAL + 32) & WORD
+    for number in itertools.count():
+        first = b"/ns/" + f"{number:012}".encode("ascii")
+        spelled = consists_of(folded(low_word(first, 0) ^ start, low_word(first, 8) ^ MULTIPLIER), OF_TEXTS)
+        if spelled:
+            break
+    plain = [f"/ns/{it}" for it in endings(rng, OF_TEXTS, letters(rng, OF_TEXTS, 20), count)]
+    return endings(rng, OF_TEXTS, first + spelled, count), plain
+
+
+def containers(count):
+    """A network, so many names of containers that are alike in it, and so many that aren't."""
+    rng = random.Random(2)
+    while True:
+        network = letters(rng, LETTERS, 6)
+        spelled = consists_of((folded_text(INITIAL, network) + 16) & WORD, OF_NAMES)
+        if spelled and spelled[0] in LETTERS:
+            break
+    plain = endings(rng, OF_NAMES, letters(rng, LETTERS, 8), count)
+    return network.decode("ascii"), endings(rng, OF_NAMES, spelled, count), plain
+
+
+def groups_of(word):
+    return ":".join(f"{word >> shift & 0xFFFF:x}" for shift in (48, 32, 16, 0))
+
+
+# the /64 whose addresses are alike, and another
+ALIKE_64 = groups_of(MULTIPLIER)
+PLAIN_64 = groups_of(MULTIPLIER ^ 0x10000)
+
+
+# ---- a hasher with a key: SipHash that has taken in a digest
+
+
+def sip_round(v0, v1, v2, v3):
+    v0 = (v0 + v1) & WORD
+    v2 = (v2 + v3) & WORD
+    v1 = (v1 << 13 & WORD | v1 >> 51) ^ v0
+    v3 = (v3 << 16 & WORD | v3 >> 48) ^ v2
+    v0 = v0 << 32 & WORD | v0 >> 32
+    v2 = (v2 + v1) & WORD
+    v0 = (v0 + v3) & WORD
+    v1 = (v1 << 17 & WORD | v1 >> 47) ^ v2
+    v3 = (v3 << 21 & WORD | v3 >> 43) ^ v0
+    return v0, v1, v2 << 32 & WORD | v2 >> 32, v3
+
+
+def sip(state, written, length):
+    """The state after these bytes, whole words of them, and the hash once the rest is in, of so many bytes in all."""
+    whole = len(written) // 8 * 8
+    for at in range(0, whole, 8):
+        word = low_word(written, at)
+        v0, v1, v2, v3 = sip_round(state[0], state[1], state[2], state[3] ^ word)
+        state = v0 ^ word, v1, v2, v3
+    last = (length & 0xFF) << 56 | int.from_bytes(written[whole:], "little")
+    v0, v1, v2, v3 = sip_round(state[0], state[1], state[2], state[3] ^ last)
+    v0, v2 = v0 ^ last, v2 ^ 0xFF
+    for _ in range(3):
+        v0, v1, v2, v3 = sip_round(v0, v1, v2, v3)
+    return state, v0 ^ v1 ^ v2 ^ v3
+
+
+SIP = (0x736F6D6570736575, 0x646F72616E646F6D, 0x6C7967656E657261, 0x7465646279746573)
+
+
+def digest_of(words, files):
+    """The key of the tables: of the words, each ended by a byte 0, and of the files as they are read."""
+    hasher = hashlib.sha256()
+    for it in words:
+        hasher.update(it.encode("utf-8") + b"\0")
+    for it in files:
+        hasher.update(it)
+    return hasher.digest()
+
+
+def crowding(digest, keys):
+    """How the keys crowd in a table under this digest: the sum of the squares of how many share a group of lanes."""
+    keyed, _ = sip(SIP, digest, len(digest))
+    groups = 1 << max((len(keys) // 9).bit_length(), 0)
+    loads = {}
+    for it in keys:
+        _, found = sip(keyed, it, len(digest) + len(it))
+        group = (found ^ found >> 32) & 0xFFFFFFFF & groups - 1
+        loads[group] = loads.get(group, 0) + 1
+    return sum(it * it for it in loads.values())
+
+
+def text_key(*texts):
+    """What a key of texts feeds a hasher."""
+    return b"".join(it.encode("utf-8") + END for it in texts)
