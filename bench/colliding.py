@@ -1,5 +1,5 @@
-"""Names and addresses that a hasher with a fixed key finds alike, others of the same lengths, and how names crowd in the
-tables of a hasher whose key is a digest of the input.
+"""Names and addresses that a hasher with a fixed key finds alike, others of the same lengths, and how names crowd in
+the tables of a hasher whose key is a digest of the input.
 
 The kit's own hasher (FoldHasher) multiplies what it reads, mixed with its state, by what it reads next, mixed with a
 constant. So whoever makes one factor 0 makes the state 0, whatever the other factor is:

@@ -201,7 +201,8 @@ def collections(program, part):
 def removals(program, part):
     """Namespaces that go, against as many that come, each less the same without."""
     names = spaces(20000 // part)
-    files = {"net.json": network_list("pods", bridge(subnet="10.0.0.0/8")), "rest.json": pods(names), "none.json": NO_PODS}
+    files = {"net.json": network_list("pods", bridge(subnet="10.0.0.0/8"))}
+    files |= {"rest.json": pods(names), "none.json": NO_PODS}
     files["gone.json"] = pods(names, *alone({"verb": "NSDEL", "netns": it} for it in names))
     files["come.json"] = pods([], *alone({"verb": "NSADD", "netns": it} for it in names))
     runs = {it: [f"{it}.json", "net.json"] for it in ("gone", "rest", "come", "none")}

@@ -6,9 +6,11 @@
 COUNT is 100 and SEED 1 where they aren't given. Of each line of a request the plugin's own object, the result before
 it, the mappings, the valid list and the words are to be what files and answers say (due.py), and those commands have
 lines that were done. Besides, each list is put together again from what its plugins are handed: the program is to print
-the same on it. Runs in which a line is altered (altered.py) are to be found out.
+the same on it. It fails, too, where requests of some sort weren't met at all. Runs in which a line is altered
+(altered.py) are to be found out.
 """
 
+import collections
 import json
 import pathlib
 import random
@@ -21,10 +23,12 @@ sys.path.insert(0, str(HERE.parent))
 from altered import altered, sample
 from drawing import drawn
 from due import Reading
-from handed import Handed
+from handed import ABSENT, Handed
 from program import FAILURE, SUCCESS, count_failed, lines_of, program_of, run_on
 
 COUNT, SEED = 100, 1
+# what is to be met
+SORTS = ("ADD", "CHECK", "DEL", "GC", "STATUS", "a result", "mappings", "attachments to keep", "nothing to keep")
 PARTS = ("number", "plugin", "env", "own", "version", "network", "previous", "runtime", "valid")
 
 
@@ -69,22 +73,34 @@ def put_together(values, lines):
         yield name, {**it, "plugins": [handed[place] for place in sorted(handed)]} if handed else it
 
 
-def wrong_in(program, words, files, values):
+def meet(met, handed):
+    """Counts a request by what it has."""
+    met["requests"] += 1
+    met[handed.env["CNI_COMMAND"]] += 1
+    met["a result"] += handed.previous != ABSENT
+    met["mappings"] += handed.runtime != ABSENT
+    if handed.valid != ABSENT:
+        met["attachments to keep" if handed.valid else "nothing to keep"] += 1
+
+
+def wrong_in(program, words, files, values, met):
     done = run_on(program, words, files)
     if done.returncode not in (SUCCESS, FAILURE):
         return [f"status {done.returncode}, {done.stdout[:200]}"]
     lines = lines_of(done.stdout)
     wrong = [*complaints(values, lines)]
+    for it in map(Handed, parted(lines)[1]):
+        meet(met, it)
     again = run_on(program, words, dict(put_together(values, lines)))
     if (again.returncode, again.stdout) != (done.returncode, done.stdout):
         wrong.append("the lists that are put together again print something else")
     return wrong
 
 
-def of_draws(program, count, seed):
+def of_draws(program, count, seed, met):
     for number in range(count):
         words, files, values = drawn(random.Random(f"{seed}/{number}"))
-        wrong = wrong_in(program, words, files, values)
+        wrong = wrong_in(program, words, files, values, met)
         yield f"draw {number} of seed {seed}", [*wrong, str([words, files])] if wrong else []
 
 
@@ -102,13 +118,17 @@ def main():
     program = program_of(sys.argv[1:2])
     count = int(sys.argv[2]) if len(sys.argv) > 2 else COUNT
     seed = sys.argv[3] if len(sys.argv) > 3 else SEED
+    met = collections.Counter()
+    parts = {"draws": of_draws(program, count, seed, met), "alterations": of_alterations(program)}
     failed = 0
-    for name, found in {"draws": of_draws(program, count, seed), "alterations": of_alterations(program)}.items():
+    for name, found in parts.items():
         found = [*found]
         wrong = count_failed(found)
         failed += wrong
         print(f"requests, {name}: {len(found) - wrong} passed, {wrong} failed")
-    return 1 if failed else 0
+    never = [it for it in SORTS if not met[it]]
+    print(f"requests: {met['requests']} read back" + f"; never met: {', '.join(never)}" * bool(never))
+    return 1 if failed or never else 0
 
 
 if __name__ == "__main__":
