@@ -9,7 +9,8 @@ names every law. The picture of docs/ARCHITECTURE.md has every crate above those
 every file that tells plugins apart. Each definition of docs/DEFINITIONS.md stands in the file beside it. docs/INDEX.md
 is what index.py finds, and definitions and proofs begin with their imports as imports.py lays them out. examples/first
 is as the data of crates/cnitool, and examples/plugins as the pages of the plugins. Some command of the documents makes
-each picture. With a program, the documents' sessions and examples are run by examples.py.
+each picture, and the vectors that vectors/README.md shows are in its files. With a program, the documents' sessions and
+examples are run by examples.py.
 """
 
 import os
@@ -37,7 +38,8 @@ ON_THE_CODE = ("ARCHITECTURE.md", "DECISIONS.md", "DEFINITIONS.md", "GUARANTEES.
 
 def documents():
     yield from sorted(TOP.glob("*.md"))
-    yield from sorted((TOP / "docs").rglob("*.md"))
+    for folder in ("docs", "bench", "vectors"):
+        yield from sorted((TOP / folder).rglob("*.md"))
 
 
 def text_of(paths):
@@ -78,6 +80,13 @@ def missing_edits(text):
         places = [CRATES[crate] / "must-fail" / f"{name}.edit", CRATES[crate] / name] if crate in CRATES else []
         if places and not any(it.exists() for it in places):
             yield f"no edit {crate}/{name}"
+
+
+def missing_vectors(text):
+    vectors = text_of(sorted((TOP / "vectors").glob("*.json")))
+    for line in re.findall(r"^    ({.*})$", text, re.MULTILINE):
+        if line not in vectors:
+            yield f"no vector {line}"
 
 
 def missing_laws(text):
@@ -163,6 +172,8 @@ def wrong_in(path, sources, program):
         yield from missing_laws(text)
     if path.name == "DEFINITIONS.md":
         yield from missing_definitions(text)
+    if path.parent.name == "vectors":
+        yield from missing_vectors(text)
     if program:
         yield from examples.wrong_sessions(text, program)
         yield from examples.wrong_examples(text, program)

@@ -1,17 +1,19 @@
 """Runs what the documents show of the program.
 
 A session is a block of lines that begin with four spaces: a command of bash after `$ `, below it the lines that it
-prints. A line `..` stands for any lines. A command that ends with `>FILE` prints what that file holds; so each picture
-that a document shows is made. A block of JSON in docs/FORMATS.md or docs/plugins/ is a network list, a pod file, a
-plugin or the `ipam` of one. A pod file is run on the document's lists, and all else is read; none is to be refused, and
-the lines right below one are what it prints. The list in examples/plugins of a page of docs/plugins has the page's
-example. examples/first is the data of crates/cnitool, whose output `rt ci` compares.
+prints. A line `..` stands for any lines. A command with `jq` is passed over where there is none. A command that ends
+with `>FILE` prints what that file holds; so each picture that a document shows is made. A block of JSON in
+docs/FORMATS.md or docs/plugins/ is a network list, a pod file, a plugin or the `ipam` of one. A pod file is run on the
+document's lists, and all else is read; none is to be refused, and the lines right below one are what it prints. The
+list in examples/plugins of a page of docs/plugins has the page's example. examples/first is the data of crates/cnitool,
+whose output `rt ci` compares.
 """
 
 import json
 import pathlib
 import re
 import shlex
+import shutil
 import sys
 import textwrap
 
@@ -53,6 +55,8 @@ def is_printed(printed, lines):
 
 def wrong_sessions(text, program):
     for line, expected in sessions(text):
+        if "| jq " in line and shutil.which("jq") is None:
+            continue
         command, _, file = line.partition(" >")
         words = ["-c", command.replace("./cnitool", shlex.quote(program))]
         printed = run("bash", words, TOP).stdout.decode("utf-8")
