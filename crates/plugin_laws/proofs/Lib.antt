@@ -1,0 +1,4 @@
+pub mod Chains
+mod Digests
+mod Lists
+mod Results

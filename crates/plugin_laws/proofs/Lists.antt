@@ -1,0 +1,26 @@
+-- What holds of each element of a list, and of what is found there.
+use Rattle.std.proofs.Common.{◌≡◌, suc, Bool, true, false, cond, List, [], ◌∷◌, ◌++◌, Option, Some, None, refl, arith}
+use Rattle.std.specs.{List.AllByRecursion, Prelude.{All, IfSome, find}}
+
+pub by_recursion : {X : Type 0} (P : X → Type 0) (xs : List X) → All P xs → AllByRecursion P xs
+by_recursion P [] all = tt
+by_recursion P (x ∷ xs) all = (all 0 x (omega arith), by_recursion P xs (λ k d within. all (suc k) d (omega (arith, within))))
+
+pub all-append : {X : Type 0} (P : X → Type 0) (xs ys : List X) → AllByRecursion P xs → AllByRecursion P ys
+    → AllByRecursion P (xs ++ ys)
+all-append P [] ys first later = later
+all-append P (x ∷ xs) ys first later = (first.0, all-append P xs ys first.1 later)
+
+find-here : {X : Type 0} (P : X → Type 0) (p : X → Bool) (x : X) (b : Bool) (more : Option X) → p x ≡ b → P x
+    → IfSome more (λ y. P y × (p y ≡ true)) → IfSome (cond b (Some x) more) (λ y. P y × (p y ≡ true))
+find-here P p x true more passes here later = (here, passes)
+find-here P p x false more passes here later = later
+
+pub find-all : {X : Type 0} (P : X → Type 0) (p : X → Bool) (xs : List X) → AllByRecursion P xs
+    → IfSome (find p xs) (λ x. P x × (p x ≡ true))
+find-all P p [] all = tt
+find-all P p (x ∷ xs) all = find-here P p x (p x) (find p xs) refl all.0 (find-all P p xs all.1)
+
+pub if_some-weaker : {X : Type 0} (P Q : X → Type 0) (o : Option X) → ((x : X) → P x → Q x) → IfSome o P → IfSome o Q
+if_some-weaker P Q None step h = tt
+if_some-weaker P Q (Some x) step h = step x h
