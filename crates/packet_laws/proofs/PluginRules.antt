@@ -12,7 +12,9 @@ use Rattle.kernel_types.specs.declared.rule.Chain.TheVariants as chains
 use Rattle.net_conf.specs.declared.chained.PortmapConf.{PortmapConf}
 use Rattle.plugin_base.specs.{Families.first_of_family, Shapes.{masquerade_of, masquerade_out, masquerade_rules}}
 use Rattle.plugin_base.specs.Shapes.{no_masquerade_in_subnet}
-use Rattle.plugin_base.proofs.KeyLists.{list_all-append, list_all-each_key_once, list_all-flat, list_all-if}
+use Rattle.kernel_types.proofs.ListLemmas.{list_all-weaker}
+use Rattle.plugin_laws.proofs.Chains.{firewall-stand, masquerade-stand, of_bridge, of_firewall, of_portmap}
+use Rattle.plugin_laws.proofs.Chains.{portmap-stand}
 use Rattle.portmap.specs.Portmap.{dnat_of, from_host, host_ip_allows, mapping_rules, masquerades_of, portmap_rules}
 use Rattle.portmap.specs.Portmap.{rules_for}
 use Rattle.packet_laws.proofs.{Equal.{rule-same, rules_once}, Lists.{among-either, among-flat, among-left, among-right}}
@@ -21,53 +23,23 @@ use Rattle.packet_laws.proofs.Lists.{any-same, flat-among, same-any}
 abbrev pub is_in : Chain → Rule → Bool
 is_in chain r = chain_eq r.chain chain
 
--- ---- `portmap`: all in Dnat or HostMasq
+-- ---- in which chains they stand
 
 abbrev pub is_of_port : Rule → Bool
 is_of_port r = is_in chains.Dnat r || is_in chains.HostMasq r
 
-from_host-chains : (att : Att) (m : PortMapping) (addr : Addr) (f : Family)
-    → list_all is_of_port (from_host att m addr f) ≡ true
-from_host-chains att m addr V4 = refl
-from_host-chains att m addr V6 = refl
-
-masquerades-chains : (snat : Bool) (att : Att) (ip : IpEntry) (m : PortMapping)
-    → list_all is_of_port (masquerades_of snat att ip m) ≡ true
-masquerades-chains true att ip m = from_host-chains att m ip.address.addr ip.address.addr.family
-masquerades-chains false att ip m = refl
-
-rules_for-chains : (snat : Bool) (att : Att) (m : PortMapping) (ip : Option IpEntry)
-    → list_all is_of_port (rules_for snat att m ip) ≡ true
-rules_for-chains snat att m None = refl
-rules_for-chains snat att m (Some ip) =
-    list_all-if is_of_port (host_ip_allows m.host_ip ip.address.addr) (dnat_of att m ip.address.addr ∷ masquerades_of snat att ip m) (masquerades-chains snat att ip m)
-
-mapping-chains : (snat : Bool) (att : Att) (ips : List IpEntry) (m : PortMapping)
-    → list_all is_of_port (mapping_rules snat att ips m) ≡ true
-mapping-chains snat att ips m =
-    let v4 = first_of_family V4 ips in
-    let v6 = first_of_family V6 ips in
-    list_all-append is_of_port (rules_for snat att m v4) (rules_for snat att m v6) (rules_for-chains snat att m v4) (rules_for-chains snat att m v6)
-
 pub portmap-chains : (conf : PortmapConf) (att : Att) (mappings : List PortMapping) (ips : List IpEntry)
     → list_all is_of_port (portmap_rules conf att mappings ips) ≡ true
 portmap-chains conf att mappings ips =
-    list_all-each_key_once is_of_port rule_eq (flat_map (mapping_rules conf.snat att ips) mappings) (list_all-flat is_of_port (mapping_rules conf.snat att ips) (mapping-chains conf.snat att ips) mappings)
-
--- ---- `firewall`: all in Forward
+    list_all-weaker of_portmap is_of_port (λ r h. grind (arith, h)) (portmap_rules conf att mappings ips) (portmap-stand conf att mappings ips)
 
 pub firewall-chains : (att : Att) (ips : List IpEntry) → list_all (is_in chains.Forward) (firewall_rules att ips) ≡ true
-firewall-chains att ips =
-    let forward : IpEntry → List Rule = λ ip. forward_of att ip.address in
-    list_all-each_key_once (is_in chains.Forward) rule_eq (flat_map forward ips) (list_all-flat (is_in chains.Forward) forward (λ ip. refl) ips)
-
--- ---- `ipMasq`: all in Masq
+firewall-chains att ips = list_all-weaker of_firewall (is_in chains.Forward) (λ r h. grind (arith, h)) (firewall_rules att ips) (firewall-stand att ips)
 
 pub masquerade-chains : (ip_masq : Bool) (att : Att) (given : List Given)
     → list_all (is_in chains.Masq) (masquerade_rules ip_masq att given) ≡ true
 masquerade-chains ip_masq att given =
-    list_all-if (is_in chains.Masq) ip_masq (each_key_once rule_eq (flat_map (masquerade_of att) given))
-    (list_all-each_key_once (is_in chains.Masq) rule_eq (flat_map (masquerade_of att) given) (list_all-flat (is_in chains.Masq) (masquerade_of att) (λ g. refl) given))
+    list_all-weaker of_bridge (is_in chains.Masq) (λ r h. grind (arith, h)) (masquerade_rules ip_masq att given) (masquerade-stand ip_masq att given)
 
 -- ---- which there are
 
