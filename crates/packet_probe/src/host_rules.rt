@@ -18,7 +18,7 @@ use std::marker::Model;
 
 /// The rules of a host, filed by what they ask of a packet, so that a packet's are looked up. Contracts see the rules.
 ///
-/// The plugins make at most ten kinds of rules, and two more for each family and length of a subnet's prefix.
+/// The plugins make at most eleven kinds of rules, and two more for each family and length of a subnet's prefix.
 #[derive(Drop)]
 pub struct Ruleset {
     rules: Items<RefCounted<Rule>>,
