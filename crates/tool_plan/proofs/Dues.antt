@@ -1,6 +1,5 @@
 -- What words and files come to.
 use Rattle.std.proofs.Common.{◌≡◌, ◌∙◌, ℕ, List, [], inl, inr, refl, sym, ap, subst, Option, Some, Ok, Err, Result}
-use Rattle.std.proofs.lemmas.Option.{same_Some}
 use Rattle.cni_io.specs.Files.{StoredFiles}
 use Rattle.pod_text.specs.declared.asked.Asked.{Asked}
 use Rattle.pod_workers.specs.declared.plan.Plan.{Plan}
@@ -14,7 +13,7 @@ use Rattle.tool_plan.specs.declared.plan.{Input.Input, NoPlan.{NoPlan, TheVarian
 -- words that name no file have a source that names none
 pub names_none : (given : List (List ℕ)) (by : Words) → words_given given ≡ Some by → NameNoFile given
     → files_named by.source ≡ []
-names_none given by is none = ap (λ (w : Words). files_named w.source) (same_Some by none.0 (sym is ∙ none.1)) ∙ none.2
+names_none given by is none = none by is
 
 -- the files of the run are those of the words that it was given
 files_for : (given : List (List ℕ)) (by : Words) (files : FilesSeen) (stored : StoredFiles)

@@ -7,9 +7,9 @@ use Rattle.tool_plan.specs.{Causes.{IsUnread, ReachesFile, files_named}, Seen.Fi
 use Rattle.tool_plan.specs.{Verdict.{carry, line, verdict_of}, declared.{due.Due.Due, plan.NoPlan.NoPlan}}
 use Rattle.tool_plan.specs.declared.plan.NoPlan.TheVariants.{Usage, Line, Unread, NoMemory}
 
--- the words are taken, and name no file, since they ask for generated pods
+-- the words name no file: they aren't taken, or they ask for generated pods
 abbrev pub NameNoFile : List (List ℕ) → Type 0
-NameNoFile words = (by : Words) × (words_given words ≡ Some by) × (files_named by.source ≡ [])
+NameNoFile words = (by : Words) → words_given words ≡ Some by → files_named by.source ≡ []
 
 -- these are the files, as far as the words name any: they are told, or the words name none
 abbrev pub AreFiles : List (List ℕ) → FilesSeen → StoredFiles → Type 0

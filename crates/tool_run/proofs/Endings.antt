@@ -14,7 +14,7 @@ use Rattle.pod_text.specs.{Statuses.{is_failure, is_out_of_memory, status_of}, S
 use Rattle.pod_text.specs.declared.asked.{Asked.Asked, CommandPart.{CommandPart, TheVariants.{Lines, Summary}}}
 use Rattle.pod_workers.specs.{Order.{IsDoneInFileOrder, IsInFileOrder, OneOutcome}, World.{World, host_of}}
 use Rattle.pod_workers.specs.declared.plan.{Entry.Entry, Plan.Plan}
-use Rattle.tool_words.specs.declared.{source.Source.{Source, TheVariants.{Files, Generated}}, words.Words.Words}
+use Rattle.tool_words.specs.declared.source.Source.{Source, TheVariants.{Files, Generated}}
 use Rattle.tool_plan.specs.{Causes.{ReachesFile, files_named}, Dues.{AreFiles, IsUnreadOf}, Lines.usage_line}
 use Rattle.tool_plan.specs.{Seen.FilesSeen, Verdict.{Verdict, carry, verdict_of}, declared.plan.NoPlan.NoPlan}
 use Rattle.tool_plan.specs.declared.plan.NoPlan.TheVariants as no_plan
@@ -87,8 +87,7 @@ reaches_none files (Generated count stop_at) file none at = at
 pub has_not_read : (words : List (List ℕ)) (files : FilesSeen) (bytes : List ℕ) → IsUnreadOf words files bytes
     → HasReadAll words files → ⊥
 has_not_read words files bytes un (inl none) =
-    let named = ap (λ (w : Words). files_named w.source) (same_Some un.by none.0 (sym un.words_are ∙ none.1)) ∙ none.2 in
-    reaches_none files.stored un.by.source un.unread.file named un.unread.reached
+    reaches_none files.stored un.by.source un.unread.file (none un.by un.words_are) un.unread.reached
 has_not_read words files bytes un (inr calm) = calm un.unread.rose
 
 -- ---- one outcome
