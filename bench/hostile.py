@@ -212,14 +212,14 @@ def removals(program, part):
 
 
 def by_turns(count):
-    """So many attachments of 60 networks; then by turns a GC that keeps nothing of one of them, the end of a namespace,
-    and the end of a link that was there. The same without these."""
+    """So many attachments of 30 networks; then by turns a GC of one of 30 others, the end of a namespace with an
+    attachment, and the end of a link that was there. The same without these."""
     names = spaces(count)
-    adds = [command("ADD", f"n{it % 60}", f"c{it}", space) for it, space in enumerate(names)]
+    adds = [command("ADD", f"n{it % 30}", f"c{it}", space) for it, space in enumerate(names)]
     opening = {"namespaces": names, "links": [{"name": "old", "kind": "device", "ns": it} for it in names]}
     changes = []
-    for number, space in enumerate(names[: count // 3]):
-        changes.append({"verb": "GC", "network": f"n{number % 60}", "valid": []})
+    for number, space in enumerate(names[: count // 9]):
+        changes.append({"verb": "GC", "network": f"n{30 + number % 30}", "valid": []})
         changes.append({"verb": "NSDEL", "netns": space})
         changes.append({"verb": "DROP", "netns": names[-1 - number], "ifname": "old"})
     return {"opening": opening, "rounds": [adds, *alone(changes)]}, {"opening": opening, "rounds": [adds]}
