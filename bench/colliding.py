@@ -6,6 +6,9 @@ constant. So whoever makes one factor 0 makes the state 0, whatever the other fa
 
 - of an address, where its upper half is the constant: all of one /64 are alike;
 - of a text, where eight of its bytes are the state that stood before them: what follows in it changes nothing.
+
+A text feeds a hasher its bytes alone, and a key of several texts feeds one after another. So a hasher that joins what it
+is fed finds those keys alike whose texts joined are the same, whatever its own key is.
 """
 
 import hashlib
@@ -15,8 +18,6 @@ import random
 WORD = 2**64 - 1
 MULTIPLIER = 0x9E3779B97F4A7C15
 INITIAL = 0x243F6A8885A308D3
-# what ends a text that is hashed
-END = b"\xff"
 LETTERS = b"ABCDEFGHIJKLMNOPQRSTUVWXYZabcdefghijklmnopqrstuvwxyz0123456789"
 OF_NAMES = LETTERS + b"_.-"
 # what may stand in a JSON text as it is
@@ -44,10 +45,6 @@ def fold(state, written):
         state = folded(low_word(written, at) ^ state, low_word(written, at + 8) ^ MULTIPLIER)
         at += 16
     return folded(low_word(written, max(length - 16, 0)) ^ state, low_word(written, length - 8) ^ MULTIPLIER)
-
-
-def folded_text(state, text):
-    return fold(fold(state, text), END)
 
 
 def letters(rng, alphabet, count):
@@ -86,11 +83,24 @@ def containers(count):
     rng = random.Random(2)
     while True:
         network = letters(rng, LETTERS, 6)
-        spelled = consists_of((folded_text(INITIAL, network) + 16) & WORD, OF_NAMES)
+        spelled = consists_of((fold(INITIAL, network) + 16) & WORD, OF_NAMES)
         if spelled and spelled[0] in LETTERS:
             break
     plain = endings(rng, OF_NAMES, letters(rng, LETTERS, 8), count)
     return network.decode("ascii"), endings(rng, OF_NAMES, spelled, count), plain
+
+
+def joined():
+    """Names of 960 attachments in 64 networks: network, container and interface, which joined are one text; and names
+    of the same lengths, no two of which joined are the same."""
+    alike, plain = [], []
+    for first in range(1, 65):
+        for last in range(1, 16):
+            lengths = 64 - first, 15 - last
+            alike.append(("n" * first, "n" * lengths[0] + "x" + "e" * lengths[1], "e" * last))
+            network, end = "n" * (first - 1) + "m", chr(ord("f") + last)
+            plain.append((network, "n" * lengths[0] + "x" + "e" * lengths[1], "e" * (last - 1) + end))
+    return alike, plain
 
 
 def groups_of(word):
@@ -160,4 +170,4 @@ def crowding(digest, keys):
 
 def text_key(*texts):
     """What a key of texts feeds a hasher."""
-    return b"".join(it.encode("utf-8") + END for it in texts)
+    return "".join(texts).encode("utf-8")

@@ -10,6 +10,7 @@ of two sizes by what one item takes:
 - namespaces, containers, routes, sixes: an opening of 10,000 namespaces, 2,000 ADDs, and one ADD with 2,000 IPv6 routes
   or IPv6 range sets, which a hasher with a fixed key finds alike (colliding.py), against others; and the same beside
   that one of 200 unnamed texts by which they crowd most in tables whose hasher has a key of what was read;
+- joined: 960 ADDs whose names are alike to a hasher that joins them, whatever its key;
 - collections: 2,000 GCs of a network that has nothing, beside 20,000 attachments of another against beside 2,000;
 - removals: 20,000 namespaces that go against as many that come;
 - turns: a GC, an NSDEL and a DROP by turns among 60 networks, with 18,000 attachments against 1,800;
@@ -180,6 +181,24 @@ def sixes(program, part):
     tell_alike(program, f"an ADD with {count} IPv6 sets", of(colliding.ALIKE_64), of(colliding.PLAIN_64), keys)
 
 
+def joined(program, _):
+    """ADDs and CHECKs of attachments whose names joined are one text, against others."""
+    alike, plain = colliding.joined()
+    files, runs = {}, {}
+    for kind, attachments in (("alike", alike), ("plain", plain)):
+        commands = [
+            {**command("ADD", network, container, space), "ifname": ifname}
+            for (network, container, ifname), space in zip(attachments, spaces(len(attachments)))
+        ]
+        networks = dict.fromkeys(network for network, _, _ in attachments)
+        lists = {f"{it}.json": network_list(it, bridge(subnet="10.0.0.0/8")) for it in networks}
+        checks = [{**it, "verb": "CHECK"} for it in commands]
+        files |= {f"{kind}.json": pods(spaces(len(attachments)), commands, checks), **lists}
+        runs[kind] = [f"{kind}.json", *lists]
+    taken = least_in_turn(program, runs, files)
+    tell(f"{len(alike)} ADDs and CHECKs of names that are alike joined", ratio(taken["alike"], taken["plain"]), 1.5)
+
+
 # ---- many networks, and what was
 
 
@@ -312,7 +331,7 @@ def generated(program, part, before):
     tell(f"{word} with four threads against one, by medians of the time that passes", four / one)
 
 
-ROWS = (namespaces, containers, routes, sixes, collections, removals, turns, ranges, sets, texts)
+ROWS = (namespaces, containers, routes, sixes, joined, collections, removals, turns, ranges, sets, texts)
 
 
 def main():
