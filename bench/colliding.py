@@ -7,8 +7,8 @@ constant. So whoever makes one factor 0 makes the state 0, whatever the other fa
 - of an address, where its upper half is the constant: all of one /64 are alike;
 - of a text, where eight of its bytes are the state that stood before them: what follows in it changes nothing.
 
-A text feeds a hasher its bytes alone, and a key of several texts feeds one after another. So a hasher that joins what it
-is fed finds those keys alike whose texts joined are the same, whatever its own key is.
+A text feeds a hasher its bytes alone, and a key of several texts one after another. So a hasher that joins what it is
+fed finds those keys alike whose texts joined are the same, whatever its own key is.
 """
 
 import hashlib

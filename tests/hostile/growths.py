@@ -1,12 +1,13 @@
 #!/usr/bin/env python3
 """Refuses the program one piece of memory, each of a run in turn, and looks how the run ends.
 
-    growths.py [PROGRAM]
+    growths.py [PROGRAM [EVERY]]
 
-The k-th `malloc` of a run answers that there is none, for k from 1 until a run ends without having been refused any. A
-library that is loaded before the C library does that; the kit's clang compiles it. Each run prints the whole text
-(status 0 or 1), an answer that says out of memory (8), or nothing (6). Where commands were answered the kernel's
-objects are sound, and two deletions or collections, of which at least one has memory, leave nothing that is owned.
+The k-th `malloc` of a run answers that there is none, for k from 1, in steps of EVERY where that is given, until a run
+ends without having been refused any. A library that is loaded before the C library does that; the kit's clang compiles
+it. Each run prints the whole text (status 0 or 1), an answer that says out of memory (8), or nothing (6). Where
+commands were answered the kernel's objects are sound, and two deletions or collections, of which at least one has
+memory, leave nothing that is owned.
 """
 
 import collections
@@ -128,7 +129,7 @@ def wrong_of(ended, text, swept):
     return None
 
 
-def in_turn(program, words, files, swept):
+def in_turn(program, every, words, files, swept):
     """Complaints about runs in which each piece of memory is refused in turn, and how often each status came."""
     seen = collections.Counter()
     with in_folder(files) as folder:
@@ -144,7 +145,7 @@ def in_turn(program, words, files, swept):
                     yield f"refused {number}: {wrong}"
             elif ended.stdout != text:
                 yield "the run that was refused nothing prints another text"
-            number += 1
+            number += every
     if not seen:
         yield "no memory was refused: the program takes it from elsewhere"
     print(f"{sum(seen.values())} refused: " + ", ".join(f"status {it} {seen[it]} times" for it in sorted(seen)))
@@ -179,7 +180,8 @@ def runs():
 
 def main():
     program = program_of(sys.argv[1:])
-    failed = count_failed((name, list(in_turn(program, *how))) for name, *how in runs())
+    every = int(sys.argv[2]) if len(sys.argv) > 2 else 1
+    failed = count_failed((name, list(in_turn(program, every, *how))) for name, *how in runs())
     print(f"growths: {failed} wrong")
     sys.exit(failed > 0)
 
