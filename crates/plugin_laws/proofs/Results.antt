@@ -175,7 +175,8 @@ placed-entries index [] small all = tt
 placed-entries index (ip ∷ ips) small all =
     (record { address = all.0.address; gateway = all.0.gateway; interface = small }, placed-entries index ips small all.1)
 
-completed-readable : (ipam : AddResult) (interfaces : List Interface) (index : ℕ) (routes : List RouteEntry) (dns : Dns) → IsIpamResult ipam → AllByRecursion (IsInterfaceOf ipam.version) interfaces → AllByRecursion IsRouteEntry routes
+completed-readable : (ipam : AddResult) (interfaces : List Interface) (index : ℕ) (routes : List RouteEntry) (dns : Dns)
+    → IsIpamResult ipam → AllByRecursion (IsInterfaceOf ipam.version) interfaces → AllByRecursion IsRouteEntry routes
     → nat_lt index (length interfaces) ≡ true → index < 2 ^ 32 → IsReadable (completed ipam interfaces index routes dns)
 completed-readable ipam interfaces index routes dns is made led within small = record {
   interfaces = made;
