@@ -15,7 +15,8 @@ use Rattle.packet_probe.specs.declared.error.PacketsError.TheVariants as refusal
 
 -- the protocol, which must be there
 unfoldable pub protocol_at : ℕ → Data → Result Proto PacketsError
-protocol_at at d = needed (wrong at) (λ text. ok_or (proto_named text) (refusal.Packet at)) (text_field (codes "protocol") d)
+protocol_at at d =
+    needed (wrong at) (λ text. ok_or (proto_named text) (refusal.Packet at)) (text_field (codes "protocol") d)
 
 -- an address, which must be there
 unfoldable pub address_at : ℕ → List ℕ → Data → Result Addr PacketsError

@@ -83,8 +83,8 @@ impl Ruleset {
         })
     }
 
-    /// What becomes of the packet by these rules, as [`fate`](crate::fate) tells it. It takes no memory, and at most four
-    /// look-ups for each kind of rules that there is.
+    /// What becomes of the packet by these rules, as [`fate`](crate::fate) tells it. It takes no memory, and at most
+    /// four look-ups for each kind of rules that there is.
     pub fn fate(&self, packet: &Packet) -> Fate
         ensures { result ≡ defined.fate_by self.now packet.now }
     {

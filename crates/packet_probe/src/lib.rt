@@ -6,7 +6,8 @@
 //!
 //! What it promises above:
 //!
-//! - [`fate`] gives `fate_of` of the host and the packet (`specs/Fate.antt`), for every host. It goes through the rules.
+//! - [`fate`] gives `fate_of` of the host and the packet (`specs/Fate.antt`), for every host. It goes through the
+//!   rules.
 //! - A [`Ruleset`] is made of the rules of a host once. For each packet it gives what [`fate`] gives (`fate_by`), by
 //!   look-ups that are no more where more rules are alike.
 //! - [`read_packets`] gives exactly the packets that the definition `packets_of` of the bytes is
@@ -17,7 +18,8 @@
 //! network masquerades:
 //!
 //! ```text
-//! let packets = read_packets(alloc, b"[{\"protocol\":\"tcp\",\"src\":\"192.0.2.7\",\"dst\":\"198.51.100.1\",\"dport\":8080}]")?;
+//! // [{"protocol":"tcp","src":"192.0.2.7","dst":"198.51.100.1","dport":8080}]
+//! let packets = read_packets(alloc, bytes)?;
 //! fate(&host, &packets.as_slice()[0])      // rewritten, to 10.88.0.2 port 80; neither accepted nor masqueraded
 //! // to port 8081                             nothing becomes of it: it isn't rewritten
 //! // from 10.88.0.2 to 198.51.100.9          accepted and masqueraded

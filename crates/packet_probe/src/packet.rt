@@ -23,11 +23,29 @@ impl Model for Packet {
 
     ghost Value = { PacketValue };
 
-    ghost view = { λ p. record { protocol = p.protocol; src = p.src; dst = p.dst; dport = p.dport; established = p.established } };
+    ghost view = { λ p. record {
+      protocol = p.protocol;
+      src = p.src;
+      dst = p.dst;
+      dport = p.dport;
+      established = p.established;
+    } };
 
-    ghost invariant = { λ p. IsPacket (record { protocol = p.protocol; src = p.src; dst = p.dst; dport = p.dport; established = p.established }) };
+    ghost invariant = { λ p. IsPacket (record {
+      protocol = p.protocol;
+      src = p.src;
+      dst = p.dst;
+      dport = p.dport;
+      established = p.established;
+    }) };
 
-    ghost inverse = { λ v. record { protocol = v.protocol; src = v.src; dst = v.dst; dport = v.dport; established = v.established } };
+    ghost inverse = { λ v. record {
+      protocol = v.protocol;
+      src = v.src;
+      dst = v.dst;
+      dport = v.dport;
+      established = v.established;
+    } };
 }
 
 impl Packet {

@@ -1,9 +1,9 @@
 //! What a runtime hands to the plugins of a network list, as JSON.
 //!
 //! To the crates above it promises that the request to each plugin of a list is the plugin's own object with what the
-//! runtime replaces in it (`specs/Request.antt`), whatever the list; that the requests of an ADD have each the result of
-//! the plugin before (`specs/Adding.antt`); and that a [`RawList`] is the list that `net_conf` reads of the same bytes,
-//! refused for the same causes (`specs/Raw.antt`).
+//! runtime replaces in it (`specs/Request.antt`), whatever the list; that the requests of an ADD have each the result
+//! of the plugin before (`specs/Adding.antt`); and that a [`RawList`] is the list that `net_conf` reads of the same
+//! bytes, refused for the same causes (`specs/Raw.antt`).
 //!
 //! ```text
 //! // the second plugin is {"type":"portmap","capabilities":{"portMappings":true}}

@@ -11,9 +11,9 @@ use Rattle.tool_run.specs.{Seen.SinkSeen, Statuses.{Ends, IsDetermined}}
 abbrev pub AskForOneThread : List (List ℕ) → Type 0
 AskForOneThread words = (by : Words) × (words_given words ≡ Some by) × (by.threads ≡ 1)
 
--- The run ends in one of the ways there are. Its book has the guarantee, and where its host is complete each packet goes
--- as the cached results say. Where one thread makes all rounds, the commands go in the order of the file, and words and
--- files determine what is written and the status.
+-- The run ends in one of the ways there are. Its book has the guarantee, and where its host is complete each packet
+-- goes as the cached results say. Where one thread makes all rounds, the commands go in the order of the file, and words
+-- and files determine what is written and the status.
 pub record IsRunOf (words : List (List ℕ)) (files : FilesSeen) (sink : SinkSeen) (OneThread : Type 0) (status : ℕ)
     (book : Option World) : Type 0 where
   pub ends : Ends words files sink status book
