@@ -1,6 +1,6 @@
 -- The rules of the plugins: in which chains they stand, and which there are.
 use Rattle.std.proofs.Common.{◌≡◌, ◌⊎◌, Bool, true, false, List, [], ◌∷◌, Option, Some, None, refl, sym, ◌∙◌, subst}
-use Rattle.std.proofs.Common.{inl, inr}
+use Rattle.std.proofs.Common.{inl, inr, arith}
 use Rattle.std.specs.{List.list_all, Prelude.{◌||◌, flat_map, if◌then◌else◌}}
 use Rattle.cni_addr.specs.{Lists.{IsAmong, each_key_once}, declared.address.{Addr.Addr, Family.Family}}
 use Rattle.cni_addr.specs.declared.address.Family.TheVariants.{V4, V6}
