@@ -5,16 +5,16 @@ ghost use Rattle.kernel_tables.specs.Places.{first_of, passes, passing, row_at};
 ghost use Rattle.kernel_tables.specs.Table.{has_key, is_key, place_of, AreTrails};
 ghost use Rattle.kernel_tables.specs.Trails.{trail_of};
 
+use crate::keyed::KeyedMap;
 use crate::row::Row;
 use cni_addr::NoMemory;
-use indexmap::IndexMap;
 use std::alloc::Global;
 use std::collections::VecDeque;
 use std::hash::Hash;
 
 /// Notes the place of a key, if there is one, in place of an earlier.
 pub(crate) fn note_place<K: Eq + Hash + Drop>(
-    index: &mut IndexMap<K, usize>,
+    index: &mut KeyedMap<K, usize>,
     key: Option<K>,
     place: usize,
 ) -> Result<(), NoMemory>
@@ -31,7 +31,7 @@ pub(crate) fn note_place<K: Eq + Hash + Drop>(
 /// Adds a place at the end of an owner's trail, if there is one.
 pub(crate) fn note_owner<O: Eq + Hash + Drop>(
     alloc: Global,
-    trails: &mut IndexMap<O, VecDeque<usize>>,
+    trails: &mut KeyedMap<O, VecDeque<usize>>,
     owner: Option<O>,
     place: usize,
 ) -> Result<(), NoMemory>
@@ -91,7 +91,7 @@ fn is_owned_at<K: Eq, L: Eq, O: Eq, T: Row<K, L, O>>(
 /// The first place of the owner's rows.
 pub(crate) fn first_place<K: Eq, L: Eq, O: Eq + Hash, T: Row<K, L, O>>(
     places: &[Option<T>],
-    trails: &mut IndexMap<O, VecDeque<usize>>,
+    trails: &mut KeyedMap<O, VecDeque<usize>>,
     owner: &O,
 ) -> Option<usize>
     ensures first { result ≡ first_of (passing (has_key O.eq T.owner_of owner.now) places.now

@@ -9,8 +9,8 @@ ghost use Rattle.kernel_types.specs.Keys.{is_same_lease};
 ghost use Rattle.kernel_types.specs.Sound.{HasDistinctKeys};
 ghost use Rattle.kernel_tables.specs.Leased.{AreLeased, kept_for, room_for};
 
+use crate::keyed::{KeyedMap, KeyedState};
 use cni_addr::{Addr, Duplicate, NoMemory, Text};
-use indexmap::IndexMap;
 use ip_pool::AddrRuns;
 use kernel_types::Lease;
 use std::alloc::Global;
@@ -18,12 +18,13 @@ use std::alloc::Global;
 /// The addresses of these leases.
 pub(crate) fn leased_of(
     alloc: Global,
+    state: KeyedState,
     leases: &[Lease],
-) -> Result<IndexMap<Text, AddrRuns>, NoMemory>
+) -> Result<KeyedMap<Text, AddrRuns>, NoMemory>
     requires { HasDistinctKeys is_same_lease leases.now }
     ensures { IfOk result (λ leased. AreLeased leased leases.now) }
 {
-    let mut leased = IndexMap::new(alloc);
+    let mut leased = KeyedMap::with_hasher(alloc, state);
     for lease in leases {
         make_room(alloc, &mut leased, &lease.network)?;
         add_leased(&mut leased, &lease.network, &lease.addr);
@@ -34,7 +35,7 @@ pub(crate) fn leased_of(
 /// Makes room for one more address of the network.
 pub(crate) fn make_room(
     alloc: Global,
-    leased: &mut IndexMap<Text, AddrRuns>,
+    leased: &mut KeyedMap<Text, AddrRuns>,
     network: &Text,
 ) -> Result<(), NoMemory>
     ensures same { (n : List ℕ) → (a : Addr) → is_taken (kept_for leased.new n) a
@@ -51,7 +52,7 @@ pub(crate) fn make_room(
 }
 
 /// Adds an address that is not leased in the network. Takes no memory, since there is room.
-pub(crate) fn add_leased(leased: &mut IndexMap<Text, AddrRuns>, network: &Text, addr: &Addr)
+pub(crate) fn add_leased(leased: &mut KeyedMap<Text, AddrRuns>, network: &Text, addr: &Addr)
     requires absent { is_taken (kept_for leased.old network.now) addr.now ≡ false }
     requires room { 0 < room_for leased.old network.now }
     ensures { (n : List ℕ) → (a : Addr) → is_taken (kept_for leased.new n) a
@@ -63,7 +64,7 @@ pub(crate) fn add_leased(leased: &mut IndexMap<Text, AddrRuns>, network: &Text, 
 }
 
 /// Takes an address of the network out. Takes no memory.
-pub(crate) fn remove_leased(leased: &mut IndexMap<Text, AddrRuns>, network: &Text, addr: &Addr)
+pub(crate) fn remove_leased(leased: &mut KeyedMap<Text, AddrRuns>, network: &Text, addr: &Addr)
     ensures { (n : List ℕ) → (a : Addr) → is_taken (kept_for leased.new n) a
         ≡ (is_taken (kept_for leased.old n) a && not (bytes_eq network.now n && addr_eq addr.now a)) }
 {

@@ -18,6 +18,7 @@
 #![tactic(auto)]
 
 mod indexes;
+mod keyed;
 mod leased;
 mod row;
 mod rows;
@@ -25,4 +26,5 @@ mod table;
 pub mod table_kernel;
 mod tables;
 
+pub use keyed::TableKey;
 pub use table_kernel::TableKernel;

@@ -8,9 +8,10 @@ ghost use Rattle.kernel_tables.specs.Table.{has_key, HasEachKeyOnce};
 ghost use Rattle.kernel_tables.specs.Places.{at_first, emptied, emptied_at, passes, row_at};
 
 use crate::indexes::{first_place, note_owner, note_place};
+use crate::keyed::{KeyedMap, KeyedState};
 use crate::row::{Change, Row, Test};
 use cni_addr::{Duplicate, Items, NoMemory, copies};
-use indexmap::{IndexMap, IndexSet};
+use indexmap::IndexSet;
 use std::alloc::Global;
 use std::collections::VecDeque;
 use std::hash::Hash;
@@ -26,9 +27,9 @@ pub(crate) struct Table<
     T: Row<K, L, O> + Drop,
 > {
     places: Vec<Option<T>>,
-    by_key: IndexMap<K, usize>,
-    by_alias: IndexMap<L, usize>,
-    trails: IndexMap<O, VecDeque<usize>>,
+    by_key: KeyedMap<K, usize>,
+    by_alias: KeyedMap<L, usize>,
+    trails: KeyedMap<O, VecDeque<usize>>,
 }
 
 impl<K: Eq + Hash + Drop, L: Eq + Hash + Drop, O: Eq + Hash + Drop, T: Row<K, L, O> + Drop> Model
@@ -73,24 +74,28 @@ impl<K: Eq + Hash + Drop, L: Eq + Hash + Drop, O: Eq + Hash + Drop, T: Row<K, L,
     T,
 > {
     /// A table without rows. Takes no memory.
-    pub(crate) fn new(alloc: Global) -> Table<K, L, O, T>
+    pub(crate) fn new(alloc: Global, state: KeyedState) -> Table<K, L, O, T>
         ensures { result ≡ [] }
     {
         Table {
             places: Vec::new(alloc),
-            by_key: IndexMap::new(alloc),
-            by_alias: IndexMap::new(alloc),
-            trails: IndexMap::new(alloc),
+            by_key: KeyedMap::with_hasher(alloc, state),
+            by_alias: KeyedMap::with_hasher(alloc, state),
+            trails: KeyedMap::with_hasher(alloc, state),
         }
     }
 
     /// The table of these rows.
-    pub(crate) fn of_rows(alloc: Global, rows: Items<T>) -> Result<Table<K, L, O, T>, NoMemory>
+    pub(crate) fn of_rows(
+        alloc: Global,
+        state: KeyedState,
+        rows: Items<T>,
+    ) -> Result<Table<K, L, O, T>, NoMemory>
         requires keys { HasEachKeyOnce K.eq T.key_of rows }
         requires aliases { HasEachKeyOnce L.eq T.alias_of rows }
         ensures { IfOk result (λ table. table ≡ rows) }
     {
-        let mut table = Table::new(alloc);
+        let mut table = Table::new(alloc, state);
         for row in rows.into_vec() {
             table.push(alloc, row)?;
         }
@@ -201,7 +206,7 @@ impl<K: Eq + Hash + Drop, L: Eq + Hash + Drop, O: Eq + Hash + Drop, T: Row<K, L,
         ensures { IfOk result (λ owners. owners
             ≡ each_key_once O.eq (filter (P.passes which.now) (filter_map T.owner_of self.now))) }
     {
-        let mut owners = IndexSet::new(alloc);
+        let mut owners = IndexSet::with_hasher(alloc, *self.trails.hasher());
         for place in self.places.iter() {
             add_owner(&mut owners, place, which)?;
         }
@@ -386,7 +391,7 @@ fn any_along<K: Eq, L: Eq, O: Eq, T: Row<K, L, O>, P: Test<T>>(
 
 /// Adds the owner of the row at a place, if it passes the test and isn't there.
 fn add_owner<K: Eq, L: Eq, O: Eq + Hash + Drop, T: Row<K, L, O>, P: Test<O>>(
-    owners: &mut IndexSet<O>,
+    owners: &mut IndexSet<O, KeyedState>,
     place: &Option<T>,
     which: &P,
 ) -> Result<(), NoMemory>

@@ -6,6 +6,7 @@ ghost use Rattle.kernel_types.specs.Allowed.{IsAllowed};
 ghost use Rattle.kernel_types.specs.Replies.{needs_no_memory};
 ghost use Rattle.kernel_types.specs.Sound.{IsSound};
 
+use crate::keyed::TableKey;
 use crate::tables::Tables;
 use cni_addr::NoMemory;
 use kernel_model::Kernel;
@@ -91,11 +92,20 @@ impl Model for TableKernel {
 
 impl TableKernel {
     /// The kernel that means this host, of as many steps as the host has objects. The only error is out of memory.
+    /// Its hasher has a fixed key: whoever picks names and addresses can make look-ups slow.
     pub fn of_host(alloc: Global, host: Host) -> Result<TableKernel, NoMemory>
         requires { IsSound host }
         ensures { IfOk result (λ kernel. kernel ≡ host) }
     {
-        let tables = Tables::of_host(alloc, host)?;
+        TableKernel::keyed(alloc, &TableKey::FIXED, host)
+    }
+
+    /// The same kernel under a hasher with this key. The only error is out of memory.
+    pub fn keyed(alloc: Global, key: &TableKey, host: Host) -> Result<TableKernel, NoMemory>
+        requires { IsSound host }
+        ensures { IfOk result (λ kernel. kernel ≡ host) }
+    {
+        let tables = Tables::of_host(alloc, key, host)?;
         Ok(TableKernel { tables })
     }
 }

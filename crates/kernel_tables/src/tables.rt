@@ -16,9 +16,9 @@ mod pool;
 mod questions;
 mod shared;
 
+use crate::keyed::KeyedMap;
 use crate::table::Table;
 use cni_addr::{NoMemory, RefCounted, Text};
-use indexmap::IndexMap;
 use ip_pool::AddrRuns;
 use kernel_types::{
     AddrKey, AddrObj, Att, CachedObj, Host, Last, Lease, Link, LinkKey, NsObj, PoolKey, RouteKey,
@@ -39,7 +39,7 @@ pub(crate) struct Tables {
     leases: Table<Lease, Text, Att, Lease>,
     cached: Table<Att, Text, Att, CachedObj>,
     lasts: Table<PoolKey, Text, Att, Last>,
-    leased: IndexMap<Text, AddrRuns>,
+    leased: KeyedMap<Text, AddrRuns>,
 }
 
 impl Model for Tables {

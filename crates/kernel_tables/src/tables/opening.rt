@@ -4,6 +4,7 @@ ghost use Rattle.std.specs.Prelude.{◌≡◌, IfOk};
 ghost use Rattle.kernel_types.specs.Sound.{IsSound};
 
 use super::Tables;
+use crate::keyed::{KeyedState, TableKey};
 use crate::leased::leased_of;
 use crate::table::Table;
 use cni_addr::NoMemory;
@@ -12,21 +13,22 @@ use std::alloc::Global;
 
 impl Tables {
     /// The tables of a host. Takes a step and a few look-ups for each object.
-    pub(crate) fn of_host(alloc: Global, host: Host) -> Result<Tables, NoMemory>
+    pub(crate) fn of_host(alloc: Global, key: &TableKey, host: Host) -> Result<Tables, NoMemory>
         requires { IsSound host }
         ensures { IfOk result (λ tables. tables ≡ host) }
     {
-        let leased = leased_of(alloc, host.leases.as_slice())?;
+        let state = KeyedState::of(key);
+        let leased = leased_of(alloc, state, host.leases.as_slice())?;
         Ok(Tables {
-            namespaces: Table::of_rows(alloc, host.namespaces)?,
-            links: Table::of_rows(alloc, host.links)?,
-            addresses: Table::of_rows(alloc, host.addresses)?,
-            routes: Table::of_rows(alloc, host.routes)?,
-            rules: Table::of_rows(alloc, host.rules)?,
-            settings: Table::of_rows(alloc, host.settings)?,
-            leases: Table::of_rows(alloc, host.leases)?,
-            cached: Table::of_rows(alloc, host.cached)?,
-            lasts: Table::of_rows(alloc, host.lasts)?,
+            namespaces: Table::of_rows(alloc, state, host.namespaces)?,
+            links: Table::of_rows(alloc, state, host.links)?,
+            addresses: Table::of_rows(alloc, state, host.addresses)?,
+            routes: Table::of_rows(alloc, state, host.routes)?,
+            rules: Table::of_rows(alloc, state, host.rules)?,
+            settings: Table::of_rows(alloc, state, host.settings)?,
+            leases: Table::of_rows(alloc, state, host.leases)?,
+            cached: Table::of_rows(alloc, state, host.cached)?,
+            lasts: Table::of_rows(alloc, state, host.lasts)?,
             leased,
         })
     }
