@@ -1,34 +1,42 @@
 -- What leaves a sound host with a link.
-use Rattle.std.proofs.Common.{◌≡◌, ◌<◌, ℕ, zero, suc, Bool, true, false, not, ap, List, [], ◌∷◌, inl, inr, Option, Some}
-use Rattle.std.proofs.{Common.{None, refl, sym, ◌∙◌, length, arith}, lemmas.{Bool.and_parts, Slice.Eq.bytes_eq-Decides}}
-use Rattle.std.specs.{Cmp.{both_ways, Lexicographic.nat_list_eq_equiv}, List.{list_any, list_all, Contains}}
-use Rattle.std.specs.{Prelude.{filter, find, ◌&&◌, ◌||◌, if◌then◌else◌}, Str.bytes_eq}
+use Rattle.std.proofs.Common.{◌≡◌, ◌<◌, ℕ, zero, suc, Bool, true, false, not, ap, List, [], ◌∷◌, inl, inr, Option, Some, None, true≢false, refl, sym, ◌∙◌, length, arith}
+use Rattle.std.specs.Prelude.{filter, find, ◌&&◌, ◌||◌, if◌then◌else◌}
+use Rattle.std.specs.List.{list_any, list_all, Contains}
+use Rattle.std.specs.Str.{bytes_eq}
+use Rattle.std.specs.Cmp.{both_ways}
+use Rattle.std.specs.Cmp.Lexicographic.{nat_list_eq_equiv}
+use Rattle.std.proofs.lemmas.Bool.{and_parts}
+use Rattle.std.proofs.lemmas.Slice.Eq.{bytes_eq-Decides}
 use Rattle.cni_addr.specs.Lists.{distinct, IsAmong, without_first}
-use Rattle.kernel_types.specs.{Apply.Calls.{drop_link_of, goes_with, link_del_of, without_link}, Equal.tag_eq}
-use Rattle.kernel_types.specs.Sound.{HasTagsOn, IsSound, is_link_or_peer, link_fits_tag, may_be_on, peer_fits}
-use Rattle.kernel_types.specs.{Sound.peers_back, Terms.{has_ns_in, is_at, is_bridge, is_own, is_peer_at}}
-use Rattle.kernel_types.specs.contracts.object.AttPartialEq.TheImpl.{eq-value as att_eq-value}
-use Rattle.kernel_types.specs.declared.{call.Reply.TheVariants.{Gone, NoNs}, object.{Att.Att, Host.Host, Link.Link}}
-use Rattle.kernel_types.specs.declared.object.{LinkKey.LinkKey, Tag.{Tag, TheVariants.Own}}
-use Rattle.kernel_types.proofs.{Cases.{is_at-itself, own-own, tag_eq-refl}, Isolation.tag_eq-same}
+use Rattle.kernel_types.specs.Apply.Calls.{drop_link_of, goes_with, link_del_of, without_link, without_links}
+use Rattle.kernel_types.specs.Equal.{tag_eq}
+use Rattle.kernel_types.specs.Sound.{HasTagsOn, IsSound, is_link_or_peer, is_unowned_kind, link_fits_tag, may_be_on, peer_fits, peers_back}
+use Rattle.kernel_types.specs.Terms.{has_ns_in, is_at, is_bridge, is_host_ns, is_own, is_owned, is_peer_at, is_veth}
+use Rattle.kernel_types.specs.declared.call.Reply.TheVariants.{Gone, NoNs}
+use Rattle.kernel_types.specs.declared.object.Att.{Att}
+use Rattle.kernel_types.specs.declared.object.Host.{Host}
+use Rattle.kernel_types.specs.declared.object.Link.{Link}
+use Rattle.kernel_types.specs.declared.object.LinkKey.{LinkKey}
+use Rattle.kernel_types.proofs.Cases.{is_at-itself, own-own, tag_eq-refl}
+use Rattle.kernel_types.proofs.Isolation.{tag_eq-same}
 use Rattle.kernel_types.proofs.ListLemmas.{list_any-find_none, list_any-weaker, without_first-none}
-use Rattle.kernel_types.proofs.{Removal.{goes_with-itself, link_del-found, same_place}, SoundHosts.goes_with-sound}
-use Rattle.kernel_types.proofs.{SoundHosts.HasTagsOn-sound, TouchRemoval.{addresses_gone, gone_may_go, is_at-symm}}
-use Rattle.kernel_types.proofs.TouchRemoval.{keeps_or_owns, owned_no_bridge, routes_gone}
-use Rattle.kernel_tables.specs.{Leaving.{has_end_at, is_peer}, Rows.owner_named, Table.is_key}
+use Rattle.kernel_types.proofs.Removal.{goes_with-itself, link_del-found, same_place}
+use Rattle.kernel_types.proofs.SoundHosts.{goes_with-sound, HasTagsOn-sound}
+use Rattle.kernel_types.proofs.TouchRemoval.{is_at-symm, keeps_or_owns, owned_no_bridge}
+use Rattle.kernel_types.specs.contracts.object.AttPartialEq.TheImpl.{eq-value as att_eq-value}
+use Rattle.kernel_types.specs.declared.object.Tag.{Tag}
+use Rattle.kernel_types.specs.declared.object.Tag.TheVariants.{Outside, Base, Own}
+use Rattle.kernel_types.specs.declared.object.LinkKind.{LinkKind}
+use Rattle.kernel_types.specs.declared.object.LinkKind.TheVariants.{Device, Bridge, Veth, Macvlan, Dummy, Vlan}
+use Rattle.kernel_tables.specs.Leaving.{has_end_at, is_peer, is_unowned_on, left_by, left_by_owner, left_unowned, left_with}
+use Rattle.kernel_types.specs.contracts.object.LinkKeyPartialEq.TheImpl.{eq-value as link_key-value}
+use Rattle.kernel_tables.specs.Rows.{owner_named, unowned_on}
+use Rattle.kernel_tables.specs.Table.{is_key}
 use Rattle.kernel_tables.proofs.Owned.{att-same, own-is}
 
 -- ---- lists
 
-pub filter-where : {X : Type 0} (k p q : X → Bool) → ((x : X) → k x ≡ true → p x ≡ q x) → (xs : List X)
-    → list_all k xs ≡ true → filter p xs ≡ filter q xs
-filter-where k p q same [] h = refl
-filter-where k p q same (x ∷ xs) h =
-    let parts = and_parts (k x) (list_all k xs) h in
-    rw (same x parts.0, filter-where k p q same xs parts.1) refl
-
-filter-among : {X : Type 0} (p q : X → Bool) (xs : List X) → ((x : X) → IsAmong x xs → p x ≡ q x)
-    → filter p xs ≡ filter q xs
+filter-among : {X : Type 0} (p q : X → Bool) (xs : List X) → ((x : X) → IsAmong x xs → p x ≡ q x) → filter p xs ≡ filter q xs
 filter-among p q [] same = refl
 filter-among p q (x ∷ xs) same = rw (same x (inl refl), filter-among p q xs (λ y at. same y (inr at))) refl
 
@@ -39,8 +47,7 @@ among-contains : {X : Type 0} (x : X) (xs : List X) → IsAmong x xs → Contain
 among-contains x [] at = absurd at
 among-contains x (y ∷ ys) at = elim at [ inl e ↦ (let below : zero < suc (length ys) = omega arith in (zero, below, sym e)) | inr later ↦ contains-more x y ys (among-contains x ys later) ]
 
-found-step : {X : Type 0} (x y : X) (xs : List X) (b : Bool) (o : Option X) → (if b then Some x else o) ≡ Some y
-    → (o ≡ Some y → IsAmong y xs) → IsAmong y (x ∷ xs)
+found-step : {X : Type 0} (x y : X) (xs : List X) (b : Bool) (o : Option X) → (if b then Some x else o) ≡ Some y → (o ≡ Some y → IsAmong y xs) → IsAmong y (x ∷ xs)
 found-step x y xs true o h later = inl (grind (arith, h))
 found-step x y xs false o h later = inr (later h)
 
@@ -48,7 +55,7 @@ pub found-among : {X : Type 0} (p : X → Bool) (xs : List X) (y : X) → find p
 found-among p [] y h = absurd (cc h)
 found-among p (x ∷ xs) y h = found-step x y xs (p x) (find p xs) h (found-among p xs y)
 
-any-among : {X : Type 0} (p : X → Bool) (x : X) (xs : List X) → IsAmong x xs → p x ≡ true → list_any p xs ≡ true
+pub any-among : {X : Type 0} (p : X → Bool) (x : X) (xs : List X) → IsAmong x xs → p x ≡ true → list_any p xs ≡ true
 any-among p x [] at h = absurd at
 any-among p x (y ∷ ys) at h = elim at [ inl e ↦ (let here : p y ≡ true = ap p (sym e) ∙ h in grind (arith, here)) | inr later ↦ (let there = any-among p x ys later h in grind (arith, there)) ]
 
@@ -57,35 +64,31 @@ all-among p x [] at h = absurd at
 all-among p x (y ∷ ys) at h =
     elim at [ inl e ↦ ap p e ∙ grind (arith, h) | inr later ↦ all-among p x ys later (grind (arith, h)) ]
 
-from-among : {X : Type 0} (p : X → Bool) (c : Bool) (xs : List X) → ((x : X) → IsAmong x xs → p x ≡ true → c ≡ true)
-    → list_any p xs ≡ true → c ≡ true
+pub from-among : {X : Type 0} (p : X → Bool) (c : Bool) (xs : List X) → ((x : X) → IsAmong x xs → p x ≡ true → c ≡ true) → list_any p xs ≡ true → c ≡ true
 from-among p c [] w h = cc
 from-among p c (x ∷ xs) w h =
     let here : p x ≡ true → c ≡ true = w x (inl refl) in
     let later : list_any p xs ≡ true → c ≡ true = from-among p c xs (λ y at. w y (inr at)) in
     grind (arith, h, here, later)
 
-filter-twice : {X : Type 0} (p q : X → Bool) (xs : List X)
-    → filter (λ x. not (q x)) (filter (λ x. not (p x)) xs) ≡ filter (λ x. not (p x || q x)) xs
+pub filter-twice : {X : Type 0} (p q : X → Bool) (xs : List X) → filter (λ x. not (q x)) (filter (λ x. not (p x)) xs) ≡ filter (λ x. not (p x || q x)) xs
 filter-twice p q [] = refl
 filter-twice p q (x ∷ xs) = grind (arith, filter-twice p q xs)
 
-keep-all : {X : Type 0} (xs : List X) → filter (λ x. true) xs ≡ xs
+pub keep-all : {X : Type 0} (xs : List X) → filter (λ x. true) xs ≡ xs
 keep-all [] = refl
 keep-all (x ∷ xs) = ap (λ l. x ∷ l) (keep-all xs)
 
-none-filtered : {X : Type 0} (p : X → Bool) (xs : List X) → list_any p xs ≡ false → filter (λ x. not (p x)) xs ≡ xs
+pub none-filtered : {X : Type 0} (p : X → Bool) (xs : List X) → list_any p xs ≡ false → filter (λ x. not (p x)) xs ≡ xs
 none-filtered p [] h = refl
 none-filtered p (x ∷ xs) h = grind (arith, none-filtered p xs)
 
 -- where keys are distinct, the first that passes is the one of its key
-none-of : {X : Type 0} (same : X → X → Bool) (x : X) (xs : List X) → ((y : X) → same x y ≡ same y x)
-    → list_any (same x) xs ≡ false → filter (λ y. not (same y x)) xs ≡ xs
+none-of : {X : Type 0} (same : X → X → Bool) (x : X) (xs : List X) → ((y : X) → same x y ≡ same y x) → list_any (same x) xs ≡ false → filter (λ y. not (same y x)) xs ≡ xs
 none-of same x [] s h = refl
 none-of same x (y ∷ ys) s h = grind (arith, s y, none-of same x ys s)
 
-without_first-step : {X : Type 0} (p : X → Bool) (same : X → X → Bool) → ((x : X) → same x x ≡ true)
-    → ((x y : X) → same x y ≡ same y x) → (x : X) (xs : List X) (link : X) (b : Bool) → distinct same (x ∷ xs) ≡ true
+without_first-step : {X : Type 0} (p : X → Bool) (same : X → X → Bool) → ((x : X) → same x x ≡ true) → ((x y : X) → same x y ≡ same y x) → (x : X) (xs : List X) (link : X) (b : Bool) → distinct same (x ∷ xs) ≡ true
     → (if b then Some x else find p xs) ≡ Some link → (find p xs ≡ Some link → IsAmong link xs)
     → (find p xs ≡ Some link → without_first p xs ≡ filter (λ y. not (same y link)) xs)
     → (if b then xs else x ∷ without_first p xs) ≡ filter (λ y. not (same y link)) (x ∷ xs)
@@ -99,8 +102,7 @@ without_first-step p same self s x xs link false d h among rest =
     let other : same x link ≡ false = grind (arith, parts.0, any-among (same x) link xs (among h)) in
     grind (arith, other, rest h)
 
-without_first-one : {X : Type 0} (p : X → Bool) (same : X → X → Bool) → ((x : X) → same x x ≡ true)
-    → ((x y : X) → same x y ≡ same y x) → (xs : List X) (link : X) → distinct same xs ≡ true → find p xs ≡ Some link
+without_first-one : {X : Type 0} (p : X → Bool) (same : X → X → Bool) → ((x : X) → same x x ≡ true) → ((x y : X) → same x y ≡ same y x) → (xs : List X) (link : X) → distinct same xs ≡ true → find p xs ≡ Some link
     → without_first p xs ≡ filter (λ y. not (same y link)) xs
 without_first-one p same self s [] link d h = refl
 without_first-one p same self s (x ∷ xs) link d h =
@@ -158,50 +160,24 @@ owned-alone : (g o : Bool) → (not g || o) ≡ true → not (o && g) ≡ not g
 owned-alone true o h = grind (arith, h)
 owned-alone false o h = grind arith
 
--- ---- the first link of an attachment
-
-module _ (host : Host) (sound : IsSound host) (att : Att) (link : Link) (found : find (λ l. is_own att l.tag) host.links ≡ Some link) where
-  there : IsAmong link host.links
-  there = found-among (λ l. is_own att l.tag) host.links link found
-
-  own-links : filter (λ l. not (is_peer link.peer l)) (without_first (λ l. is_own att l.tag) host.links) ≡ filter (λ l. not (goes_with link.ns link.name l)) host.links
-  own-links =
-      ap (filter (λ l. not (is_peer link.peer l))) (without_first-one (λ l. is_own att l.tag) (λ a b. is_at b.ns b.name a) is_at-itself (λ a b. is_at-symm a b) host.links link sound.links.keys found)
-      ∙ links-stay host sound link there
-
-  own-addresses : filter (λ a. not (is_own att a.tag && has_end_at link a.ns a.link)) host.addresses ≡ filter (λ a. not (list_any (λ l. goes_with link.ns link.name l && is_at a.ns a.link l) host.links)) host.addresses
-  own-addresses =
-      filter-where (λ a. not (list_any (λ l. goes_with link.ns link.name l && is_at a.ns a.link l) host.links) || is_own att a.tag) (λ a. not (is_own att a.tag && has_end_at link a.ns a.link)) (λ a. not (list_any (λ l. goes_with link.ns link.name l && is_at a.ns a.link l) host.links))
-      (λ a h. ap (λ b. not (is_own att a.tag && b)) (sym (goes-at host sound link there a.ns a.link)) ∙ owned-alone (list_any (λ l. goes_with link.ns link.name l && is_at a.ns a.link l) host.links) (is_own att a.tag) h)
-      host.addresses (addresses_gone (is_own att) (goes_with link.ns link.name) host.links host.addresses sound.links.keys (gone_may_go att host link sound found) sound.addresses)
-
-  own-routes : filter (λ r. not (is_own att r.tag && has_end_at link r.ns r.link)) host.routes ≡ filter (λ r. not (list_any (λ l. goes_with link.ns link.name l && is_at r.ns r.link l) host.links)) host.routes
-  own-routes =
-      filter-where (λ r. not (list_any (λ l. goes_with link.ns link.name l && is_at r.ns r.link l) host.links) || is_own att r.tag) (λ r. not (is_own att r.tag && has_end_at link r.ns r.link)) (λ r. not (list_any (λ l. goes_with link.ns link.name l && is_at r.ns r.link l) host.links))
-      (λ r h. ap (λ b. not (is_own att r.tag && b)) (sym (goes-at host sound link there r.ns r.link)) ∙ owned-alone (list_any (λ l. goes_with link.ns link.name l && is_at r.ns r.link l) host.links) (is_own att r.tag) h)
-      host.routes (routes_gone (is_own att) (goes_with link.ns link.name) host.links host.routes sound.links.keys (gone_may_go att host link sound found) sound.routes)
-
-  pub own-leaves : (
-    record host {
-      links = filter (λ l. not (is_peer link.peer l)) (without_first (λ l. is_own att l.tag) host.links);
-      addresses = filter (λ a. not (is_own att a.tag && has_end_at link a.ns a.link)) host.addresses;
-      routes = filter (λ r. not (is_own att r.tag && has_end_at link r.ns r.link)) host.routes;
-    },
-    Gone true,
-  ) ≡ link_del_of host att
-  own-leaves = (λ i. (record host { links = own-links i; addresses = own-addresses i; routes = own-routes i }, Gone true)) ∙ link_del-found host att link found
-
-pub none-leaves : (host : Host) (att : Att) → find (λ l. is_own att l.tag) host.links ≡ None
-    → (record host { links = without_first (λ l. is_own att l.tag) host.links }, Gone false) ≡ link_del_of host att
+pub none-leaves : (host : Host) (att : Att) → find (λ l. is_own att l.tag) host.links ≡ None → (record host { links = without_first (λ l. is_own att l.tag) host.links }, Gone false) ≡ link_del_of host att
 none-leaves host att none =
     ap (λ ls. (record host { links = ls }, Gone false)) (without_first-none (λ l. is_own att l.tag) host.links (list_any-find_none (λ l. is_own att l.tag) host.links none))
     ∙ ap (without_link host) (sym none)
 
 -- ---- what is dropped
 
-pub gone-own : {T : Type 0} (tag_of : T → Tag) (att : Att) (gone : T → Bool) (xs : List T)
-    → filter (λ x. not (is_key att_eq-value.it (owner_named (tag_of x)) att && gone x)) xs ≡ filter (λ x. not (is_own att (tag_of x) && gone x)) xs
+pub gone-own : {T : Type 0} (tag_of : T → Tag) (att : Att) (gone : T → Bool) (xs : List T) → filter (λ x. not (is_key att_eq-value.it (owner_named (tag_of x)) att && gone x)) xs ≡ filter (λ x. not (is_own att (tag_of x) && gone x)) xs
 gone-own tag_of att gone xs = (λ i. filter (λ x. not (own-is att_eq-value.it att-same att (tag_of x) i && gone x)) xs)
+
+on-is : (link : Link) (t : Tag) (ns name : List ℕ) → is_key link_key-value.it (unowned_on t ns name) (record { ns = link.ns; name = link.name }) ≡ is_unowned_on link t ns name
+on-is link Outside ns name = grind (arith, nat_list_eq_equiv.symm ns link.ns, nat_list_eq_equiv.symm name link.name)
+on-is link Base ns name = grind (arith, nat_list_eq_equiv.symm ns link.ns, nat_list_eq_equiv.symm name link.name)
+on-is link (Own att) ns name = refl
+
+pub gone-unowned : {T : Type 0} (tag_of : T → Tag) (ns_of name_of : T → List ℕ) (link : Link) (xs : List T)
+    → filter (λ x. not (is_key link_key-value.it (unowned_on (tag_of x) (ns_of x) (name_of x)) (record { ns = link.ns; name = link.name }))) xs ≡ filter (λ x. not (is_unowned_on link (tag_of x) (ns_of x) (name_of x))) xs
+gone-unowned tag_of ns_of name_of link xs = (λ i. filter (λ x. not (on-is link (tag_of x) (ns_of x) (name_of x) i)) xs)
 
 pub no-peer : (o : Option LinkKey) (links : List Link) → o ≡ None → links ≡ filter (λ l. not (is_peer o l)) links
 no-peer o links none = sym (ap (λ p. filter (λ l. not (is_peer p l)) links) none ∙ keep-all links)
@@ -212,106 +188,184 @@ pub passes-found : {X : Type 0} (p : X → Bool) (xs : List X) (y : X) → find 
 passes-found p [] y h = absurd (cc h)
 passes-found p (x ∷ xs) y h = grind (arith, h, passes-found p xs y)
 
-at-key : (ns name : List ℕ) (link : Link) (links : List Link) → is_at ns name link ≡ true
-    → filter (λ l. not (is_at ns name l)) links ≡ filter (λ l. not (is_at link.ns link.name l)) links
+pub at-key : (ns name : List ℕ) (link : Link) (links : List Link) → is_at ns name link ≡ true → filter (λ l. not (is_at ns name l)) links ≡ filter (λ l. not (is_at link.ns link.name l)) links
 at-key ns name link links h =
     let parts = and_parts (bytes_eq link.ns ns) (bytes_eq link.name name) h in
     let one : link.ns ≡ ns = (bytes_eq-Decides link.ns ns).0 parts.0 in
     let two : link.name ≡ name = (bytes_eq-Decides link.name name).0 parts.1 in
     (λ i. filter (λ l. not (is_at (sym one i) (sym two i) l)) links)
 
-pub link-leaves : (host : Host) → IsSound host → (ns name : List ℕ) (link : Link) → find (is_at ns name) host.links ≡ Some link → (
-  record host {
-    links = filter (λ l. not (is_peer link.peer l)) (filter (λ l. not (is_at ns name l)) host.links);
+-- ---- a link that was taken out
+
+own-own-tag : (att : Att) (t : Tag) → is_own att t ≡ true → t ≡ Own att
+own-own-tag att Outside h = absurd (true≢false (sym h))
+own-own-tag att Base h = absurd (true≢false (sym h))
+own-own-tag att (Own own) h = tag_eq-same (Own own) (Own att) h
+
+unowned-no-veth : (k : LinkKind) → is_unowned_kind k ≡ true → is_veth k ≡ false
+unowned-no-veth Device h = refl
+unowned-no-veth Bridge h = refl
+unowned-no-veth Veth h = absurd (true≢false (sym h))
+unowned-no-veth (Macvlan mode) h = refl
+unowned-no-veth Dummy h = refl
+unowned-no-veth (Vlan id) h = refl
+
+no-veth : (l : Link) (t : Tag) → is_owned t ≡ false → link_fits_tag l t ≡ true → is_veth l.kind ≡ false
+no-veth l Outside off fits = unowned-no-veth l.kind fits
+no-veth l Base off fits = unowned-no-veth l.kind (and_parts (is_unowned_kind l.kind) (is_host_ns l.ns) fits).0
+no-veth l (Own att) off fits = absurd (true≢false off)
+
+no-peer-of : (links : List Link) (l : Link) (o : Option LinkKey) → is_veth l.kind ≡ false → peer_fits links l o ≡ true → o ≡ None
+no-peer-of links l None off fits = refl
+no-peer-of links l (Some key) off fits = let veth : is_veth l.kind ≡ true = grind (arith, fits) in absurd (true≢false (sym veth ∙ off))
+
+not-own : (s t : Tag) → is_owned s ≡ false → tag_eq s t ≡ true → is_owned t ≡ false
+not-own s Outside off same = refl
+not-own s Base off same = refl
+not-own Outside (Own b) off same = absurd (true≢false (sym same))
+not-own Base (Own b) off same = absurd (true≢false (sym same))
+not-own (Own a) (Own b) off same = absurd (true≢false off)
+
+may-not-own : (m : Link) (t : Tag) → is_owned m.tag ≡ false → may_be_on m t ≡ true → is_owned t ≡ false
+may-not-own m Outside off may = refl
+may-not-own m Base off may = refl
+may-not-own m (Own b) off may = not-own m.tag (Own b) off (grind (arith, may))
+
+module _ (host : Host) (sound : IsSound host) (link : Link) (at_place : IsAmong link host.links) where
+  tags-on : (m : Link) → IsAmong m host.links → HasTagsOn m host
+  tags-on m at = HasTagsOn-sound host m sound (among-contains m host.links at)
+
+  fits : peer_fits host.links link link.peer ≡ true
+  fits = all-among (λ l. peer_fits host.links l l.peer) link host.links at_place sound.links.peers
+
+  link-leaves : (rest : List Link) → rest ≡ filter (λ l. not (is_at link.ns link.name l)) host.links → record host {
+    links = filter (λ l. not (is_peer link.peer l)) rest;
     addresses = filter (λ a. not (has_end_at link a.ns a.link)) host.addresses;
     routes = filter (λ r. not (has_end_at link r.ns r.link)) host.routes;
-  },
-  Gone true,
-) ≡ without_link host (find (is_at ns name) host.links)
-link-leaves host sound ns name link found =
-    let there : IsAmong link host.links = found-among (is_at ns name) host.links link found in
-    let links = ap (filter (λ l. not (is_peer link.peer l))) (at-key ns name link host.links (passes-found (is_at ns name) host.links link found)) ∙ links-stay host sound link there in
-    (λ i. (
-      record host {
+  } ≡ without_links (goes_with link.ns link.name) host
+  link-leaves rest is =
+      let links = ap (filter (λ l. not (is_peer link.peer l))) is ∙ links-stay host sound link at_place in
+      (λ i. record host {
         links = links i;
-        addresses = filter (λ a. not (sym (goes-at host sound link there a.ns a.link) i)) host.addresses;
-        routes = filter (λ r. not (sym (goes-at host sound link there r.ns r.link) i)) host.routes;
-      },
-      Gone true,
-    )) ∙ ap (without_link host) (sym found)
+        addresses = filter (λ a. not (sym (goes-at host sound link at_place a.ns a.link) i)) host.addresses;
+        routes = filter (λ r. not (sym (goes-at host sound link at_place r.ns r.link) i)) host.routes;
+      })
 
--- ---- the link at a place, where an attachment owns it
+  -- ---- where an attachment owns it, what may be on it is the attachment's
 
-module _ (host : Host) (sound : IsSound host) (ns name : List ℕ) (link : Link) (found : find (is_at ns name) host.links ≡ Some link) (att : Att) (owned : link.tag ≡ Own att) where
-  at_place : IsAmong link host.links
-  at_place = found-among (is_at ns name) host.links link found
-
-  -- what may be on a link of the attachment is the attachment's
-  may-own : (m : Link) → IsAmong m host.links → tag_eq m.tag link.tag ≡ true → (t : Tag) → may_be_on m t ≡ true → is_own att t ≡ true
-  may-own m at same t may =
+  may-own : (att : Att) → link.tag ≡ Own att → (m : Link) → IsAmong m host.links → tag_eq m.tag link.tag ≡ true → (t : Tag) → may_be_on m t ≡ true → is_own att t ≡ true
+  may-own att owned m at same t may =
       let tag : m.tag ≡ Own att = tag_eq-same m.tag link.tag same ∙ owned in
-      let fits : link_fits_tag m m.tag ≡ true = all-among (λ l. link_fits_tag l l.tag) m host.links at sound.links.tags in
-      let no_bridge : is_bridge m.kind ≡ false = owned_no_bridge m.ns m.kind (ap (link_fits_tag m) (sym tag) ∙ fits) in
-      let is : tag_eq m.tag t ≡ true = grind (arith, may, no_bridge) in
-      own-own att t (sym (tag_eq-same m.tag t is) ∙ tag)
+      let is : link_fits_tag m m.tag ≡ true = all-among (λ l. link_fits_tag l l.tag) m host.links at sound.links.tags in
+      let no_bridge : is_bridge m.kind ≡ false = owned_no_bridge m.ns m.kind (ap (link_fits_tag m) (sym tag) ∙ is) in
+      let own : tag_eq m.tag t ≡ true = grind (arith, may, no_bridge) in
+      own-own att t (sym (tag_eq-same m.tag t own) ∙ tag)
 
-  peer-own : (place at : List ℕ) (t : Tag) → ((m : Link) → IsAmong m host.links → is_at place at m ≡ true → may_be_on m t ≡ true) → (o : Option LinkKey) → peer_fits host.links link o ≡ true → is_peer_at place at o ≡ true → is_own att t ≡ true
-  peer-own place at t lies None fits h = absurd (cc h)
-  peer-own place at t lies (Some key) fits h =
+  peer-own : (att : Att) → link.tag ≡ Own att → (place at : List ℕ) (t : Tag) → ((m : Link) → IsAmong m host.links → is_at place at m ≡ true → may_be_on m t ≡ true) → (o : Option LinkKey) → peer_fits host.links link o ≡ true → is_peer_at place at o ≡ true → is_own att t ≡ true
+  peer-own att owned place at t lies None fits h = absurd (cc h)
+  peer-own att owned place at t lies (Some key) fits h =
       from-among (peers_back link key) (is_own att t) host.links
       (λ m among back.
       let here : is_at key.ns key.name m ≡ true = grind (arith, back) in
       let same : tag_eq m.tag link.tag ≡ true = grind (arith, back) in
-      may-own m among same t (lies m among (sym (same_place key.ns key.name place at (λ a b. is_at a b m) h) ∙ here)))
+      may-own att owned m among same t (lies m among (sym (same_place key.ns key.name place at (λ a b. is_at a b m) h) ∙ here)))
       (grind (arith, fits))
 
   -- what is on an end is the attachment's
-  end-own : (place at : List ℕ) (t : Tag) → ((m : Link) → IsAmong m host.links → is_at place at m ≡ true → may_be_on m t ≡ true) → not (is_own att t && has_end_at link place at) ≡ not (has_end_at link place at)
-  end-own place at t lies =
-      let here : is_at place at link ≡ true → is_own att t ≡ true = λ on. may-own link at_place (tag_eq-refl link.tag) t (lies link at_place on) in
-      let fits : peer_fits host.links link link.peer ≡ true = all-among (λ l. peer_fits host.links l l.peer) link host.links at_place sound.links.peers in
-      let peer : is_peer_at place at link.peer ≡ true → is_own att t ≡ true = peer-own place at t lies link.peer fits in
+  end-own : (att : Att) → link.tag ≡ Own att → (place at : List ℕ) (t : Tag) → ((m : Link) → IsAmong m host.links → is_at place at m ≡ true → may_be_on m t ≡ true) → not (is_own att t && has_end_at link place at) ≡ not (has_end_at link place at)
+  end-own att owned place at t lies =
+      let here : is_at place at link ≡ true → is_own att t ≡ true = λ on. may-own att owned link at_place (tag_eq-refl link.tag) t (lies link at_place on) in
+      let peer : is_peer_at place at link.peer ≡ true → is_own att t ≡ true = peer-own att owned place at t lies link.peer fits in
       owned-alone (has_end_at link place at) (is_own att t) (keeps_or_owns (has_end_at link place at) (is_own att t) (λ h. grind (arith, h, here, peer)))
 
-  tags-on : (m : Link) → IsAmong m host.links → HasTagsOn m host
-  tags-on m at = HasTagsOn-sound host m sound (among-contains m host.links at)
-
-  end-addresses : filter (λ a. not (is_own att a.tag && has_end_at link a.ns a.link)) host.addresses ≡ filter (λ a. not (has_end_at link a.ns a.link)) host.addresses
-  end-addresses =
+  end-addresses : (att : Att) → link.tag ≡ Own att → filter (λ a. not (is_own att a.tag && has_end_at link a.ns a.link)) host.addresses ≡ filter (λ a. not (has_end_at link a.ns a.link)) host.addresses
+  end-addresses att owned =
       filter-among (λ a. not (is_own att a.tag && has_end_at link a.ns a.link)) (λ a. not (has_end_at link a.ns a.link)) host.addresses
-      (λ a there. end-own a.ns a.link a.tag
+      (λ a there. end-own att owned a.ns a.link a.tag
       (λ m at on. let may = all-among (λ a. not (is_at a.ns a.link m) || may_be_on m a.tag) a host.addresses there (tags-on m at).addresses in grind (arith, may, on)))
 
-  end-routes : filter (λ r. not (is_own att r.tag && has_end_at link r.ns r.link)) host.routes ≡ filter (λ r. not (has_end_at link r.ns r.link)) host.routes
-  end-routes =
+  end-routes : (att : Att) → link.tag ≡ Own att → filter (λ r. not (is_own att r.tag && has_end_at link r.ns r.link)) host.routes ≡ filter (λ r. not (has_end_at link r.ns r.link)) host.routes
+  end-routes att owned =
       filter-among (λ r. not (is_own att r.tag && has_end_at link r.ns r.link)) (λ r. not (has_end_at link r.ns r.link)) host.routes
-      (λ r there. end-own r.ns r.link r.tag
+      (λ r there. end-own att owned r.ns r.link r.tag
       (λ m at on. let has = all-among (λ r. not (is_at r.ns r.link m) || tag_eq m.tag r.tag) r host.routes there (tags-on m at).routes in grind (arith, has, on)))
 
-  pub owned-leaves : (
-    record host {
-      links = filter (λ l. not (is_peer link.peer l)) (filter (λ l. not (is_at ns name l)) host.links);
-      addresses = filter (λ a. not (is_own att a.tag && has_end_at link a.ns a.link)) host.addresses;
-      routes = filter (λ r. not (is_own att r.tag && has_end_at link r.ns r.link)) host.routes;
-    },
-    Gone true,
-  ) ≡ without_link host (find (is_at ns name) host.links)
-  owned-leaves =
-      (λ i. (
-        record host {
-          links = filter (λ l. not (is_peer link.peer l)) (filter (λ l. not (is_at ns name l)) host.links);
-          addresses = end-addresses i;
-          routes = end-routes i;
-        },
-        Gone true,
-      )) ∙ link-leaves host sound ns name link found
+  owned-leaves : (att : Att) → link.tag ≡ Own att → (rest : List Link) → rest ≡ filter (λ l. not (is_at link.ns link.name l)) host.links
+      → left_by_owner link att (record host { links = rest }) ≡ without_links (goes_with link.ns link.name) host
+  owned-leaves att owned rest is =
+      (λ i. record host {
+        links = filter (λ l. not (is_peer link.peer l)) rest;
+        addresses = end-addresses att owned i;
+        routes = end-routes att owned i;
+      }) ∙ link-leaves rest is
 
-pub drop_link-there : (host : Host) (key : LinkKey) → has_ns_in host.namespaces key.ns ≡ true
-    → without_link host (find (is_at key.ns key.name) host.links) ≡ drop_link_of host key
-drop_link-there host key there = ap (λ b. if b then without_link host (find (is_at key.ns key.name) host.links) else (host, NoNs)) (sym there)
+  -- ---- where none owns it, it has no peer, and what is on it none owns either
 
-pub no-link-leaves : (host : Host) (ns name : List ℕ) → find (is_at ns name) host.links ≡ None
-    → (record host { links = filter (λ l. not (is_at ns name l)) host.links }, Gone false) ≡ without_link host (find (is_at ns name) host.links)
-no-link-leaves host ns name none =
-    ap (λ ls. (record host { links = ls }, Gone false)) (none-filtered (is_at ns name) host.links (list_any-find_none (is_at ns name) host.links none))
-    ∙ ap (without_link host) (sym none)
+  peer-none : is_owned link.tag ≡ false → link.peer ≡ None
+  peer-none off = no-peer-of host.links link link.peer (no-veth link link.tag off (all-among (λ l. link_fits_tag l l.tag) link host.links at_place sound.links.tags)) fits
+
+  end-unowned : is_owned link.tag ≡ false → (ns name : List ℕ) (t : Tag) → (is_at ns name link ≡ true → is_owned t ≡ false) → not (is_unowned_on link t ns name) ≡ not (has_end_at link ns name)
+  end-unowned off ns name t lies = by (is_at ns name link) refl (ap (is_peer_at ns name) (peer-none off))
+    where
+      by : (b : Bool) → is_at ns name link ≡ b → is_peer_at ns name link.peer ≡ false → not (is_unowned_on link t ns name) ≡ not (has_end_at link ns name)
+      by true e none = let free = lies e in grind (arith, e, free)
+      by false e none = grind (arith, e, none)
+
+  unowned-addresses : is_owned link.tag ≡ false → filter (λ a. not (is_unowned_on link a.tag a.ns a.link)) host.addresses ≡ filter (λ a. not (has_end_at link a.ns a.link)) host.addresses
+  unowned-addresses off =
+      filter-among (λ a. not (is_unowned_on link a.tag a.ns a.link)) (λ a. not (has_end_at link a.ns a.link)) host.addresses
+      (λ a there. end-unowned off a.ns a.link a.tag
+      (λ on. let may = all-among (λ a. not (is_at a.ns a.link link) || may_be_on link a.tag) a host.addresses there (tags-on link at_place).addresses in may-not-own link a.tag off (grind (arith, may, on))))
+
+  unowned-routes : is_owned link.tag ≡ false → filter (λ r. not (is_unowned_on link r.tag r.ns r.link)) host.routes ≡ filter (λ r. not (has_end_at link r.ns r.link)) host.routes
+  unowned-routes off =
+      filter-among (λ r. not (is_unowned_on link r.tag r.ns r.link)) (λ r. not (has_end_at link r.ns r.link)) host.routes
+      (λ r there. end-unowned off r.ns r.link r.tag
+      (λ on. let has = all-among (λ r. not (is_at r.ns r.link link) || tag_eq link.tag r.tag) r host.routes there (tags-on link at_place).routes in not-own link.tag r.tag off (grind (arith, has, on))))
+
+  unowned-leaves : is_owned link.tag ≡ false → (rest : List Link) → rest ≡ filter (λ l. not (is_at link.ns link.name l)) host.links
+      → left_unowned link (record host { links = rest }) ≡ without_links (goes_with link.ns link.name) host
+  unowned-leaves off rest is =
+      (λ i. record host {
+        links = no-peer link.peer rest (peer-none off) i;
+        addresses = unowned-addresses off i;
+        routes = unowned-routes off i;
+      }) ∙ link-leaves rest is
+
+  left-by : (t : Tag) → link.tag ≡ t → (rest : List Link) → rest ≡ filter (λ l. not (is_at link.ns link.name l)) host.links
+      → left_by link t (record host { links = rest }) ≡ without_links (goes_with link.ns link.name) host
+  left-by Outside e rest is = unowned-leaves (ap is_owned e) rest is
+  left-by Base e rest is = unowned-leaves (ap is_owned e) rest is
+  left-by (Own att) e rest is = owned-leaves att e rest is
+
+  -- what goes with a link that was taken out of a sound host
+  pub left-leaves : (rest : List Link) → rest ≡ filter (λ l. not (is_at link.ns link.name l)) host.links → left_with link (record host { links = rest }) ≡ without_links (goes_with link.ns link.name) host
+  left-leaves rest is = left-by link.tag refl rest is
+
+-- the first link that passes
+pub left-first : (host : Host) → IsSound host → (p : Link → Bool) (link : Link) → find p host.links ≡ Some link → left_with link (record host { links = without_first p host.links }) ≡ without_links (goes_with link.ns link.name) host
+left-first host sound p link found =
+    left-leaves host sound link (found-among p host.links link found) (without_first p host.links)
+    (without_first-one p (λ a b. is_at b.ns b.name a) is_at-itself (λ a b. is_at-symm a b) host.links link sound.links.keys found)
+
+pub drop_link-there : (host : Host) (key : LinkKey) (link : Link) → has_ns_in host.namespaces key.ns ≡ true → IsSound host → find (is_at key.ns key.name) host.links ≡ Some link
+    → (left_with link (record host { links = filter (λ l. not (is_at key.ns key.name l)) host.links }), Gone true) ≡ drop_link_of host key
+drop_link-there host key link there sound found =
+    ap (λ h. (h, Gone true)) (left-leaves host sound link (found-among (is_at key.ns key.name) host.links link found) (filter (λ l. not (is_at key.ns key.name l)) host.links)
+    (at-key key.ns key.name link host.links (passes-found (is_at key.ns key.name) host.links link found)))
+    ∙ ap (without_link host) (sym found) ∙ ap (λ b. if b then without_link host (find (is_at key.ns key.name) host.links) else (host, NoNs)) (sym there)
+
+pub drop_link-none : (host : Host) (key : LinkKey) → has_ns_in host.namespaces key.ns ≡ true → find (is_at key.ns key.name) host.links ≡ None
+    → (record host { links = filter (λ l. not (is_at key.ns key.name l)) host.links }, Gone false) ≡ drop_link_of host key
+drop_link-none host key there none =
+    ap (λ ls. (record host { links = ls }, Gone false)) (none-filtered (is_at key.ns key.name) host.links (list_any-find_none (is_at key.ns key.name) host.links none))
+    ∙ ap (without_link host) (sym none) ∙ ap (λ b. if b then without_link host (find (is_at key.ns key.name) host.links) else (host, NoNs)) (sym there)
+
+-- ---- the first link of an attachment
+
+pub own-leaves : (host : Host) → IsSound host → (att : Att) (link : Link) → find (λ l. is_own att l.tag) host.links ≡ Some link
+    → (left_by_owner link att (record host { links = without_first (λ l. is_own att l.tag) host.links }), Gone true) ≡ link_del_of host att
+own-leaves host sound att link found =
+    let owned : link.tag ≡ Own att = own-own-tag att link.tag (passes-found (λ l. is_own att l.tag) host.links link found) in
+    ap (λ t. (left_by link t (record host { links = without_first (λ l. is_own att l.tag) host.links }), Gone true)) (sym owned)
+    ∙ ap (λ h. (h, Gone true)) (left-first host sound (λ l. is_own att l.tag) link found) ∙ link_del-found host att link found

@@ -1,113 +1,193 @@
 -- What leaves a sound host with a namespace.
-use Rattle.std.proofs.Common.{◌≡◌, ℕ, Bool, true, false, not, ap, List, [], Option, Some, None, refl, sym, ◌∙◌, arith}
-use Rattle.std.proofs.lemmas.{Bool.and_parts, Slice.Eq.bytes_eq-Decides}
-use Rattle.std.specs.{List.list_any, Option.option_map_or, Prelude.{filter, find, ◌&&◌, ◌||◌, if◌then◌else◌}}
+use Rattle.std.proofs.Common.{◌≡◌, ◌<◌, ◌≤◌, ℕ, suc, Bool, true, false, not, ap, List, [], ◌∷◌, Option, Some, None, true≢false, refl, sym, subst, ◌∙◌, length, arith}
+use Rattle.std.specs.Prelude.{filter, find, ◌&&◌, ◌||◌, if◌then◌else◌}
+use Rattle.std.specs.List.{list_any}
 use Rattle.std.specs.Str.{bytes_eq}
-use Rattle.kernel_types.specs.Apply.Calls.{goes_with_ns, has_peer_in, ns_del_of, without_links, without_ns}
-use Rattle.kernel_types.specs.{Equal.tag_eq, Keys.is_same_link, Sound.{IsSound, address_fits_tag, peer_fits}}
-use Rattle.kernel_types.specs.Terms.{has_bridge_in, has_link_in, has_named_ns, is_at, is_host_bridge, is_host_link}
-use Rattle.kernel_types.specs.{Terms.{is_host_ns, is_link_of}, declared.call.Reply.TheVariants.{Done, NoNs}}
-use Rattle.kernel_types.specs.declared.object.{AddrObj.AddrObj, Host.Host, Link.Link, LinkKey.LinkKey}
-use Rattle.kernel_types.specs.declared.object.{RouteObj.RouteObj, Tag.{Tag, TheVariants.{Outside, Base, Own}}}
-use Rattle.kernel_types.proofs.{Cases.{host_bridge-at, host_ns-eq}, ListLemmas.{list_any-find_none, list_any-weaker}}
+use Rattle.std.proofs.lemmas.Bool.{and_parts}
+use Rattle.std.proofs.lemmas.Slice.Eq.{bytes_eq-Decides}
+use Rattle.cni_addr.specs.Lists.{IsAmong, without_first}
+use Rattle.kernel_types.specs.Apply.Calls.{goes_with, goes_with_ns, has_peer_in, ns_del_of, without_links, without_ns}
+use Rattle.kernel_types.specs.Sound.{IsSound, peer_fits, peers_back}
+use Rattle.kernel_types.specs.Terms.{has_named_ns, is_at, is_host_ns, is_peer_at}
+use Rattle.kernel_types.specs.declared.call.Reply.TheVariants.{Done, NoNs}
+use Rattle.kernel_types.specs.declared.object.AddrObj.{AddrObj}
+use Rattle.kernel_types.specs.declared.object.Host.{Host}
+use Rattle.kernel_types.specs.declared.object.Link.{Link}
+use Rattle.kernel_types.specs.declared.object.LinkKey.{LinkKey}
+use Rattle.kernel_types.specs.declared.object.RouteObj.{RouteObj}
+use Rattle.kernel_types.specs.declared.object.Setting.{Setting}
+use Rattle.kernel_types.proofs.ListLemmas.{list_any-find_none, list_any-none, list_any-weaker}
+use Rattle.kernel_types.proofs.Removal.{goes_with-itself, IsSound-without_link}
 use Rattle.kernel_types.proofs.TouchRemoval.{from_one}
-use Rattle.kernel_tables.specs.Leaving.{leads_into, place_goes_with_ns}
-use Rattle.kernel_tables.proofs.{Free.{any-both, place-alike}, Leaving.{all-among, filter-where, found-among}}
-use Rattle.kernel_tables.proofs.Leaving.{passes-found}
+use Rattle.kernel_tables.specs.Leaving.{left_with}
+use Rattle.kernel_tables.specs.Rows.{inner_ns}
+use Rattle.kernel_tables.specs.Table.{is_key}
+use Rattle.kernel_tables.proofs.Leaving.{all-among, any-among, filter-twice, found-among, from-among, keep-all, left-first, none-filtered, passes-found}
 
--- ---- the link at a place of the host
-
-host-find : (ns place : List ℕ) → is_host_ns ns ≡ true → (links : List Link)
-    → find (is_at ns place) links ≡ find (is_host_link place) links
-host-find ns place host links =
-    let empty : ns ≡ [] = (bytes_eq-Decides ns []).0 (sym (host_ns-eq ns) ∙ host) in
-    ap (λ n. find (is_at n place) links) empty ∙ (λ i. find (λ l. sym (host_ns-eq l.ns) i && bytes_eq l.name place) links)
-
-swapped : (a b : Bool) → (a && b) ≡ (b && a)
-swapped a b = grind arith
-
--- ---- what is on the links that go
-
-module _ (host : Host) (sound : IsSound host) (name : List ℕ) (inner : is_host_ns name ≡ false) where
-  -- outside the host no link has its peer in a namespace
-  peer-inner : (l : Link) (o : Option LinkKey) → peer_fits host.links l o ≡ true → is_host_ns l.ns ≡ false → has_peer_in name o ≡ false
-  peer-inner l None fits far = refl
-  peer-inner l (Some key) fits far = by (bytes_eq key.ns name) refl
-    where
-      by : (b : Bool) → bytes_eq key.ns name ≡ b → b ≡ false
-      by true e = let same : is_host_ns key.ns ≡ false = ap is_host_ns ((bytes_eq-Decides key.ns name).0 e) ∙ inner in grind (arith, fits, far, same)
-      by false e = refl
-
-  goes-by : (ns place : List ℕ) (l : Link) → find (is_at ns place) host.links ≡ Some l → peer_fits host.links l l.peer ≡ true → l.ns ≡ ns → (b : Bool) → is_host_ns ns ≡ b
-      → (bytes_eq ns name || has_peer_in name l.peer) ≡ (bytes_eq ns name || (b && leads_into name (find (is_host_link place) host.links)))
-  goes-by ns place l found fits one true e = ap (λ o. bytes_eq ns name || leads_into name o) (sym found ∙ host-find ns place e host.links)
-  goes-by ns place l found fits one false e = ap (λ b. bytes_eq ns name || b) (peer-inner l l.peer fits (ap is_host_ns one ∙ e))
-
-  -- a link goes where its place does
-  link-goes : (ns place : List ℕ) (l : Link) → find (is_at ns place) host.links ≡ Some l → goes_with_ns name l ≡ place_goes_with_ns name host.links ns place
-  link-goes ns place l found =
-      let here = and_parts (bytes_eq l.ns ns) (bytes_eq l.name place) (passes-found (is_at ns place) host.links l found) in
-      let one : l.ns ≡ ns = (bytes_eq-Decides l.ns ns).0 here.0 in
-      let fits : peer_fits host.links l l.peer ≡ true = all-among (λ l. peer_fits host.links l l.peer) l host.links (found-among (is_at ns place) host.links l found) sound.links.peers in
-      ap (λ n. bytes_eq n name || has_peer_in name l.peer) one ∙ goes-by ns place l found fits one (is_host_ns ns) refl
-
-  found-goes : (ns place : List ℕ) (o : Option Link) → find (is_at ns place) host.links ≡ o → list_any (is_at ns place) host.links ≡ true → option_map_or (goes_with_ns name) o false ≡ place_goes_with_ns name host.links ns place
-  found-goes ns place None e some = absurd (cc (some, list_any-find_none (is_at ns place) host.links e))
-  found-goes ns place (Some l) e some = link-goes ns place l e
-
-  on-links : (ns place : List ℕ) → list_any (is_at ns place) host.links ≡ true → list_any (λ l. goes_with_ns name l && is_at ns place l) host.links ≡ place_goes_with_ns name host.links ns place
-  on-links ns place some =
-      (λ i. list_any (λ l. swapped (goes_with_ns name l) (is_at ns place l) i) host.links)
-      ∙ any-both (λ a b. is_same_link b a) (is_at ns place) (goes_with_ns name) (place-alike ns place) host.links sound.links.keys
-      ∙ found-goes ns place (find (is_at ns place) host.links) refl some
-
-  address-lies : (a : AddrObj) (t : Tag) → address_fits_tag host.links a t ≡ true → list_any (is_at a.ns a.link) host.links ≡ true
-  address-lies a Outside h = absurd (cc h)
-  address-lies a Base h =
-      let on = and_parts (is_host_ns a.ns) (has_bridge_in host.links a.link) h in
-      list_any-weaker (is_host_bridge a.link) (is_at a.ns a.link) (λ l b. host_bridge-at a.ns a.link l on.0 b) host.links on.1
-  address-lies a (Own att) h =
-      list_any-weaker (is_link_of a.ns a.link (Own att)) (is_at a.ns a.link) (λ l g. (and_parts (is_at a.ns a.link l) (tag_eq l.tag (Own att)) g).0) host.links h
-
-  route-lies : (r : RouteObj) → has_link_in host.links r.ns r.link r.tag ≡ true → list_any (is_at r.ns r.link) host.links ≡ true
-  route-lies r h =
-      list_any-weaker (is_link_of r.ns r.link r.tag) (is_at r.ns r.link) (λ l g. (and_parts (is_at r.ns r.link l) (tag_eq l.tag r.tag) g).0) host.links h
-
-  addresses-leave : filter (λ a. not (place_goes_with_ns name host.links a.ns a.link)) host.addresses ≡ filter (λ a. not (list_any (λ l. goes_with_ns name l && is_at a.ns a.link l) host.links)) host.addresses
-  addresses-leave =
-      filter-where (λ a. address_fits_tag host.links a a.tag) (λ a. not (place_goes_with_ns name host.links a.ns a.link)) (λ a. not (list_any (λ l. goes_with_ns name l && is_at a.ns a.link l) host.links))
-      (λ a h. ap not (sym (on-links a.ns a.link (address-lies a a.tag h)))) host.addresses sound.addresses.on_links
-
-  routes-leave : filter (λ r. not (place_goes_with_ns name host.links r.ns r.link)) host.routes ≡ filter (λ r. not (list_any (λ l. goes_with_ns name l && is_at r.ns r.link l) host.links)) host.routes
-  routes-leave =
-      filter-where (λ r. has_link_in host.links r.ns r.link r.tag) (λ r. not (place_goes_with_ns name host.links r.ns r.link)) (λ r. not (list_any (λ l. goes_with_ns name l && is_at r.ns r.link l) host.links))
-      (λ r h. ap not (sym (on-links r.ns r.link (route-lies r h)))) host.routes sound.routes.on_links
-
-inner-named : (host : Host) → IsSound host → (name : List ℕ) → has_named_ns host name ≡ true → is_host_ns name ≡ false
+pub inner-named : (host : Host) → IsSound host → (name : List ℕ) → has_named_ns host name ≡ true → is_host_ns name ≡ false
 inner-named host sound name named =
     let inner : not (is_host_ns name) ≡ true =
     from_one (λ n. bytes_eq n.name name) (λ n. not (is_host_ns n.name)) (not (is_host_ns name)) (λ n e g. ap (λ m. not (is_host_ns m)) (sym ((bytes_eq-Decides n.name name).0 e)) ∙ g) host.namespaces named sound.namespaces.named in
     grind (arith, inner)
 
-pub ns-leaves : (host : Host) → IsSound host → (name : List ℕ) → has_named_ns host name ≡ true → (
-  record host {
-    namespaces = filter (λ n. not (bytes_eq n.name name)) host.namespaces;
-    links = filter (λ l. not (goes_with_ns name l)) host.links;
-    addresses = filter (λ a. not (place_goes_with_ns name host.links a.ns a.link)) host.addresses;
-    routes = filter (λ r. not (place_goes_with_ns name host.links r.ns r.link)) host.routes;
-    settings = filter (λ s. not (bytes_eq s.ns name)) host.settings;
-  },
-  Done,
-) ≡ ns_del_of host name
-ns-leaves host sound name named =
-    let inner : is_host_ns name ≡ false = inner-named host sound name named in
-    (λ i. (
-      record host {
-        namespaces = filter (λ n. not (bytes_eq n.name name)) host.namespaces;
-        links = filter (λ l. not (goes_with_ns name l)) host.links;
-        addresses = addresses-leave host sound name inner i;
-        routes = routes-leave host sound name inner i;
-        settings = filter (λ s. not (bytes_eq s.ns name)) host.settings;
+-- what has its site in a namespace other than the host's own
+apart : (name : List ℕ) → is_host_ns name ≡ false → (ns : List ℕ) → is_host_ns ns ≡ true → (b : Bool) → bytes_eq ns name ≡ b → false ≡ b
+apart name inner ns host true e = absurd (true≢false (sym host ∙ ap is_host_ns ((bytes_eq-Decides ns name).0 e) ∙ inner))
+apart name inner ns host false e = refl
+
+pub inner-is : (name : List ℕ) → is_host_ns name ≡ false → (ns : List ℕ) → is_key bytes_eq (inner_ns ns) name ≡ bytes_eq ns name
+inner-is name inner ns = by (is_host_ns ns) refl
+  where
+    by : (b : Bool) → is_host_ns ns ≡ b → is_key bytes_eq (if b then None else Some ns) name ≡ bytes_eq ns name
+    by true host = apart name inner ns host (bytes_eq ns name) refl
+    by false far = refl
+
+-- ---- links that go in two steps
+
+absorbed : (a b : Bool) → (a ≡ true → b ≡ true) → (a || b) ≡ b
+absorbed true b h = sym (h refl)
+absorbed false b h = refl
+
+module _ (g k : Link → Bool) (more : (l : Link) → g l ≡ true → k l ≡ true) where
+  links-again : (xs : List Link) → filter (λ l. not (k l)) (filter (λ l. not (g l)) xs) ≡ filter (λ l. not (k l)) xs
+  links-again xs = filter-twice g k xs ∙ (λ i. filter (λ l. not (absorbed (g l) (k l) (more l) i)) xs)
+
+  any-again : (at : Link → Bool) (xs : List Link) → (list_any (λ l. g l && at l) xs || list_any (λ l. k l && at l) (filter (λ l. not (g l)) xs)) ≡ list_any (λ l. k l && at l) xs
+  any-again at [] = refl
+  any-again at (x ∷ xs) = by (g x) refl (any-again at xs)
+    where
+      by : (b : Bool) → g x ≡ b → (list_any (λ l. g l && at l) xs || list_any (λ l. k l && at l) (filter (λ l. not (g l)) xs)) ≡ list_any (λ l. k l && at l) xs
+          → (list_any (λ l. g l && at l) (x ∷ xs) || list_any (λ l. k l && at l) (filter (λ l. not (g l)) (x ∷ xs))) ≡ list_any (λ l. k l && at l) (x ∷ xs)
+      by true e rest = let goes = more x e in grind (arith, e, goes, rest)
+      by false e rest = grind (arith, e, rest)
+
+  lies-again : {X : Type 0} (on : X → Link → Bool) (links : List Link) (xs : List X)
+      → filter (λ x. not (list_any (λ l. k l && on x l) (filter (λ l. not (g l)) links))) (filter (λ x. not (list_any (λ l. g l && on x l) links)) xs) ≡ filter (λ x. not (list_any (λ l. k l && on x l) links)) xs
+  lies-again on links xs =
+      filter-twice (λ x. list_any (λ l. g l && on x l) links) (λ x. list_any (λ l. k l && on x l) (filter (λ l. not (g l)) links)) xs
+      ∙ (λ i. filter (λ x. not (any-again (on x) links i)) xs)
+
+  without-again : (host : Host) → without_links k (without_links g host) ≡ without_links k host
+  without-again host = (λ i. record host {
+    links = links-again host.links i;
+    addresses = lies-again (λ (a : AddrObj) l. is_at a.ns a.link l) host.links host.addresses i;
+    routes = lies-again (λ (r : RouteObj) l. is_at r.ns r.link l) host.links host.routes i;
+  })
+
+none-both : (k at : Link → Bool) (links : List Link) → list_any k links ≡ false → list_any (λ l. k l && at l) links ≡ false
+none-both k at links none = list_any-none (λ l. k l && at l) k (λ l h. (and_parts (k l) (at l) h).0) links none
+
+without-none : (k : Link → Bool) (host : Host) → list_any k host.links ≡ false → without_links k host ≡ host
+without-none k host none =
+    let links = none-filtered k host.links none in
+    let addresses = (λ j. filter (λ (a : AddrObj). not (none-both k (is_at a.ns a.link) host.links none j)) host.addresses) ∙ keep-all host.addresses in
+    let routes = (λ j. filter (λ (r : RouteObj). not (none-both k (is_at r.ns r.link) host.links none j)) host.routes) ∙ keep-all host.routes in
+    (λ i. record host { links = links i; addresses = addresses i; routes = routes i })
+
+-- ---- one link of the namespace after the other
+
+filter-le : {X : Type 0} (f : X → Bool) (xs : List X) → length (filter f xs) ≤ length xs
+filter-le f [] = omega arith
+filter-le f (x ∷ xs) = by (f x) (filter-le f xs)
+  where
+    by : (b : Bool) → length (filter f xs) ≤ length xs → length (if b then x ∷ filter f xs else filter f xs) ≤ suc (length xs)
+    by true rest = omega (arith, rest)
+    by false rest = omega (arith, rest)
+
+pub filter-fewer : {X : Type 0} (p : X → Bool) (xs : List X) → list_any p xs ≡ true → length (filter (λ x. not (p x)) xs) < length xs
+filter-fewer p [] h = absurd (true≢false (sym h))
+filter-fewer p (x ∷ xs) h = by (p x) h (filter-fewer p xs)
+  where
+    by : (b : Bool) → (b || list_any p xs) ≡ true → (list_any p xs ≡ true → length (filter (λ y. not (p y)) xs) < length xs) → length (if not b then x ∷ filter (λ y. not (p y)) xs else filter (λ y. not (p y)) xs) < suc (length xs)
+    by true e less = omega (arith, filter-le (λ y. not (p y)) xs)
+    by false e less = omega (arith, less e)
+
+peer-in : (name : List ℕ) (link : Link) → link.ns ≡ name → (o : Option LinkKey) → is_peer_at link.ns link.name o ≡ true → has_peer_in name o ≡ true
+peer-in name link one None g = absurd (true≢false (sym g))
+peer-in name link one (Some key) g = ap (bytes_eq key.ns) (sym one) ∙ (and_parts (bytes_eq key.ns link.ns) (bytes_eq key.name link.name) g).0
+
+module _ (name : List ℕ) (inner : is_host_ns name ≡ false) where
+  -- what goes with a link of the namespace goes with the namespace
+  with-link : (link : Link) → link.ns ≡ name → (l : Link) → goes_with link.ns link.name l ≡ true → goes_with_ns name l ≡ true
+  with-link link one l h = by (is_at link.ns link.name l) refl
+    where
+      by : (b : Bool) → is_at link.ns link.name l ≡ b → goes_with_ns name l ≡ true
+      by true e =
+          let here : bytes_eq l.ns name ≡ true = ap (bytes_eq l.ns) (sym one) ∙ (and_parts (bytes_eq l.ns link.ns) (bytes_eq l.name link.name) e).0 in
+          grind (arith, here)
+      by false e =
+          let there : is_peer_at link.ns link.name l.peer ≡ true = grind (arith, e, h) in
+          let in_it : has_peer_in name l.peer ≡ true = peer-in name link one l.peer there in
+          grind (arith, in_it)
+
+  module _ (host : Host) (sound : IsSound host) where
+    module _ (link : Link) (found : find (λ l. is_key bytes_eq (inner_ns l.ns) name) host.links ≡ Some link) (new : Host)
+        (left : new ≡ left_with link (record host { links = without_first (λ l. is_key bytes_eq (inner_ns l.ns) name) host.links })) where
+      gone : new ≡ without_links (goes_with link.ns link.name) host
+      gone = left ∙ left-first host sound (λ l. is_key bytes_eq (inner_ns l.ns) name) link found
+
+      one : link.ns ≡ name
+      one = (bytes_eq-Decides link.ns name).0 (sym (inner-is name inner link.ns) ∙ passes-found (λ l. is_key bytes_eq (inner_ns l.ns) name) host.links link found)
+
+      pub step-leaves : without_links (goes_with_ns name) new ≡ without_links (goes_with_ns name) host
+      step-leaves = ap (without_links (goes_with_ns name)) gone ∙ without-again (goes_with link.ns link.name) (goes_with_ns name) (with-link link one) host
+
+      pub step-sound : IsSound new
+      step-sound = subst IsSound (sym gone) (IsSound-without_link host (Some link) sound)
+
+      pub step-fewer : length new.links < length host.links
+      step-fewer =
+          let some = any-among (goes_with link.ns link.name) link host.links (found-among (λ l. is_key bytes_eq (inner_ns l.ns) name) host.links link found) (goes_with-itself link) in
+          let fewer = filter-fewer (goes_with link.ns link.name) host.links some in
+          subst (λ n. n < length host.links) (ap (λ (h : Host). length h.links) (sym gone)) fewer
+
+    peer-there : (l : Link) (o : Option LinkKey) → peer_fits host.links l o ≡ true → has_peer_in name o ≡ true → list_any (λ m. bytes_eq m.ns name) host.links ≡ true
+    peer-there l None fits h = absurd (true≢false (sym h))
+    peer-there l (Some key) fits h =
+        let one : key.ns ≡ name = (bytes_eq-Decides key.ns name).0 h in
+        list_any-weaker (peers_back l key) (λ m. bytes_eq m.ns name) (λ m back. let at : bytes_eq m.ns key.ns ≡ true = grind (arith, back) in ap (bytes_eq m.ns) (sym one) ∙ at) host.links (grind (arith, fits))
+
+    some-there : list_any (goes_with_ns name) host.links ≡ true → list_any (λ m. bytes_eq m.ns name) host.links ≡ true
+    some-there =
+        from-among (goes_with_ns name) (list_any (λ m. bytes_eq m.ns name) host.links) host.links
+        (λ l at h.
+        let here : bytes_eq l.ns name ≡ true → list_any (λ m. bytes_eq m.ns name) host.links ≡ true = any-among (λ m. bytes_eq m.ns name) l host.links at in
+        let fits : peer_fits host.links l l.peer ≡ true = all-among (λ l. peer_fits host.links l l.peer) l host.links at sound.links.peers in
+        grind (arith, h, here, peer-there l l.peer fits))
+
+    none-goes : list_any (λ m. bytes_eq m.ns name) host.links ≡ false → (b : Bool) → list_any (goes_with_ns name) host.links ≡ b → b ≡ false
+    none-goes off true e = sym (some-there e) ∙ off
+    none-goes off false e = refl
+
+    -- where no link is in the namespace, none goes with it
+    pub none-leaves : find (λ l. is_key bytes_eq (inner_ns l.ns) name) host.links ≡ None → without_links (goes_with_ns name) host ≡ host
+    none-leaves none =
+        let off : list_any (λ m. bytes_eq m.ns name) host.links ≡ false =
+        sym (λ i. list_any (λ (l : Link). inner-is name inner l.ns i) host.links) ∙ list_any-find_none (λ l. is_key bytes_eq (inner_ns l.ns) name) host.links none in
+        without-none (goes_with_ns name) host (none-goes off (list_any (goes_with_ns name) host.links) refl)
+
+    settings-leave : filter (λ s. not (is_key bytes_eq (inner_ns s.ns) name)) host.settings ≡ filter (λ s. not (bytes_eq s.ns name)) host.settings
+    settings-leave = (λ i. filter (λ (s : Setting). not (inner-is name inner s.ns i)) host.settings)
+
+    pub ns-leaves : has_named_ns host name ≡ true → (left : Host) → left ≡ without_links (goes_with_ns name) host → (
+      record left {
+        namespaces = filter (λ n. not (bytes_eq n.name name)) left.namespaces;
+        settings = filter (λ s. not (is_key bytes_eq (inner_ns s.ns) name)) left.settings;
       },
       Done,
-    )) ∙ ap (λ b. if b then (without_ns name (without_links (goes_with_ns name) host), Done) else (host, NoNs)) (sym named)
+    ) ≡ ns_del_of host name
+    ns-leaves named left is =
+        ap (λ (h : Host). (
+          record h {
+            namespaces = filter (λ n. not (bytes_eq n.name name)) h.namespaces;
+            settings = filter (λ s. not (is_key bytes_eq (inner_ns s.ns) name)) h.settings;
+          },
+          Done,
+        )) is
+        ∙ (λ i. (
+          record (without_links (goes_with_ns name) host) {
+            namespaces = filter (λ n. not (bytes_eq n.name name)) host.namespaces;
+            settings = settings-leave i;
+          },
+          Done,
+        )) ∙ ap (λ b. if b then (without_ns name (without_links (goes_with_ns name) host), Done) else (host, NoNs)) (sym named)

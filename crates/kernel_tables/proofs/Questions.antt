@@ -1,40 +1,50 @@
 -- What is asked of rows and answered by a look-up.
-use Rattle.std.proofs.Common.{◌≡◌, Bool, true, false, not, ap, List, [], ◌∷◌, ◌++◌, Option, Some, None, refl, sym, ◌∙◌}
-use Rattle.std.proofs.{Common.{arith, rules, ℕ}, Math.Bool.beq, lemmas.{Bool.and_parts, Slice.Eq.bytes_eq-Decides}}
-use Rattle.std.specs.{List.{list_any, filter_map}, Option.{option_eq, option_map_or, option_to_list}, Prelude.filter}
-use Rattle.std.specs.{Prelude.{map, find, is_some, ◌&&◌, ◌==◌, if◌then◌else◌}, Str.bytes_eq}
-use Rattle.cni_addr.specs.{Lists.{distinct, each_key_once}, declared.mac.Mac.Mac}
-use Rattle.kernel_types.specs.Equal.{addr_eq, addr_obj_eq, att_eq, chain_eq, cidr_eq, key_eq, lease_eq, link_eq}
-use Rattle.kernel_types.specs.Equal.{link_kind_eq, mac_eq, route_eq, rule_eq, proto_eq, setting_eq, table_eq, tag_eq}
-use Rattle.kernel_types.specs.{Equal.target_eq, Keys.is_same_link, Sound.HasDistinctKeys, Terms.{is_at, is_bridge}}
-use Rattle.kernel_types.specs.Terms.{is_bridge_with, is_host_link, is_host_ns, owner_in}
-use Rattle.kernel_types.specs.contracts.object.AddrObjPartialEq.TheImpl.{eq-value as address_eq-value}
+use Rattle.std.proofs.Common.{◌≡◌, Bool, true, false, not, ap, List, [], ◌∷◌, ◌++◌, Option, Some, None, refl, sym, ◌∙◌, arith, rules, ℕ}
+use Rattle.std.specs.Prelude.{filter, map, find, is_some, ◌&&◌, ◌==◌, if◌then◌else◌}
+use Rattle.std.specs.List.{list_any, filter_map}
+use Rattle.std.specs.Option.{option_eq, option_map_or, option_to_list}
+use Rattle.std.specs.Str.{bytes_eq}
+use Rattle.std.proofs.Math.Bool.{beq}
+use Rattle.std.proofs.lemmas.Bool.{and_parts}
+use Rattle.std.proofs.lemmas.Slice.Eq.{bytes_eq-Decides}
+use Rattle.cni_addr.specs.declared.mac.Mac.{Mac}
+use Rattle.cni_addr.specs.Lists.{distinct, each_key_once}
 use Rattle.kernel_types.specs.contracts.object.AttPartialEq.TheImpl.{eq-value as att_eq-value}
-use Rattle.kernel_types.specs.contracts.object.LeasePartialEq.TheImpl.{eq-value as lease_eq-value}
+use Rattle.kernel_types.specs.contracts.object.AddrObjPartialEq.TheImpl.{eq-value as address_eq-value}
 use Rattle.kernel_types.specs.contracts.object.RouteObjPartialEq.TheImpl.{eq-value as route_eq-value}
-use Rattle.kernel_types.specs.contracts.object.SettingPartialEq.TheImpl.{eq-value as setting_eq-value}
-use Rattle.kernel_types.specs.contracts.object.TagPartialEq.TheImpl.{eq-value as tag_eq-value}
 use Rattle.kernel_types.specs.contracts.rule.RulePartialEq.TheImpl.{eq-value as rule_eq-value}
 use Rattle.kernel_types.specs.contracts.rule.TargetPartialEq.TheImpl.{eq-value as target_eq-value}
-use Rattle.kernel_types.specs.declared.object.{AddrObj.AddrObj, Att.Att, Lease.Lease, Link.Link, RouteObj.RouteObj}
-use Rattle.kernel_types.specs.declared.object.{Setting.Setting, Tag.{Tag, TheVariants.{Outside, Base, Own}}}
-use Rattle.kernel_types.specs.declared.rule.{Rule.Rule, Target.Target}
+use Rattle.kernel_types.specs.contracts.object.TagPartialEq.TheImpl.{eq-value as tag_eq-value}
+use Rattle.kernel_types.specs.declared.rule.Rule.{Rule}
+use Rattle.kernel_types.specs.declared.rule.Target.{Target}
 use Rattle.kernel_types.specs.declared.rule.Target.TheVariants as targets
-use Rattle.kernel_tables.specs.{Places.{rows_of, row_at, passes, places_where, passing, first_of}, Rows.host_name}
-use Rattle.kernel_tables.specs.{Rows.owner_named, Table.is_key}
-use Rattle.kernel_types.proofs.{Cases.{host_ns-eq, tag_eq-own}, ListLemmas.list_any-none, TouchRemoval.one_place}
-use Rattle.kernel_tables.proofs.{Owned.{att-same, own-is}, Places.any-first}
+use Rattle.kernel_types.specs.contracts.object.SettingPartialEq.TheImpl.{eq-value as setting_eq-value}
+use Rattle.kernel_types.specs.contracts.object.LeasePartialEq.TheImpl.{eq-value as lease_eq-value}
+use Rattle.kernel_types.specs.Equal.{addr_eq, addr_obj_eq, att_eq, chain_eq, cidr_eq, key_eq, lease_eq, link_eq, link_kind_eq, mac_eq, route_eq, rule_eq, proto_eq, setting_eq, table_eq, tag_eq, target_eq}
+use Rattle.kernel_types.specs.Keys.{is_same_link}
+use Rattle.kernel_types.specs.Sound.{HasDistinctKeys}
+use Rattle.kernel_types.specs.Terms.{is_at, is_bridge, is_bridge_with, is_host_link, is_host_ns, owner_in}
+use Rattle.kernel_types.specs.declared.object.AddrObj.{AddrObj}
+use Rattle.kernel_types.specs.declared.object.Att.{Att}
+use Rattle.kernel_types.specs.declared.object.Lease.{Lease}
+use Rattle.kernel_types.specs.declared.object.Link.{Link}
+use Rattle.kernel_types.specs.declared.object.RouteObj.{RouteObj}
+use Rattle.kernel_types.specs.declared.object.Setting.{Setting}
+use Rattle.kernel_types.specs.declared.object.Tag.{Tag}
+use Rattle.kernel_types.specs.declared.object.Tag.TheVariants.{Outside, Base, Own}
+use Rattle.kernel_tables.specs.Places.{rows_of, row_at, passes, places_where, passing, first_of}
+use Rattle.kernel_tables.specs.Rows.{host_name, inner_ns, network_named, owner_named}
+use Rattle.kernel_tables.specs.Table.{is_key}
+use Rattle.kernel_types.proofs.Cases.{host_ns-eq, tag_eq-own}
+use Rattle.kernel_types.proofs.ListLemmas.{list_any-none}
+use Rattle.kernel_types.proofs.TouchRemoval.{one_place}
+use Rattle.kernel_tables.proofs.Namespaces.{inner-is}
+use Rattle.kernel_tables.proofs.Owned.{att-same, own-is}
+use Rattle.kernel_tables.proofs.Places.{any-first}
 
--- ---- rows that pass, along all places and along a trail
+-- ---- rows that pass, along a trail
 
-pub any-places : {T : Type 0} (t : T → Bool) (places : List (Option T))
-    → list_any (passes t) places ≡ list_any t (rows_of places)
-any-places t [] = refl
-any-places t (None ∷ places) = any-places t places
-any-places t (Some x ∷ places) = grind (arith, any-places t places)
-
-some-step : (g : ℕ → Bool) (c : ℕ) (cs : List ℕ) (b : Bool) → g c ≡ b → list_any g cs ≡ is_some (first_of (filter g cs))
-    → list_any g (c ∷ cs) ≡ is_some (first_of (filter g (c ∷ cs)))
+some-step : (g : ℕ → Bool) (c : ℕ) (cs : List ℕ) (b : Bool) → g c ≡ b → list_any g cs ≡ is_some (first_of (filter g cs)) → list_any g (c ∷ cs) ≡ is_some (first_of (filter g (c ∷ cs)))
 some-step g c cs true e rest = rw e refl
 some-step g c cs false e rest = rw e rest
 
@@ -42,44 +52,47 @@ some-first : (g : ℕ → Bool) (cs : List ℕ) → list_any g cs ≡ is_some (f
 some-first g [] = refl
 some-first g (c ∷ cs) = some-step g c cs (g c) refl (some-first g cs)
 
-pub any-along : {T : Type 0} (t : T → Bool) (places : List (Option T)) (trail : List ℕ)
-    → passing t places trail ≡ places_where t places
-    → list_any (λ p. passes t (row_at places p)) trail ≡ list_any t (rows_of places)
+pub any-along : {T : Type 0} (t : T → Bool) (places : List (Option T)) (trail : List ℕ) → passing t places trail ≡ places_where t places → list_any (λ p. passes t (row_at places p)) trail ≡ list_any t (rows_of places)
 any-along t places trail h =
     some-first (λ p. passes t (row_at places p)) trail ∙ any-first t places (passing t places trail) (sym h)
 
 -- ---- the owners of a network
 
-filter_map-cons : {A B : Type 0} (f : A → Option B) (x : A) (xs : List A)
-    → filter_map f (x ∷ xs) ≡ option_to_list (f x) ++ filter_map f xs
+filter_map-cons : {A B : Type 0} (f : A → Option B) (x : A) (xs : List A) → filter_map f (x ∷ xs) ≡ option_to_list (f x) ++ filter_map f xs
 filter_map-cons f x xs = by (f x) refl
   where
     by : (o : Option _) → f x ≡ o → filter_map f (x ∷ xs) ≡ option_to_list o ++ filter_map f xs
     by None e = rw e refl
     by (Some y) e = rw e refl
 
-owners-step : (network : List ℕ) (t : Tag) (named : List Att) (rest : List Att)
-    → filter (λ att. bytes_eq att.network network) named ≡ rest
-    → filter (λ att. bytes_eq att.network network) (option_to_list (owner_named t) ++ named) ≡ option_to_list (owner_in network t) ++ rest
-owners-step network Outside named rest h = h
-owners-step network Base named rest h = h
-owners-step network (Own att) named rest h = by (bytes_eq att.network network)
-  where
-    by : (b : Bool) → (if b then att ∷ filter (λ att. bytes_eq att.network network) named else filter (λ att. bytes_eq att.network network) named) ≡ option_to_list (if b then Some att else None) ++ rest
-    by true = ap (λ l. att ∷ l) h
-    by false = h
+module _ {T : Type 0} (tag_of : T → Tag) (network : List ℕ) where
+  abbrev named : T → Option Att
+  named x = owner_named (tag_of x)
 
-owners-in : {T : Type 0} (tag_of : T → Tag) (network : List ℕ) (xs : List T)
-    → filter (λ att. bytes_eq att.network network) (filter_map (λ x. owner_named (tag_of x)) xs) ≡ filter_map (owner_in network) (map (λ x. tag_of x) xs)
-owners-in tag_of network [] = refl
-owners-in tag_of network (x ∷ xs) =
-    ap (filter (λ att. bytes_eq att.network network)) (filter_map-cons (λ x. owner_named (tag_of x)) x xs)
-    ∙ owners-step network (tag_of x) (filter_map (λ x. owner_named (tag_of x)) xs) (filter_map (owner_in network) (map (λ x. tag_of x) xs)) (owners-in tag_of network xs)
-    ∙ sym (filter_map-cons (owner_in network) (tag_of x) (map (λ x. tag_of x) xs))
+  abbrev within : T → Bool
+  within x = is_key bytes_eq (network_named (tag_of x)) network
 
-pub owners-once : {T : Type 0} (tag_of : T → Tag) (network : List ℕ) (xs : List T)
-    → each_key_once att_eq-value.it (filter (λ att. bytes_eq att.network network) (filter_map (λ x. owner_named (tag_of x)) xs)) ≡ each_key_once att_eq (filter_map (owner_in network) (map (λ x. tag_of x) xs))
-owners-once tag_of network xs = (λ i. each_key_once (λ a b. att-same a b i) (owners-in tag_of network xs i))
+  owners-step : (x : T) (ys : List T) (ts : List Tag) → filter_map named ys ≡ filter_map (owner_in network) ts → (t : Tag) → tag_of x ≡ t
+      → filter_map named (if within x then x ∷ ys else ys) ≡ filter_map (owner_in network) (tag_of x ∷ ts)
+  owners-step x ys ts rest Outside e =
+      (λ i. filter_map named (if is_key bytes_eq (network_named (e i)) network then x ∷ ys else ys)) ∙ rest ∙ ap (λ t. filter_map (owner_in network) (t ∷ ts)) (sym e)
+  owners-step x ys ts rest Base e =
+      (λ i. filter_map named (if is_key bytes_eq (network_named (e i)) network then x ∷ ys else ys)) ∙ rest ∙ ap (λ t. filter_map (owner_in network) (t ∷ ts)) (sym e)
+  owners-step x ys ts rest (Own att) e =
+      (λ i. filter_map named (if is_key bytes_eq (network_named (e i)) network then x ∷ ys else ys)) ∙ own (bytes_eq att.network network)
+      ∙ sym (filter_map-cons (owner_in network) (Own att) ts) ∙ ap (λ t. filter_map (owner_in network) (t ∷ ts)) (sym e)
+    where
+      own : (b : Bool) → filter_map named (if b then x ∷ ys else ys) ≡ option_to_list (if b then Some att else None) ++ filter_map (owner_in network) ts
+      own true = filter_map-cons named x ys ∙ ap (λ t. option_to_list (owner_named t) ++ filter_map named ys) e ∙ ap (λ l. att ∷ l) rest
+      own false = rest
+
+  owners-in : (xs : List T) → filter_map named (filter within xs) ≡ filter_map (owner_in network) (map (λ x. tag_of x) xs)
+  owners-in [] = refl
+  owners-in (x ∷ xs) = owners-step x (filter within xs) (map (λ x. tag_of x) xs) (owners-in xs) (tag_of x) refl
+
+  pub owners-once : (xs : List T) → each_key_once att_eq-value.it (filter_map (λ x. owner_named (tag_of x)) (filter (λ x. is_key bytes_eq (network_named (tag_of x)) network) xs))
+      ≡ each_key_once att_eq (filter_map (owner_in network) (map (λ x. tag_of x) xs))
+  owners-once xs = (λ i. each_key_once (λ a b. att-same a b i) (owners-in xs i))
 
 -- ---- links of the host, by their name
 
@@ -93,14 +106,12 @@ named-is name l = by (is_host_ns l.ns)
 host_link-at : (name : List ℕ) (l : Link) → is_host_link name l ≡ true → is_at [] name l ≡ true
 host_link-at name l h = grind (arith, host_ns-eq l.ns, h)
 
-one-named-step : {X : Type 0} (p t u : X → Bool) (x : X) (xs : List X) (b : Bool) → p x ≡ b → t x ≡ (p x && u x)
-    → (p x ≡ true → list_any t xs ≡ false) → list_any t xs ≡ option_map_or u (find p xs) false
+one-named-step : {X : Type 0} (p t u : X → Bool) (x : X) (xs : List X) (b : Bool) → p x ≡ b → t x ≡ (p x && u x) → (p x ≡ true → list_any t xs ≡ false) → list_any t xs ≡ option_map_or u (find p xs) false
     → list_any t (x ∷ xs) ≡ option_map_or u (find p (x ∷ xs)) false
 one-named-step p t u x xs true e is none rest = rw (is, e, none e) (grind arith)
 one-named-step p t u x xs false e is none rest = rw (is, e) rest
 
-one-found : {X : Type 0} (p t u : X → Bool) (same : X → X → Bool) → ((x : X) → t x ≡ (p x && u x))
-    → ((x y : X) → p x ≡ true → p y ≡ true → same x y ≡ true) → (xs : List X) → distinct same xs ≡ true
+one-found : {X : Type 0} (p t u : X → Bool) (same : X → X → Bool) → ((x : X) → t x ≡ (p x && u x)) → ((x y : X) → p x ≡ true → p y ≡ true → same x y ≡ true) → (xs : List X) → distinct same xs ≡ true
     → list_any t xs ≡ option_map_or u (find p xs) false
 one-found p t u same is one [] d = refl
 one-found p t u same is one (x ∷ xs) d =
@@ -110,8 +121,7 @@ one-found p t u same is one (x ∷ xs) d =
     (one-found p t u same is one xs parts.1)
 
 -- in a sound host one link of the host has the name: what is asked of all is asked of it
-pub one-named : (name : List ℕ) (t u : Link → Bool) → ((l : Link) → t l ≡ (is_host_link name l && u l))
-    → (links : List Link) → HasDistinctKeys is_same_link links
+pub one-named : (name : List ℕ) (t u : Link → Bool) → ((l : Link) → t l ≡ (is_host_link name l && u l)) → (links : List Link) → HasDistinctKeys is_same_link links
     → list_any t links ≡ option_map_or u (find (λ l. is_key bytes_eq (host_name l) name) links) false
 one-named name t u is links d =
     one-found (is_host_link name) t u (λ a b. is_same_link b a) is (λ x y h g. one_place [] name x y (host_link-at name x h) (host_link-at name y g)) links d
@@ -126,16 +136,14 @@ equal-place : (l link : Link) → link_eq l link ≡ true → is_at link.ns link
 equal-place l link h = grind (arith, h)
 
 -- a link that is equal to one of the host is one of its name
-pub equal-named : (link : Link) → is_host_ns link.ns ≡ true → (l : Link)
-    → link_eq l link ≡ (is_host_link link.name l && link_eq l link)
+pub equal-named : (link : Link) → is_host_ns link.ns ≡ true → (l : Link) → link_eq l link ≡ (is_host_link link.name l && link_eq l link)
 equal-named link host l =
     absorbs (is_host_link link.name l) (link_eq l link)
     (λ h. let at = and_parts (bytes_eq l.ns link.ns) (bytes_eq l.name link.name) (equal-place l link h) in
     let ns : is_host_ns l.ns ≡ true = ap is_host_ns ((bytes_eq-Decides l.ns link.ns).0 at.0) ∙ host in
     grind (arith, ns, at.1))
 
-last_test : (a b c d e f g h i j k l : Bool)
-    → (a && (b && (c && (d && (e && (f && (g && (h && (i && (j && (k && l))))))))))) ≡ true → l ≡ true
+last_test : (a b c d e f g h i j k l : Bool) → (a && (b && (c && (d && (e && (f && (g && (h && (i && (j && (k && l))))))))))) ≡ true → l ≡ true
 last_test a b c d e f g h i j k l all = grind (arith, all)
 
 equal-tag : (l link : Link) → link_eq l link ≡ true → tag_eq l.tag link.tag ≡ true
@@ -144,14 +152,18 @@ equal-tag l link h =
     (l.mtu == link.mtu) (beq l.hairpin link.hairpin) (beq l.promisc link.promisc) (beq l.allmulti link.allmulti) (l.tx_qlen == link.tx_qlen) (tag_eq l.tag link.tag) h
 
 -- a link that is equal to the attachment's is its own too
-pub equal-owned : (att : Att) (link : Link) → link.tag ≡ Own att → (l : Link)
-    → link_eq l link ≡ (is_key att_eq-value.it (owner_named l.tag) att && link_eq l link)
+pub equal-owned : (att : Att) (link : Link) → link.tag ≡ Own att → (l : Link) → link_eq l link ≡ (is_key att_eq-value.it (owner_named l.tag) att && link_eq l link)
 equal-owned att link tag l =
     absorbs (is_key att_eq-value.it (owner_named l.tag) att) (link_eq l link)
     (λ h. own-is att_eq-value.it att-same att l.tag ∙ sym (tag_eq-own att l.tag) ∙ ap (tag_eq l.tag) (sym tag) ∙ equal-tag l link h)
 
-pub bridge-named : (name : List ℕ) (mac : Mac) (l : Link)
-    → is_bridge_with name mac l ≡ (is_host_link name l && (is_bridge l.kind && mac_eq l.mac mac))
+-- a link that is equal to one elsewhere is in its namespace
+pub equal-sited : (link : Link) → is_host_ns link.ns ≡ false → (l : Link) → link_eq l link ≡ (is_key bytes_eq (inner_ns l.ns) link.ns && link_eq l link)
+equal-sited link inner l =
+    absorbs (is_key bytes_eq (inner_ns l.ns) link.ns) (link_eq l link)
+    (λ h. inner-is link.ns inner l.ns ∙ (and_parts (bytes_eq l.ns link.ns) (bytes_eq l.name link.name) (equal-place l link h)).0)
+
+pub bridge-named : (name : List ℕ) (mac : Mac) (l : Link) → is_bridge_with name mac l ≡ (is_host_link name l && (is_bridge l.kind && mac_eq l.mac mac))
 bridge-named name mac l = grind arith
 
 -- ---- what `==` computes of whole objects

@@ -39,6 +39,10 @@ abbrev pub at_first : {T : Type 0} → List (Option T) → List ℕ → Option T
 at_first places [] = None
 at_first places (p ∷ ps) = row_at places p
 
+-- the rows at these places
+abbrev pub rows_at : {T : Type 0} → List (Option T) → List ℕ → List T
+rows_at places ps = filter_map (row_at places) ps
+
 -- those of the candidates whose row passes
 abbrev pub passing : {T : Type 0} → (T → Bool) → List (Option T) → List ℕ → List ℕ
 passing test places candidates = filter (λ p. passes test (row_at places p)) candidates

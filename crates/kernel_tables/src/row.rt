@@ -1,12 +1,13 @@
 //! What a table asks of its rows.
 
-use cni_addr::NoMemory;
+use cni_addr::{NoMemory, Text};
 
-/// An object of a table. It may have a key, an alias as a second key, and an owner. No two objects of a table have the
-/// same key or alias; an owner may have many.
-pub(crate) trait Row<K: Eq, L: Eq, O: Eq> {
-    ghost use Rattle.std.specs.Prelude.{Option, ◌≡◌, Bool, IfOk};
+/// An object of a table. It may have a key, an alias as a second key, an owner, a network and a site. No two objects of
+/// a table have the same key or alias; an owner, a network and a site may have many.
+pub(crate) trait Row<K: Eq, L: Eq, O: Eq, P: Eq> {
+    ghost use Rattle.std.specs.Prelude.{ℕ, List, Option, ◌≡◌, Bool, IfOk};
     ghost use Rattle.std.specs.Option.{option_copied};
+    ghost use Rattle.std.specs.Str.{bytes_eq};
     ghost use Rattle.kernel_tables.specs.Table.{has_key};
 
     ghost key_of: { Self → Option K };
@@ -14,6 +15,10 @@ pub(crate) trait Row<K: Eq, L: Eq, O: Eq> {
     ghost alias_of: { Self → Option L };
 
     ghost owner_of: { Self → Option O };
+
+    ghost network_of: { Self → Option (List ℕ) };
+
+    ghost site_of: { Self → Option P };
 
     /// A copy of the key.
     fn key(&self) -> Result<Option<K>, NoMemory>
@@ -23,9 +28,15 @@ pub(crate) trait Row<K: Eq, L: Eq, O: Eq> {
     fn alias(&self) -> Result<Option<L>, NoMemory>
         ensures { IfOk result (λ alias. alias ≡ alias_of self.now) };
 
-    /// A copy of the owner.
-    fn owner(&self) -> Result<Option<O>, NoMemory>
-        ensures { IfOk result (λ owner. owner ≡ owner_of self.now) };
+    fn owner(&self) -> Option<&O>
+        ensures { option_copied result ≡ owner_of self.now };
+
+    fn network(&self) -> Option<&Text>
+        ensures { option_copied result ≡ network_of self.now };
+
+    /// A copy of the site.
+    fn site(&self) -> Result<Option<P>, NoMemory>
+        ensures { IfOk result (λ site. site ≡ site_of self.now) };
 
     fn has_key(&self, key: &K) -> bool
         ensures { result ≡ has_key K.eq key_of key.now self.now };
@@ -34,7 +45,25 @@ pub(crate) trait Row<K: Eq, L: Eq, O: Eq> {
         ensures { result ≡ has_key L.eq alias_of alias.now self.now };
 
     fn is_owned_by(&self, owner: &O) -> bool
-        ensures { result ≡ has_key O.eq owner_of owner.now self.now };
+        ensures { result ≡ has_key O.eq owner_of owner.now self.now }
+    {
+        match self.owner() {
+            Some(own) => own == owner,
+            None => false,
+        }
+    }
+
+    fn is_in_network(&self, network: &Text) -> bool
+        ensures { result ≡ has_key bytes_eq network_of network.now self.now }
+    {
+        match self.network() {
+            Some(own) => own == network,
+            None => false,
+        }
+    }
+
+    fn is_at(&self, site: &P) -> bool
+        ensures { result ≡ has_key P.eq site_of site.now self.now };
 }
 
 /// A test of rows.

@@ -1,40 +1,53 @@
-//! A table of objects in the order in which they came, that finds each by its key, by its alias and by its owner.
+//! A table of objects in the order in which they came, that finds each by its key and by its alias, and leads to those
+//! of an owner, of a network and at a site.
 
-ghost use Rattle.std.specs.Prelude.{◌≡◌, ◌&&◌, set, ◌++◌, ◌∷◌, [], List, false, find, filter, fold, map, not, if◌then◌else◌, IfOk, OnOk, OnErr, Some};
+ghost use Rattle.std.specs.Prelude.{◌≡◌, ◌&&◌, ◌++◌, ◌∷◌, [], false, find, filter, map, not, if◌then◌else◌, Some};
+ghost use Rattle.std.specs.Prelude.{IfOk, OnOk, OnErr};
 ghost use Rattle.std.specs.List.{list_any, filter_map};
 ghost use Rattle.std.specs.Option.{option_copied, option_map, option_to_list};
-ghost use Rattle.cni_addr.specs.Lists.{each_key_once, push_unless_there, without_first};
+ghost use Rattle.std.specs.Str.{bytes_eq};
+ghost use Rattle.cni_addr.specs.Lists.{each_key_once, without_first};
 ghost use Rattle.kernel_tables.specs.Table.{has_key, HasEachKeyOnce};
-ghost use Rattle.kernel_tables.specs.Places.{at_first, emptied, emptied_at, passes, row_at};
+ghost use Rattle.kernel_tables.specs.Places.{at_first, passes, row_at};
 
-use crate::indexes::{first_place, note_owner, note_place};
+use crate::groups::{AtSite, OfNetwork, OfOwner, Within};
+use crate::indexes::{first_place, note_group, note_place, tidy};
 use crate::keyed::{KeyedMap, KeyedState};
 use crate::row::{Change, Row, Test};
-use cni_addr::{Duplicate, Items, NoMemory, copies};
-use indexmap::IndexSet;
+use crate::walks::{any_along, copied, empty_along, owners_in, row_at};
+use cni_addr::{Duplicate, Items, NoMemory, Text};
 use std::alloc::Global;
 use std::collections::VecDeque;
 use std::hash::Hash;
-use std::marker::Model;
+use std::marker::{Model, PhantomData};
 
 /// Rows at places, which they keep, with indexes of their places. A row that goes leaves its place empty, and the
-/// indexes as they are: what they say of an empty place is ignored.
+/// indexes as they are: what they say of an empty place is ignored, and a trail forgets it where it is next walked.
 #[derive(Drop)]
 pub(crate) struct Table<
     K: Eq + Hash + Drop,
     L: Eq + Hash + Drop,
     O: Eq + Hash + Drop,
-    T: Row<K, L, O> + Drop,
+    P: Eq + Hash + Drop,
+    T: Row<K, L, O, P> + Drop,
 > {
     places: Vec<Option<T>>,
     by_key: KeyedMap<K, usize>,
     by_alias: KeyedMap<L, usize>,
     trails: KeyedMap<O, VecDeque<usize>>,
+    networks: KeyedMap<Text, VecDeque<usize>>,
+    sites: KeyedMap<P, VecDeque<usize>>,
 }
 
-impl<K: Eq + Hash + Drop, L: Eq + Hash + Drop, O: Eq + Hash + Drop, T: Row<K, L, O> + Drop> Model
-    for Table<K, L, O, T> {
+impl<
+    K: Eq + Hash + Drop,
+    L: Eq + Hash + Drop,
+    O: Eq + Hash + Drop,
+    P: Eq + Hash + Drop,
+    T: Row<K, L, O, P> + Drop,
+> Model for Table<K, L, O, P, T> {
     ghost use Rattle.std.specs.Prelude.{List};
+    ghost use Rattle.std.specs.Str.{bytes_eq};
     ghost use Rattle.kernel_tables.specs.Places.{rows_of};
     ghost use Rattle.kernel_tables.specs.Table.{IsIndex, AreTrails};
 
@@ -44,17 +57,9 @@ impl<K: Eq + Hash + Drop, L: Eq + Hash + Drop, O: Eq + Hash + Drop, T: Row<K, L,
 
     ghost invariant = { λ t. IsIndex K.eq T.key_of t.places.items t.by_key
         × IsIndex L.eq T.alias_of t.places.items t.by_alias
-        × AreTrails O.eq T.owner_of t.places.items t.trails };
-}
-
-/// The row at a place, if there is one.
-fn row_at<T>(places: &[Option<T>], place: usize) -> Option<&T>
-    ensures { option_copied result ≡ row_at places.now place }
-{
-    match places.get(place) {
-        Some(Some(row)) => Some(row),
-        _ => None,
-    }
+        × AreTrails O.eq T.owner_of t.places.items t.trails
+        × AreTrails bytes_eq T.network_of t.places.items t.networks
+        × AreTrails P.eq T.site_of t.places.items t.sites };
 }
 
 /// The row at the place that is noted, if there is one.
@@ -67,14 +72,15 @@ fn row_noted<T>(places: &[Option<T>], place: Option<usize>) -> Option<&T>
     }
 }
 
-impl<K: Eq + Hash + Drop, L: Eq + Hash + Drop, O: Eq + Hash + Drop, T: Row<K, L, O> + Drop> Table<
-    K,
-    L,
-    O,
-    T,
-> {
+impl<
+    K: Eq + Hash + Drop,
+    L: Eq + Hash + Drop,
+    O: Eq + Hash + Duplicate + Drop,
+    P: Eq + Hash + Drop,
+    T: Row<K, L, O, P> + Drop,
+> Table<K, L, O, P, T> {
     /// A table without rows. Takes no memory.
-    pub(crate) fn new(alloc: Global, state: KeyedState) -> Table<K, L, O, T>
+    pub(crate) fn new(alloc: Global, state: KeyedState) -> Table<K, L, O, P, T>
         ensures { result ≡ [] }
     {
         Table {
@@ -82,6 +88,8 @@ impl<K: Eq + Hash + Drop, L: Eq + Hash + Drop, O: Eq + Hash + Drop, T: Row<K, L,
             by_key: KeyedMap::with_hasher(alloc, state),
             by_alias: KeyedMap::with_hasher(alloc, state),
             trails: KeyedMap::with_hasher(alloc, state),
+            networks: KeyedMap::with_hasher(alloc, state),
+            sites: KeyedMap::with_hasher(alloc, state),
         }
     }
 
@@ -90,7 +98,7 @@ impl<K: Eq + Hash + Drop, L: Eq + Hash + Drop, O: Eq + Hash + Drop, T: Row<K, L,
         alloc: Global,
         state: KeyedState,
         rows: Items<T>,
-    ) -> Result<Table<K, L, O, T>, NoMemory>
+    ) -> Result<Table<K, L, O, P, T>, NoMemory>
         requires keys { HasEachKeyOnce K.eq T.key_of rows }
         requires aliases { HasEachKeyOnce L.eq T.alias_of rows }
         ensures { IfOk result (λ table. table ≡ rows) }
@@ -132,22 +140,30 @@ impl<K: Eq + Hash + Drop, L: Eq + Hash + Drop, O: Eq + Hash + Drop, T: Row<K, L,
     {
         let key = row.key()?;
         let alias = row.alias()?;
-        let owner = row.owner()?;
+        let owner = copied(row.owner())?;
+        let network = copied(row.network())?;
+        let site = row.site()?;
         let place = self.places.len();
         self.places.push(None)?;
         note_place(&mut self.by_key, key, place)?;
         note_place(&mut self.by_alias, alias, place)?;
-        note_owner(alloc, &mut self.trails, owner, place)?;
+        note_group(alloc, &mut self.trails, owner, place)?;
+        note_group(alloc, &mut self.networks, network, place)?;
+        note_group(alloc, &mut self.sites, site, place)?;
         self.places[place] = Some(row);
         Ok(())
     }
 
-    /// Whether a row is this owner's. What the owner's earlier rows have left is ignored, and forgotten.
+    /// Whether a row is this owner's.
     pub(crate) fn has_owned(&mut self, owner: &O) -> bool
         ensures found { result ≡ list_any (has_key O.eq T.owner_of owner.now) self.old }
         ensures same { self.new ≡ self.old }
     {
-        first_place(&self.places, &mut self.trails, owner).is_some()
+        let group = OfOwner {
+            owner,
+            row: PhantomData,
+        };
+        first_place(&self.places, &mut self.trails, owner, &group).is_some()
     }
 
     /// Takes the first row of this owner out.
@@ -155,9 +171,37 @@ impl<K: Eq + Hash + Drop, L: Eq + Hash + Drop, O: Eq + Hash + Drop, T: Row<K, L,
         ensures first { result ≡ find (has_key O.eq T.owner_of owner.now) self.old }
         ensures rest { self.new ≡ without_first (has_key O.eq T.owner_of owner.now) self.old }
     {
-        match first_place(&self.places, &mut self.trails, owner) {
+        let group = OfOwner {
+            owner,
+            row: PhantomData,
+        };
+        match first_place(&self.places, &mut self.trails, owner, &group) {
             Some(place) => self.places[place].take(),
             None => None,
+        }
+    }
+
+    /// Takes the first row at this site out.
+    pub(crate) fn take_first_at(&mut self, site: &P) -> Option<T>
+        ensures first { result ≡ find (has_key P.eq T.site_of site.now) self.old }
+        ensures rest { self.new ≡ without_first (has_key P.eq T.site_of site.now) self.old }
+    {
+        let group = AtSite {
+            site,
+            row: PhantomData,
+        };
+        match first_place(&self.places, &mut self.sites, site, &group) {
+            Some(place) => self.places[place].take(),
+            None => None,
+        }
+    }
+
+    /// Takes each row at this site out.
+    pub(crate) fn remove_at(&mut self, site: &P)
+        ensures { self.new ≡ filter (λ row. not (has_key P.eq T.site_of site.now row)) self.old }
+    {
+        while let Some(row) = self.take_first_at(site) {
+            drop(row);
         }
     }
 
@@ -172,11 +216,13 @@ impl<K: Eq + Hash + Drop, L: Eq + Hash + Drop, O: Eq + Hash + Drop, T: Row<K, L,
         }
     }
 
-    /// Changes the row of this key in place. The change leaves keys, aliases and owners as they are.
+    /// Changes the row of this key in place. The change leaves all that rows are found by as it is.
     pub(crate) fn update<C: Change<T>>(&mut self, key: &K, change: &C)
         requires key { (row : T) → T.key_of (C.changed change.now row) ≡ T.key_of row }
         requires alias { (row : T) → T.alias_of (C.changed change.now row) ≡ T.alias_of row }
         requires owner { (row : T) → T.owner_of (C.changed change.now row) ≡ T.owner_of row }
+        requires network { (row : T) → T.network_of (C.changed change.now row) ≡ T.network_of row }
+        requires site { (row : T) → T.site_of (C.changed change.now row) ≡ T.site_of row }
         ensures { self.new
             ≡ map (λ row. if has_key K.eq T.key_of key.now row then C.changed change.now row else row) self.old }
     {
@@ -198,58 +244,78 @@ impl<K: Eq + Hash + Drop, L: Eq + Hash + Drop, O: Eq + Hash + Drop, T: Row<K, L,
         Ok(rows)
     }
 
-    /// The owners that pass a test, each once, in the order of their first rows. It takes a step and a look-up for each
-    /// row that ever was.
-    pub(crate) fn owners<P: Test<O>>(&self, alloc: Global, which: &P) -> Result<Items<O>, NoMemory>
-    where
-        O: Duplicate,
-        ensures { IfOk result (λ owners. owners
-            ≡ each_key_once O.eq (filter (P.passes which.now) (filter_map T.owner_of self.now))) }
+    /// The owners of the rows of this network, each once, in the order of their first rows. It takes a step for each of
+    /// these rows, and for each that went since it was last asked.
+    pub(crate) fn owners(&mut self, alloc: Global, network: &Text) -> Result<Items<O>, NoMemory>
+        ensures ok { IfOk result (λ owners. owners ≡ each_key_once O.eq
+            (filter_map T.owner_of (filter (has_key bytes_eq T.network_of network.now) self.old))) }
+        ensures same { self.new ≡ self.old }
     {
-        let mut owners = IndexSet::with_hasher(alloc, *self.trails.hasher());
-        for place in self.places.iter() {
-            add_owner(&mut owners, place, which)?;
-        }
-        copies(alloc, owners.as_slice())
-    }
-
-    /// Whether a row passes a test. Linear in the rows that ever were.
-    pub(crate) fn any<P: Test<T>>(&self, test: &P) -> bool
-        ensures { result ≡ list_any (P.passes test.now) self.now }
-    {
-        any_of(&self.places, test)
+        let group = OfNetwork {
+            network,
+            row: PhantomData,
+        };
+        tidy(&self.places, &mut self.networks, network, &group);
+        owners_in(alloc, &self.places, &self.networks, network)
     }
 
     /// Whether a row of this owner passes a test. Linear in the rows of the owner.
-    pub(crate) fn any_owned<P: Test<T>>(&self, owner: &O, test: &P) -> bool
-        ensures { result ≡ list_any (λ row. has_key O.eq T.owner_of owner.now row && P.passes test.now row) self.now }
+    pub(crate) fn any_owned<Q: Test<T> + Drop>(&self, owner: &O, test: &Q) -> bool
+        ensures { result ≡ list_any (λ row. has_key O.eq T.owner_of owner.now row && Q.passes test.now row) self.now }
     {
+        let group = OfOwner {
+            owner,
+            row: PhantomData,
+        };
+        let within = Within {
+            group: &group,
+            test,
+        };
         match self.trails.get(owner) {
-            Some(trail) => any_along(&self.places, trail, owner, test),
+            Some(trail) => any_along(&self.places, trail, &within),
+            None => false,
+        }
+    }
+
+    /// Whether a row at this site passes a test. Linear in the rows that ever were at the site.
+    pub(crate) fn any_at<Q: Test<T> + Drop>(&self, site: &P, test: &Q) -> bool
+        ensures { result ≡ list_any (λ row. has_key P.eq T.site_of site.now row && Q.passes test.now row) self.now }
+    {
+        let group = AtSite {
+            site,
+            row: PhantomData,
+        };
+        let within = Within {
+            group: &group,
+            test,
+        };
+        match self.sites.get(site) {
+            Some(trail) => any_along(&self.places, trail, &within),
             None => false,
         }
     }
 
     /// Takes out each row of this owner that passes a test. Linear in the rows of the owner.
-    pub(crate) fn remove_owned<P: Test<T>>(&mut self, owner: &O, gone: &P)
+    pub(crate) fn remove_owned<Q: Test<T> + Drop>(&mut self, owner: &O, gone: &Q)
         ensures { self.new
-            ≡ filter (λ row. not (has_key O.eq T.owner_of owner.now row && P.passes gone.now row)) self.old }
+            ≡ filter (λ row. not (has_key O.eq T.owner_of owner.now row && Q.passes gone.now row)) self.old }
     {
+        let group = OfOwner {
+            owner,
+            row: PhantomData,
+        };
+        let within = Within {
+            group: &group,
+            test: gone,
+        };
         if let Some(trail) = self.trails.get(owner) {
-            empty_along(&mut self.places, trail, owner, gone);
+            empty_along(&mut self.places, trail, &within);
         }
-    }
-
-    /// Takes out each row that passes a test. Linear in the rows that ever were.
-    pub(crate) fn remove_all<P: Test<T>>(&mut self, gone: &P)
-        ensures { self.new ≡ filter (λ row. not (P.passes gone.now row)) self.old }
-    {
-        empty_all(&mut self.places, gone);
     }
 }
 
 /// Whether the row at the place is there, and has this key.
-fn is_keyed_at<K: Eq, L: Eq, O: Eq, T: Row<K, L, O>>(
+fn is_keyed_at<K: Eq, L: Eq, O: Eq, P: Eq, T: Row<K, L, O, P>>(
     places: &[Option<T>],
     place: usize,
     key: &K,
@@ -262,28 +328,8 @@ fn is_keyed_at<K: Eq, L: Eq, O: Eq, T: Row<K, L, O>>(
     }
 }
 
-/// Empties a place whose row passes the test.
-fn empty_if<T: Drop, P: Test<T>>(place: &mut Option<T>, gone: &P)
-    ensures { place.new ≡ emptied (P.passes gone.now) place.old }
-{
-    if let Some(row) = place {
-        if gone.passes(row) {
-            *place = None;
-        }
-    }
-}
-
-/// Empties each place whose row passes the test.
-fn empty_all<T: Drop, P: Test<T>>(places: &mut Vec<Option<T>>, gone: &P)
-    ensures { places.new.items ≡ map (emptied (P.passes gone.now)) places.old.items }
-{
-    for place in places.iter_mut() {
-        empty_if(place, gone);
-    }
-}
-
 /// Changes the row at a place, if it has this key.
-fn change_if<K: Eq, L: Eq, O: Eq, T: Row<K, L, O>, C: Change<T>>(
+fn change_if<K: Eq, L: Eq, O: Eq, P: Eq, T: Row<K, L, O, P>, C: Change<T>>(
     place: &mut Option<T>,
     key: &K,
     change: &C,
@@ -304,108 +350,6 @@ fn push_copy<T: Duplicate + Drop>(rows: &mut Items<T>, place: &Option<T>) -> Res
 {
     if let Some(row) = place {
         rows.push(row.copy()?)?;
-    }
-    Ok(())
-}
-
-/// Empties each place of the trail whose row is the owner's and passes the test.
-fn empty_along<K: Eq, L: Eq, O: Eq, T: Row<K, L, O> + Drop, P: Test<T>>(
-    places: &mut Vec<Option<T>>,
-    trail: &VecDeque<usize>,
-    owner: &O,
-    gone: &P,
-)
-    ensures { places.new.items
-        ≡ emptied_at (λ row. has_key O.eq T.owner_of owner.now row && P.passes gone.now row)
-        places.old.items trail.now.items }
-{
-    for index in 0..trail.len() {
-        empty_at(places, trail[index], owner, gone);
-    }
-}
-
-/// Empties the place if its row is the owner's and passes the test.
-fn empty_at<K: Eq, L: Eq, O: Eq, T: Row<K, L, O> + Drop, P: Test<T>>(
-    places: &mut Vec<Option<T>>,
-    place: usize,
-    owner: &O,
-    gone: &P,
-)
-    ensures { places.new.items ≡ set places.old.items place
-        (emptied (λ row. has_key O.eq T.owner_of owner.now row && P.passes gone.now row)
-        (row_at places.old.items place)) }
-{
-    if is_owned_and_passes(places, place, owner, gone) {
-        places[place] = None;
-    }
-}
-
-/// Whether the row at the place is there, is the owner's, and passes the test.
-fn is_owned_and_passes<K: Eq, L: Eq, O: Eq, T: Row<K, L, O>, P: Test<T>>(
-    places: &[Option<T>],
-    place: usize,
-    owner: &O,
-    test: &P,
-) -> bool
-    ensures { result
-        ≡ passes (λ row. has_key O.eq T.owner_of owner.now row && P.passes test.now row) (row_at places.now place) }
-{
-    match places.get(place) {
-        Some(Some(row)) => row.is_owned_by(owner) && test.passes(row),
-        _ => false,
-    }
-}
-
-/// Whether a row at one of the places passes the test.
-fn any_of<T, P: Test<T>>(places: &[Option<T>], test: &P) -> bool
-    ensures { result ≡ list_any (λ row. passes (P.passes test.now) row) places.now }
-{
-    places.iter().any(|place| is_passing(place, test))
-}
-
-/// Whether a row is there, and passes the test.
-fn is_passing<T, P: Test<T>>(place: &Option<T>, test: &P) -> bool
-    ensures { result ≡ passes (P.passes test.now) place.now }
-{
-    match place {
-        Some(row) => test.passes(row),
-        None => false,
-    }
-}
-
-/// Whether a row at a place of the trail is the owner's and passes the test.
-fn any_along<K: Eq, L: Eq, O: Eq, T: Row<K, L, O>, P: Test<T>>(
-    places: &[Option<T>],
-    trail: &VecDeque<usize>,
-    owner: &O,
-    test: &P,
-) -> bool
-    ensures { result ≡ list_any
-        (λ p. passes (λ row. has_key O.eq T.owner_of owner.now row && P.passes test.now row) (row_at places.now p))
-        trail.now.items }
-{
-    trail
-        .iter()
-        .any(|place| is_owned_and_passes(places, *place, owner, test))
-}
-
-/// Adds the owner of the row at a place, if it passes the test and isn't there.
-fn add_owner<K: Eq, L: Eq, O: Eq + Hash + Drop, T: Row<K, L, O>, P: Test<O>>(
-    owners: &mut IndexSet<O, KeyedState>,
-    place: &Option<T>,
-    which: &P,
-) -> Result<(), NoMemory>
-    ensures { OnOk result (owners.new.keys ≡ fold (push_unless_there O.eq) owners.old.keys
-        (filter (P.passes which.now) (filter_map T.owner_of (option_to_list place.now)))) }
-{
-    let Some(row) = place else {
-        return Ok(());
-    };
-    match row.owner()? {
-        Some(owner) if which.passes(&owner) => {
-            owners.insert(owner)?;
-        }
-        _ => {}
     }
     Ok(())
 }

@@ -69,11 +69,12 @@ impl Tables {
 /// A kernel that keeps its host in tables, which find each object by its key and the objects of an attachment by their
 /// owner.
 ///
-/// A call takes as many look-ups as it names objects, and as many steps as the attachment that it is about has objects,
-/// but for these, which scan the objects that ever were of a kind: `OwnersOf`; `HasObj` of a link that nobody owns and
-/// that isn't in the host's own namespace; `NsChange` that takes a namespace away; and `Outside`, unless it drops an
-/// attachment's link. `LeaseNext` and `PoolFree` take two steps for each range of the set, however many addresses are
-/// leased.
+/// A call takes as many look-ups as it names objects, and as many steps as the attachment that it is about has objects.
+/// Four go further, and never beyond their own: `OwnersOf` takes a step for each object of its kind and network;
+/// `NsChange` that takes a namespace away, for each link and setting in it, and what is on the links; `Outside`, for
+/// each rule of its table, or what is on its link; and `HasObj` of a link that nobody owns and that isn't in the host's
+/// own namespace, for each link that ever was in the link's. Objects that went cost the first three one more step, once.
+/// `LeaseNext` and `PoolFree` take two steps for each range of the set, however many addresses are leased.
 #[derive(Drop)]
 pub struct TableKernel {
     tables: Tables,

@@ -30,15 +30,15 @@ use std::marker::Model;
 /// The tables of a host, and beside the leases the addresses that are leased, network by network.
 #[derive(Drop)]
 pub(crate) struct Tables {
-    namespaces: Table<Text, Text, Att, NsObj>,
-    links: Table<LinkKey, Text, Att, Link>,
-    addresses: Table<AddrKey, AddrObj, Att, AddrObj>,
-    routes: Table<RouteKey, RouteObj, Att, RouteObj>,
-    rules: Table<RefCounted<Rule>, Text, Att, RefCounted<Rule>>,
-    settings: Table<SettingKey, Setting, Att, Setting>,
-    leases: Table<Lease, Text, Att, Lease>,
-    cached: Table<Att, Text, Att, CachedObj>,
-    lasts: Table<PoolKey, Text, Att, Last>,
+    namespaces: Table<Text, Text, Att, Text, NsObj>,
+    links: Table<LinkKey, Text, Att, Text, Link>,
+    addresses: Table<AddrKey, AddrObj, Att, LinkKey, AddrObj>,
+    routes: Table<RouteKey, RouteObj, Att, LinkKey, RouteObj>,
+    rules: Table<RefCounted<Rule>, Text, Att, kernel_types::Table, RefCounted<Rule>>,
+    settings: Table<SettingKey, Setting, Att, Text, Setting>,
+    leases: Table<Lease, Text, Att, Text, Lease>,
+    cached: Table<Att, Text, Att, Text, CachedObj>,
+    lasts: Table<PoolKey, Text, Att, Text, Last>,
     leased: KeyedMap<Text, AddrRuns>,
 }
 

@@ -4,7 +4,7 @@ ghost use Rattle.std.specs.Prelude.{◌≡◌, ◌&&◌, not, filter};
 ghost use Rattle.kernel_types.specs.Sound.{IsSound};
 ghost use Rattle.kernel_types.specs.Terms.{has_ns_in, is_own};
 ghost use Rattle.kernel_types.specs.Apply.Calls.{drop_link_of, link_del_of};
-ghost use Rattle.kernel_tables.specs.Leaving.{has_end_at, is_peer};
+ghost use Rattle.kernel_tables.specs.Leaving.{has_end_at, is_peer, is_unowned_on, left_with};
 
 use super::Tables;
 use crate::row::Test;
@@ -71,24 +71,32 @@ impl Tables {
         }
     }
 
-    /// Drops the peer of a link, and what is on either. Linear in the addresses and routes that ever were.
-    fn drop_with(&mut self, link: &Link)
+    /// Drops what is on a link that no attachment owns, and has no peer.
+    fn drop_on_unowned(&mut self, link: Link)
         ensures { self.new ≡ record self.old {
-          links = filter (λ l. not (is_peer link.now.peer l)) self.old.links;
-          addresses = filter (λ a. not (has_end_at link.now a.ns a.link)) self.old.addresses;
-          routes = filter (λ r. not (has_end_at link.now r.ns r.link)) self.old.routes;
+          addresses = filter (λ a. not (is_unowned_on link a.tag a.ns a.link)) self.old.addresses;
+          routes = filter (λ r. not (is_unowned_on link r.tag r.ns r.link)) self.old.routes;
         } }
     {
-        let ends = OnEnds { link };
-        self.addresses.remove_all(&ends);
-        self.routes.remove_all(&ends);
-        if let Some(peer) = &link.peer {
-            self.links.take(peer);
+        let key = LinkKey {
+            ns: link.ns,
+            name: link.name,
+        };
+        self.addresses.remove_at(&key);
+        self.routes.remove_at(&key);
+    }
+
+    /// Drops what goes with a link that was taken out. In a sound host what is on an attachment's link, or on its peer,
+    /// is the attachment's, and no other link has a peer.
+    pub(super) fn drop_with(&mut self, link: Link)
+        ensures { self.new ≡ left_with link self.old }
+    {
+        match &link.tag {
+            Tag::Own(att) => self.drop_with_own(att, &link),
+            Tag::Outside | Tag::Base => self.drop_on_unowned(link),
         }
     }
 
-    /// What is on an attachment's link, or on its peer, is the attachment's. A link that none owns takes a scan of the
-    /// addresses and routes that ever were.
     pub(super) fn drop_link(&mut self, key: &LinkKey) -> Reply
         requires { IsSound self.old }
         ensures { (self.new, result) ≡ drop_link_of self.old key.now }
@@ -99,11 +107,7 @@ impl Tables {
         let Some(link) = self.links.take(key) else {
             return Reply::Gone(false);
         };
-        if let Tag::Own(att) = &link.tag {
-            self.drop_with_own(att, &link);
-            return Reply::Gone(true);
-        }
-        self.drop_with(&link);
+        self.drop_with(link);
         Reply::Gone(true)
     }
 }

@@ -7,32 +7,13 @@ ghost use Rattle.kernel_types.specs.Sound.{IsSound};
 ghost use Rattle.kernel_types.specs.declared.call.Call.TheVariants.{Outside};
 
 use super::Tables;
-use crate::row::Test;
-use cni_addr::RefCounted;
-use kernel_types::{Change, Reply, Rule, Table};
-
-/// The rules of a table.
-#[derive(Clone, Copy)]
-struct InTable {
-    table: Table,
-}
-
-impl Test<RefCounted<Rule>> for InTable {
-    ghost use Rattle.kernel_types.specs.Equal.{table_eq};
-
-    ghost passes = { λ within rule. table_eq rule.table within.table };
-
-    fn passes(&self, rule: &RefCounted<Rule>) -> bool {
-        rule.get().table == self.table
-    }
-}
+use kernel_types::{Change, Reply, Table};
 
 impl Tables {
-    /// Linear in the rules that ever were.
     fn flush(&mut self, table: Table) -> Reply
         ensures { (self.new, result) ≡ flush_of self.old table }
     {
-        self.rules.remove_all(&InTable { table });
+        self.rules.remove_at(&table);
         Reply::Done
     }
 

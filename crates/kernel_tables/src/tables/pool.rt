@@ -66,8 +66,8 @@ impl Change<Last> for MoveLast {
 /// Adds a lease of a pool that has a last, which moves.
 fn lease_again(
     alloc: Global,
-    leases: &mut Table<Lease, Text, Att, Lease>,
-    lasts: &mut Table<PoolKey, Text, Att, Last>,
+    leases: &mut Table<Lease, Text, Att, Text, Lease>,
+    lasts: &mut Table<PoolKey, Text, Att, Text, Last>,
     pool: &PoolKey,
     lease: Lease,
 ) -> Result<(), NoMemory>
@@ -86,8 +86,8 @@ fn lease_again(
 /// Adds the first lease of a pool, which becomes its last.
 fn lease_first(
     alloc: Global,
-    leases: &mut Table<Lease, Text, Att, Lease>,
-    lasts: &mut Table<PoolKey, Text, Att, Last>,
+    leases: &mut Table<Lease, Text, Att, Text, Lease>,
+    lasts: &mut Table<PoolKey, Text, Att, Text, Last>,
     pool: &PoolKey,
     lease: Lease,
 ) -> Result<(), NoMemory>
@@ -114,8 +114,8 @@ fn lease_first(
 /// Adds a lease, whose address becomes the last of its pool.
 fn push_lease(
     alloc: Global,
-    leases: &mut Table<Lease, Text, Att, Lease>,
-    lasts: &mut Table<PoolKey, Text, Att, Last>,
+    leases: &mut Table<Lease, Text, Att, Text, Lease>,
+    lasts: &mut Table<PoolKey, Text, Att, Text, Last>,
     pool: &PoolKey,
     lease: Lease,
 ) -> Result<(), NoMemory>

@@ -1,35 +1,20 @@
 //! Questions to the host, which change nothing.
 
-ghost use Rattle.std.specs.Prelude.{◌≡◌, IfOk};
-ghost use Rattle.std.specs.List.{list_any};
-ghost use Rattle.kernel_types.specs.Equal.{link_eq};
+ghost use Rattle.std.specs.Prelude.{◌≡◌, IfOk, OnErr};
+ghost use Rattle.std.specs.List.{filter_map, list_any};
+ghost use Rattle.cni_addr.specs.Lists.{each_key_once};
+ghost use Rattle.kernel_types.specs.Equal.{att_eq, link_eq};
 ghost use Rattle.kernel_types.specs.Sound.{IsSound};
-ghost use Rattle.kernel_types.specs.Terms.{is_bridge_with};
-ghost use Rattle.kernel_types.specs.Apply.Calls.{has_free_master, has_object, has_obj_of, owners_of};
+ghost use Rattle.kernel_types.specs.Terms.{is_bridge_with, owner_in};
+ghost use Rattle.kernel_types.specs.Apply.Calls.{has_free_master, has_object, has_obj_of, owners_of, tags_of};
 ghost use Rattle.kernel_types.specs.declared.call.Probe.TheVariants.{Whole};
 
 use super::Tables;
 use crate::row::Test;
-use cni_addr::{Mac, NoMemory, Text};
+use cni_addr::{Items, Mac, NoMemory, Text};
 use kernel_types::terms::is_host_ns;
 use kernel_types::{Att, Kind, Link, Object, Probe, Reply, Tag};
 use std::alloc::Global;
-
-/// The attachments of a network.
-#[derive(Clone, Copy)]
-struct InNetwork<'a> {
-    network: &'a Text,
-}
-
-impl Test<Att> for InNetwork<'_> {
-    ghost use Rattle.std.specs.Str.{bytes_eq};
-
-    ghost passes = { λ within att. bytes_eq att.network within.network.now };
-
-    fn passes(&self, att: &Att) -> bool {
-        att.network == *self.network
-    }
-}
 
 /// The links that are equal to one.
 #[derive(Clone, Copy)]
@@ -48,8 +33,8 @@ impl Test<Link> for EqualLink<'_> {
 }
 
 impl Tables {
-    /// Whether an equal link is there: among those of its owner, or the one of its name in the host's own namespace. A
-    /// link elsewhere that nobody owns is searched for.
+    /// Whether an equal link is there: among those of its owner, or the one of its name in the host's own namespace, or
+    /// among those of another namespace.
     fn has_link(&self, link: &Link) -> bool
         requires sound { IsSound self.now }
         ensures { result ≡ list_any (λ l. link_eq l link.now) self.now.links }
@@ -70,7 +55,7 @@ impl Tables {
                 None => false,
             }
         } else {
-            self.links.any(&EqualLink { link })
+            self.links.any_at(&link.ns, &EqualLink { link })
         }
     }
 
@@ -119,23 +104,32 @@ impl Tables {
         Reply::Has(self.has_object(probe))
     }
 
+    /// The attachments of a network that have objects of the kind.
+    fn owners(&mut self, alloc: Global, network: &Text, kind: Kind) -> Result<Items<Att>, NoMemory>
+        ensures ok { IfOk result (λ owners. owners
+            ≡ each_key_once att_eq (filter_map (owner_in network.now) (tags_of self.old kind))) }
+        ensures same { self.new ≡ self.old }
+    {
+        match kind {
+            Kind::Links => self.links.owners(alloc, network),
+            Kind::Rules => self.rules.owners(alloc, network),
+            Kind::Settings => self.settings.owners(alloc, network),
+            Kind::Leases => self.leases.owners(alloc, network),
+            Kind::Cached => self.cached.owners(alloc, network),
+        }
+    }
+
     #[inline(never)]
     pub(crate) fn owners_of(
-        &self,
+        &mut self,
         alloc: Global,
         network: &Text,
         kind: Kind,
     ) -> Result<Reply, NoMemory>
-        ensures { IfOk result (λ reply. (self.now, reply) ≡ owners_of self.now network.now kind) }
+        ensures ok { IfOk result (λ reply. (self.new, reply) ≡ owners_of self.old network.now kind) }
+        ensures err { OnErr result (self.new ≡ self.old) }
     {
-        let within = InNetwork { network };
-        let owners = match kind {
-            Kind::Links => self.links.owners(alloc, &within)?,
-            Kind::Rules => self.rules.owners(alloc, &within)?,
-            Kind::Settings => self.settings.owners(alloc, &within)?,
-            Kind::Leases => self.leases.owners(alloc, &within)?,
-            Kind::Cached => self.cached.owners(alloc, &within)?,
-        };
+        let owners = self.owners(alloc, network, kind)?;
         Ok(Reply::Owners(owners))
     }
 }

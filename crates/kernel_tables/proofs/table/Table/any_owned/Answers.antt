@@ -8,7 +8,7 @@ use Rattle.kernel_tables.proofs.table.Table.any_owned.Goals as goal
 pub returns-in-Some : goal.returns-in-Some
 returns-in-Some g c =
     let owned = has_key g.O.PartialEq.eq g.T.Row.owner_of c.args.owner.now in
-    let test = g.P.Test.passes c.args.test.now in
+    let test = g.Q.Test.passes c.args.test.now in
     let at : get g.O.PartialEq.eq c.self.inside.trails c.args.owner.now ≡ Some c.in-Some.trail.now = search rules in
     let exact : passing owned c.self.inside.places.items c.in-Some.trail.now.items ≡ places_where owned c.self.inside.places.items =
     ap (λ o. passing owned c.self.inside.places.items (option_map_or deque_items o [])) (sym at) ∙ c.self.invariant.2.exact c.args.owner.now in
@@ -19,7 +19,7 @@ returns-in-Some g c =
 pub returns-in-None : goal.returns-in-None
 returns-in-None g c =
     let owned = has_key g.O.PartialEq.eq g.T.Row.owner_of c.args.owner.now in
-    let test = g.P.Test.passes c.args.test.now in
+    let test = g.Q.Test.passes c.args.test.now in
     let at : get g.O.PartialEq.eq c.self.inside.trails c.args.owner.now ≡ None = search rules in
     let exact : passing owned c.self.inside.places.items [] ≡ places_where owned c.self.inside.places.items =
     ap (λ o. passing owned c.self.inside.places.items (option_map_or deque_items o [])) (sym at) ∙ c.self.invariant.2.exact c.args.owner.now in

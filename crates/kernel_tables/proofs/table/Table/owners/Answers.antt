@@ -1,8 +1,28 @@
-use Rattle.std.proofs.Common.{arith, rules}
-use Rattle.kernel_tables.proofs.Owners.{owners-more}
+use Rattle.std.proofs.Common.{◌≡◌, ◌∙◌, ap, refl, sym, subst}
+use Rattle.std.specs.Prelude.{filter}
+use Rattle.std.specs.List.{filter_map}
+use Rattle.std.specs.Str.{bytes_eq}
+use Rattle.std.proofs.lemmas.Result.{IfOk-weaker}
+use Rattle.cni_addr.specs.Lists.{each_key_once}
+use Rattle.kernel_tables.specs.Places.{passing, places_where, rows_at}
+use Rattle.kernel_tables.specs.Table.{has_key, AreTrails}
+use Rattle.kernel_tables.specs.Trails.{trail_of}
+use Rattle.kernel_tables.proofs.Owners.{rows-where}
 use Rattle.kernel_tables.proofs.table.Table.owners.Goals as goal
 
-pub loop-place-preserved : goal.loop-place-preserved
-loop-place-preserved g c =
-    owners-more g.O.PartialEq.eq g.T.Row.owner_of (g.P.Test.passes c.args.which.now) c.deref-place-items.result.now c.loop-place.place-index c.place-item.result
-    c.loop-place.owners.keys c.add_owner.new.owners.keys (omega arith) (search rules) c.loop-place.invariant (search rules)
+pub invariant_of-self : goal.invariant_of-self
+invariant_of-self g c =
+    let trails : AreTrails bytes_eq g.T.Row.network_of c.self.inside.places.items c.tidy.new.trails =
+    subst (λ l. AreTrails bytes_eq g.T.Row.network_of l c.tidy.new.trails) c.deref.ensures.value
+    (c.tidy.ensures.trails g.T.Row.network_of (λ row. refl) (subst (λ l. AreTrails bytes_eq g.T.Row.network_of l c.self.inside.networks) (sym c.deref.ensures.value) c.self.invariant.3)) in
+    (c.self.invariant.0, c.self.invariant.1, c.self.invariant.2, trails, c.self.invariant.4)
+
+pub returns-clause-ok : goal.returns-clause-ok
+returns-clause-ok g c =
+    let network = c.args.network.now in
+    let test = has_key bytes_eq g.T.Row.network_of network in
+    let places = c.self.inside.places.items in
+    let trail : trail_of bytes_eq c.tidy.new.trails network ≡ places_where test places =
+    c.tidy.ensures.trail ∙ ap (λ l. passing test l (trail_of bytes_eq c.self.inside.networks network)) c.deref.ensures.value ∙ c.self.invariant.3.exact network in
+    let rows = ap (λ l. rows_at l (trail_of bytes_eq c.tidy.new.trails network)) c.deref-2.ensures.value ∙ ap (rows_at places) trail ∙ rows-where test places ∙ ap (filter test) c.self.view_is in
+    IfOk-weaker c.owners_in.result _ _ (λ owners h. h ∙ ap (λ l. each_key_once g.O.PartialEq.eq (filter_map g.T.Row.owner_of l)) rows) c.owners_in.ensures

@@ -10,7 +10,7 @@ use Rattle.kernel_tables.proofs.table.Table.take.Goals as goal
 
 pub invariant_of-self : goal.invariant_of-self
 invariant_of-self g c =
-    rw c.take.ensures.after (Finds-clear c.in-Some.place c.self.invariant.0, Finds-clear c.in-Some.place c.self.invariant.1, Finds-clear c.in-Some.place c.self.invariant.2)
+    rw c.take.ensures.after (Finds-clear c.in-Some.place c.self.invariant.0, Finds-clear c.in-Some.place c.self.invariant.1, Finds-clear c.in-Some.place c.self.invariant.2, Finds-clear c.in-Some.place c.self.invariant.3, Finds-clear c.in-Some.place c.self.invariant.4)
 
 pub returns-in-Some-clause-row : goal.returns-in-Some-clause-row
 returns-in-Some-clause-row g c =

@@ -1,7 +1,9 @@
-use Rattle.std.proofs.{Common.{◌≡◌, ◌∙◌, ap, sym, subst, None, set, rules}, lemmas.List.get_or_default}
+use Rattle.std.proofs.Common.{◌≡◌, ◌∙◌, ap, refl, sym, subst, None, set, rules}
 use Rattle.std.specs.Prelude.{find}
+use Rattle.std.proofs.lemmas.List.{get_or_default}
 use Rattle.cni_addr.specs.Lists.{without_first}
-use Rattle.kernel_tables.specs.{Places.{first_of, passing, places_where, rows_of}, Table.{has_key, AreTrails}}
+use Rattle.kernel_tables.specs.Places.{first_of, passing, places_where, rows_of}
+use Rattle.kernel_tables.specs.Table.{has_key, AreTrails}
 use Rattle.kernel_tables.specs.Trails.{trail_of}
 use Rattle.kernel_tables.proofs.Places.{Finds-clear, goes-first, none-goes}
 use Rattle.kernel_tables.proofs.table.Table.take_first_owned.Goals as goal
@@ -18,8 +20,8 @@ pub invariant_of-self : goal.invariant_of-self
 invariant_of-self g c =
     let trails : AreTrails g.O.PartialEq.eq g.T.Row.owner_of c.self.inside.places.items c.first_place.new.trails =
     subst (λ l. AreTrails g.O.PartialEq.eq g.T.Row.owner_of l c.first_place.new.trails) c.deref.ensures.value
-    (c.first_place.ensures.trails (subst (λ l. AreTrails g.O.PartialEq.eq g.T.Row.owner_of l c.self.inside.trails) (sym c.deref.ensures.value) c.self.invariant.2)) in
-    rw c.take.ensures.after (Finds-clear c.in-Some.place c.self.invariant.0, Finds-clear c.in-Some.place c.self.invariant.1, Finds-clear c.in-Some.place trails)
+    (c.first_place.ensures.trails g.T.Row.owner_of (λ row. refl) (subst (λ l. AreTrails g.O.PartialEq.eq g.T.Row.owner_of l c.self.inside.trails) (sym c.deref.ensures.value) c.self.invariant.2)) in
+    rw c.take.ensures.after (Finds-clear c.in-Some.place c.self.invariant.0, Finds-clear c.in-Some.place c.self.invariant.1, Finds-clear c.in-Some.place trails, Finds-clear c.in-Some.place c.self.invariant.3, Finds-clear c.in-Some.place c.self.invariant.4)
 
 pub returns-in-Some-clause-first : goal.returns-in-Some-clause-first
 returns-in-Some-clause-first g c =

@@ -1,7 +1,11 @@
-use Rattle.std.proofs.{Common.{◌≡◌, ◌∙◌, ap, sym, [], ◌∷◌, Some, None, length, set, rules}, lemmas.List.get_or_default}
-use Rattle.std.specs.{Option.{option_map, option_to_list}, Prelude.{map, if◌then◌else◌}}
+use Rattle.std.proofs.Common.{◌≡◌, ◌∙◌, ap, sym, [], ◌∷◌, Some, None, length, set, rules}
+use Rattle.std.specs.Prelude.{map, if◌then◌else◌}
+use Rattle.std.specs.Option.{option_map, option_to_list}
+use Rattle.std.specs.Str.{bytes_eq}
+use Rattle.std.proofs.lemmas.List.{get_or_default}
 use Rattle.indexmap.specs.IndexMap.{get}
-use Rattle.kernel_tables.specs.{Places.{passing, places_where, rows_of}, Table.{has_key, is_key}}
+use Rattle.kernel_tables.specs.Places.{passing, places_where, rows_of}
+use Rattle.kernel_tables.specs.Table.{has_key, is_key}
 use Rattle.kernel_tables.proofs.Places.{Finds-changed, rows_of-changed, unless-test, noted-within, none-changed}
 use Rattle.kernel_tables.proofs.table.Table.update.Goals as goal
 
@@ -17,6 +21,8 @@ invariant_of-self g c =
       Finds-changed (λ row. if test row then f row else row) c.in-Some.place (λ k x. ap (λ o. is_key g.K.PartialEq.eq o k) (unless-test g.T.Row.key_of test f c.requires.key x)) c.self.invariant.0,
       Finds-changed (λ row. if test row then f row else row) c.in-Some.place (λ k x. ap (λ o. is_key g.L.PartialEq.eq o k) (unless-test g.T.Row.alias_of test f c.requires.alias x)) c.self.invariant.1,
       Finds-changed (λ row. if test row then f row else row) c.in-Some.place (λ k x. ap (λ o. is_key g.O.PartialEq.eq o k) (unless-test g.T.Row.owner_of test f c.requires.owner x)) c.self.invariant.2,
+      Finds-changed (λ row. if test row then f row else row) c.in-Some.place (λ k x. ap (λ o. is_key bytes_eq o k) (unless-test g.T.Row.network_of test f c.requires.network x)) c.self.invariant.3,
+      Finds-changed (λ row. if test row then f row else row) c.in-Some.place (λ k x. ap (λ o. is_key g.P.PartialEq.eq o k) (unless-test g.T.Row.site_of test f c.requires.site x)) c.self.invariant.4,
     )
 
 pub returns-in-Some : goal.returns-in-Some

@@ -1,16 +1,9 @@
-use Rattle.std.proofs.Common.{◌≡◌, not, None, rules}
-use Rattle.std.specs.Prelude.{filter}
-use Rattle.kernel_types.specs.declared.object.{AddrObj.AddrObj, Link.Link, RouteObj.RouteObj}
-use Rattle.kernel_tables.specs.Leaving.{has_end_at, is_peer}
-use Rattle.kernel_tables.proofs.Leaving.{no-peer}
+use Rattle.std.proofs.Common.{◌≡◌, ◌∙◌, ap, sym, rules}
+use Rattle.kernel_types.specs.declared.object.Tag.TheVariants.{Own}
+use Rattle.kernel_tables.specs.Leaving.{left_by}
 use Rattle.kernel_tables.proofs.tables.Tables.drop_with.Goals as goal
 
-pub returns-in_default : goal.returns-in_default
-returns-in_default c =
-    let link = c.args.link.now in
-    let t = c.self.inside in
-    let peer : link.peer ≡ None = search rules in
-    let links : t.links ≡ filter (λ (l : Link). not (is_peer link.peer l)) t.links = no-peer link.peer t.links peer in
-    let addresses : c.remove_all.new.self ≡ filter (λ (a : AddrObj). not (has_end_at link a.ns a.link)) t.addresses = c.remove_all.ensures in
-    let routes : c.remove_all-2.new.self ≡ filter (λ (r : RouteObj). not (has_end_at link r.ns r.link)) t.routes = c.remove_all-2.ensures in
-    rw (← c.self.view_is) (λ i. record { namespaces = t.namespaces; links = links i; addresses = addresses i; routes = routes i; rules = t.rules; settings = t.settings; leases = t.leases; cached = t.cached; lasts = t.lasts })
+pub returns-in-Own : goal.returns-in-Own
+returns-in-Own c =
+    let tag : c.args.link.tag ≡ Own c.in-Own.att = search rules in
+    c.drop_with_own.ensures ∙ ap (λ t. left_by c.args.link t c.args.self.now) (sym tag)
