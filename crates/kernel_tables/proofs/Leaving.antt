@@ -1,42 +1,32 @@
 -- What leaves a sound host with a link.
-use Rattle.std.proofs.Common.{◌≡◌, ◌<◌, ℕ, zero, suc, Bool, true, false, not, ap, List, [], ◌∷◌, inl, inr, Option, Some, None, true≢false, refl, sym, ◌∙◌, length, arith}
-use Rattle.std.specs.Prelude.{filter, find, ◌&&◌, ◌||◌, if◌then◌else◌}
-use Rattle.std.specs.List.{list_any, list_all, Contains}
-use Rattle.std.specs.Str.{bytes_eq}
-use Rattle.std.specs.Cmp.{both_ways}
-use Rattle.std.specs.Cmp.Lexicographic.{nat_list_eq_equiv}
-use Rattle.std.proofs.lemmas.Bool.{and_parts}
+use Rattle.std.proofs.Common.{◌≡◌, ◌<◌, ℕ, zero, suc, Bool, true, false, not, ap, List, [], ◌∷◌, inl, inr, Option, Some}
+use Rattle.std.proofs.{Common.{None, true≢false, refl, sym, ◌∙◌, length, arith}, lemmas.Bool.and_parts}
 use Rattle.std.proofs.lemmas.Slice.Eq.{bytes_eq-Decides}
+use Rattle.std.specs.{Cmp.{both_ways, Lexicographic.nat_list_eq_equiv}, List.{list_any, list_all, Contains}}
+use Rattle.std.specs.{Prelude.{filter, find, ◌&&◌, ◌||◌, if◌then◌else◌}, Str.bytes_eq}
 use Rattle.cni_addr.specs.Lists.{distinct, IsAmong, without_first}
 use Rattle.kernel_types.specs.Apply.Calls.{drop_link_of, goes_with, link_del_of, without_link, without_links}
-use Rattle.kernel_types.specs.Equal.{tag_eq}
-use Rattle.kernel_types.specs.Sound.{HasTagsOn, IsSound, is_link_or_peer, is_unowned_kind, link_fits_tag, may_be_on, peer_fits, peers_back}
-use Rattle.kernel_types.specs.Terms.{has_ns_in, is_at, is_bridge, is_host_ns, is_own, is_owned, is_peer_at, is_veth}
-use Rattle.kernel_types.specs.declared.call.Reply.TheVariants.{Gone, NoNs}
-use Rattle.kernel_types.specs.declared.object.Att.{Att}
-use Rattle.kernel_types.specs.declared.object.Host.{Host}
-use Rattle.kernel_types.specs.declared.object.Link.{Link}
-use Rattle.kernel_types.specs.declared.object.LinkKey.{LinkKey}
-use Rattle.kernel_types.proofs.Cases.{is_at-itself, own-own, tag_eq-refl}
-use Rattle.kernel_types.proofs.Isolation.{tag_eq-same}
-use Rattle.kernel_types.proofs.ListLemmas.{list_any-find_none, list_any-weaker, without_first-none}
-use Rattle.kernel_types.proofs.Removal.{goes_with-itself, link_del-found, same_place}
-use Rattle.kernel_types.proofs.SoundHosts.{goes_with-sound, HasTagsOn-sound}
-use Rattle.kernel_types.proofs.TouchRemoval.{is_at-symm, keeps_or_owns, owned_no_bridge}
+use Rattle.kernel_types.specs.{Equal.tag_eq, Sound.{HasTagsOn, IsSound, is_link_or_peer, is_unowned_kind}}
+use Rattle.kernel_types.specs.{Sound.{link_fits_tag, may_be_on, peer_fits, peers_back}, Terms.{has_ns_in, is_at}}
+use Rattle.kernel_types.specs.Terms.{is_bridge, is_host_ns, is_own, is_owned, is_peer_at, is_veth}
 use Rattle.kernel_types.specs.contracts.object.AttPartialEq.TheImpl.{eq-value as att_eq-value}
-use Rattle.kernel_types.specs.declared.object.Tag.{Tag}
-use Rattle.kernel_types.specs.declared.object.Tag.TheVariants.{Outside, Base, Own}
-use Rattle.kernel_types.specs.declared.object.LinkKind.{LinkKind}
-use Rattle.kernel_types.specs.declared.object.LinkKind.TheVariants.{Device, Bridge, Veth, Macvlan, Dummy, Vlan}
-use Rattle.kernel_tables.specs.Leaving.{has_end_at, is_peer, is_unowned_on, left_by, left_by_owner, left_unowned, left_with}
 use Rattle.kernel_types.specs.contracts.object.LinkKeyPartialEq.TheImpl.{eq-value as link_key-value}
-use Rattle.kernel_tables.specs.Rows.{owner_named, unowned_on}
-use Rattle.kernel_tables.specs.Table.{is_key}
+use Rattle.kernel_types.specs.declared.{call.Reply.TheVariants.{Gone, NoNs}, object.{Att.Att, Host.Host, Link.Link}}
+use Rattle.kernel_types.specs.declared.object.{LinkKey.LinkKey, LinkKind.{LinkKind, TheVariants.{Device, Bridge, Veth}}}
+use Rattle.kernel_types.specs.declared.object.{LinkKind.TheVariants.{Macvlan, Dummy, Vlan}, Tag.Tag}
+use Rattle.kernel_types.specs.declared.object.Tag.TheVariants.{Outside, Base, Own}
+use Rattle.kernel_types.proofs.{Cases.{is_at-itself, own-own, tag_eq-refl}, Isolation.tag_eq-same}
+use Rattle.kernel_types.proofs.ListLemmas.{list_any-find_none, list_any-weaker, without_first-none}
+use Rattle.kernel_types.proofs.{Removal.{goes_with-itself, link_del-found, same_place}, SoundHosts.goes_with-sound}
+use Rattle.kernel_types.proofs.{SoundHosts.HasTagsOn-sound, TouchRemoval.{is_at-symm, keeps_or_owns, owned_no_bridge}}
+use Rattle.kernel_tables.specs.Leaving.{has_end_at, is_peer, is_unowned_on, left_by, left_by_owner, left_unowned}
+use Rattle.kernel_tables.specs.{Leaving.left_with, Rows.{owner_named, unowned_on}, Table.is_key}
 use Rattle.kernel_tables.proofs.Owned.{att-same, own-is}
 
 -- ---- lists
 
-filter-among : {X : Type 0} (p q : X → Bool) (xs : List X) → ((x : X) → IsAmong x xs → p x ≡ q x) → filter p xs ≡ filter q xs
+filter-among : {X : Type 0} (p q : X → Bool) (xs : List X) → ((x : X) → IsAmong x xs → p x ≡ q x)
+    → filter p xs ≡ filter q xs
 filter-among p q [] same = refl
 filter-among p q (x ∷ xs) same = rw (same x (inl refl), filter-among p q xs (λ y at. same y (inr at))) refl
 
@@ -47,7 +37,8 @@ among-contains : {X : Type 0} (x : X) (xs : List X) → IsAmong x xs → Contain
 among-contains x [] at = absurd at
 among-contains x (y ∷ ys) at = elim at [ inl e ↦ (let below : zero < suc (length ys) = omega arith in (zero, below, sym e)) | inr later ↦ contains-more x y ys (among-contains x ys later) ]
 
-found-step : {X : Type 0} (x y : X) (xs : List X) (b : Bool) (o : Option X) → (if b then Some x else o) ≡ Some y → (o ≡ Some y → IsAmong y xs) → IsAmong y (x ∷ xs)
+found-step : {X : Type 0} (x y : X) (xs : List X) (b : Bool) (o : Option X) → (if b then Some x else o) ≡ Some y
+    → (o ≡ Some y → IsAmong y xs) → IsAmong y (x ∷ xs)
 found-step x y xs true o h later = inl (grind (arith, h))
 found-step x y xs false o h later = inr (later h)
 
@@ -64,14 +55,16 @@ all-among p x [] at h = absurd at
 all-among p x (y ∷ ys) at h =
     elim at [ inl e ↦ ap p e ∙ grind (arith, h) | inr later ↦ all-among p x ys later (grind (arith, h)) ]
 
-pub from-among : {X : Type 0} (p : X → Bool) (c : Bool) (xs : List X) → ((x : X) → IsAmong x xs → p x ≡ true → c ≡ true) → list_any p xs ≡ true → c ≡ true
+pub from-among : {X : Type 0} (p : X → Bool) (c : Bool) (xs : List X) → ((x : X) → IsAmong x xs → p x ≡ true → c ≡ true)
+    → list_any p xs ≡ true → c ≡ true
 from-among p c [] w h = cc
 from-among p c (x ∷ xs) w h =
     let here : p x ≡ true → c ≡ true = w x (inl refl) in
     let later : list_any p xs ≡ true → c ≡ true = from-among p c xs (λ y at. w y (inr at)) in
     grind (arith, h, here, later)
 
-pub filter-twice : {X : Type 0} (p q : X → Bool) (xs : List X) → filter (λ x. not (q x)) (filter (λ x. not (p x)) xs) ≡ filter (λ x. not (p x || q x)) xs
+pub filter-twice : {X : Type 0} (p q : X → Bool) (xs : List X)
+    → filter (λ x. not (q x)) (filter (λ x. not (p x)) xs) ≡ filter (λ x. not (p x || q x)) xs
 filter-twice p q [] = refl
 filter-twice p q (x ∷ xs) = grind (arith, filter-twice p q xs)
 
@@ -84,11 +77,13 @@ none-filtered p [] h = refl
 none-filtered p (x ∷ xs) h = grind (arith, none-filtered p xs)
 
 -- where keys are distinct, the first that passes is the one of its key
-none-of : {X : Type 0} (same : X → X → Bool) (x : X) (xs : List X) → ((y : X) → same x y ≡ same y x) → list_any (same x) xs ≡ false → filter (λ y. not (same y x)) xs ≡ xs
+none-of : {X : Type 0} (same : X → X → Bool) (x : X) (xs : List X) → ((y : X) → same x y ≡ same y x)
+    → list_any (same x) xs ≡ false → filter (λ y. not (same y x)) xs ≡ xs
 none-of same x [] s h = refl
 none-of same x (y ∷ ys) s h = grind (arith, s y, none-of same x ys s)
 
-without_first-step : {X : Type 0} (p : X → Bool) (same : X → X → Bool) → ((x : X) → same x x ≡ true) → ((x y : X) → same x y ≡ same y x) → (x : X) (xs : List X) (link : X) (b : Bool) → distinct same (x ∷ xs) ≡ true
+without_first-step : {X : Type 0} (p : X → Bool) (same : X → X → Bool) → ((x : X) → same x x ≡ true)
+    → ((x y : X) → same x y ≡ same y x) → (x : X) (xs : List X) (link : X) (b : Bool) → distinct same (x ∷ xs) ≡ true
     → (if b then Some x else find p xs) ≡ Some link → (find p xs ≡ Some link → IsAmong link xs)
     → (find p xs ≡ Some link → without_first p xs ≡ filter (λ y. not (same y link)) xs)
     → (if b then xs else x ∷ without_first p xs) ≡ filter (λ y. not (same y link)) (x ∷ xs)
@@ -102,7 +97,8 @@ without_first-step p same self s x xs link false d h among rest =
     let other : same x link ≡ false = grind (arith, parts.0, any-among (same x) link xs (among h)) in
     grind (arith, other, rest h)
 
-without_first-one : {X : Type 0} (p : X → Bool) (same : X → X → Bool) → ((x : X) → same x x ≡ true) → ((x y : X) → same x y ≡ same y x) → (xs : List X) (link : X) → distinct same xs ≡ true → find p xs ≡ Some link
+without_first-one : {X : Type 0} (p : X → Bool) (same : X → X → Bool) → ((x : X) → same x x ≡ true)
+    → ((x y : X) → same x y ≡ same y x) → (xs : List X) (link : X) → distinct same xs ≡ true → find p xs ≡ Some link
     → without_first p xs ≡ filter (λ y. not (same y link)) xs
 without_first-one p same self s [] link d h = refl
 without_first-one p same self s (x ∷ xs) link d h =
@@ -160,17 +156,20 @@ owned-alone : (g o : Bool) → (not g || o) ≡ true → not (o && g) ≡ not g
 owned-alone true o h = grind (arith, h)
 owned-alone false o h = grind arith
 
-pub none-leaves : (host : Host) (att : Att) → find (λ l. is_own att l.tag) host.links ≡ None → (record host { links = without_first (λ l. is_own att l.tag) host.links }, Gone false) ≡ link_del_of host att
+pub none-leaves : (host : Host) (att : Att) → find (λ l. is_own att l.tag) host.links ≡ None
+    → (record host { links = without_first (λ l. is_own att l.tag) host.links }, Gone false) ≡ link_del_of host att
 none-leaves host att none =
     ap (λ ls. (record host { links = ls }, Gone false)) (without_first-none (λ l. is_own att l.tag) host.links (list_any-find_none (λ l. is_own att l.tag) host.links none))
     ∙ ap (without_link host) (sym none)
 
 -- ---- what is dropped
 
-pub gone-own : {T : Type 0} (tag_of : T → Tag) (att : Att) (gone : T → Bool) (xs : List T) → filter (λ x. not (is_key att_eq-value.it (owner_named (tag_of x)) att && gone x)) xs ≡ filter (λ x. not (is_own att (tag_of x) && gone x)) xs
+pub gone-own : {T : Type 0} (tag_of : T → Tag) (att : Att) (gone : T → Bool) (xs : List T)
+    → filter (λ x. not (is_key att_eq-value.it (owner_named (tag_of x)) att && gone x)) xs ≡ filter (λ x. not (is_own att (tag_of x) && gone x)) xs
 gone-own tag_of att gone xs = (λ i. filter (λ x. not (own-is att_eq-value.it att-same att (tag_of x) i && gone x)) xs)
 
-on-is : (link : Link) (t : Tag) (ns name : List ℕ) → is_key link_key-value.it (unowned_on t ns name) (record { ns = link.ns; name = link.name }) ≡ is_unowned_on link t ns name
+on-is : (link : Link) (t : Tag) (ns name : List ℕ)
+    → is_key link_key-value.it (unowned_on t ns name) (record { ns = link.ns; name = link.name }) ≡ is_unowned_on link t ns name
 on-is link Outside ns name = grind (arith, nat_list_eq_equiv.symm ns link.ns, nat_list_eq_equiv.symm name link.name)
 on-is link Base ns name = grind (arith, nat_list_eq_equiv.symm ns link.ns, nat_list_eq_equiv.symm name link.name)
 on-is link (Own att) ns name = refl
@@ -188,7 +187,8 @@ pub passes-found : {X : Type 0} (p : X → Bool) (xs : List X) (y : X) → find 
 passes-found p [] y h = absurd (cc h)
 passes-found p (x ∷ xs) y h = grind (arith, h, passes-found p xs y)
 
-pub at-key : (ns name : List ℕ) (link : Link) (links : List Link) → is_at ns name link ≡ true → filter (λ l. not (is_at ns name l)) links ≡ filter (λ l. not (is_at link.ns link.name l)) links
+pub at-key : (ns name : List ℕ) (link : Link) (links : List Link) → is_at ns name link ≡ true
+    → filter (λ l. not (is_at ns name l)) links ≡ filter (λ l. not (is_at link.ns link.name l)) links
 at-key ns name link links h =
     let parts = and_parts (bytes_eq link.ns ns) (bytes_eq link.name name) h in
     let one : link.ns ≡ ns = (bytes_eq-Decides link.ns ns).0 parts.0 in
@@ -215,7 +215,8 @@ no-veth l Outside off fits = unowned-no-veth l.kind fits
 no-veth l Base off fits = unowned-no-veth l.kind (and_parts (is_unowned_kind l.kind) (is_host_ns l.ns) fits).0
 no-veth l (Own att) off fits = absurd (true≢false off)
 
-no-peer-of : (links : List Link) (l : Link) (o : Option LinkKey) → is_veth l.kind ≡ false → peer_fits links l o ≡ true → o ≡ None
+no-peer-of : (links : List Link) (l : Link) (o : Option LinkKey) → is_veth l.kind ≡ false → peer_fits links l o ≡ true
+    → o ≡ None
 no-peer-of links l None off fits = refl
 no-peer-of links l (Some key) off fits = let veth : is_veth l.kind ≡ true = grind (arith, fits) in absurd (true≢false (sym veth ∙ off))
 
@@ -343,19 +344,22 @@ module _ (host : Host) (sound : IsSound host) (link : Link) (at_place : IsAmong 
   left-leaves rest is = left-by link.tag refl rest is
 
 -- the first link that passes
-pub left-first : (host : Host) → IsSound host → (p : Link → Bool) (link : Link) → find p host.links ≡ Some link → left_with link (record host { links = without_first p host.links }) ≡ without_links (goes_with link.ns link.name) host
+pub left-first : (host : Host) → IsSound host → (p : Link → Bool) (link : Link) → find p host.links ≡ Some link
+    → left_with link (record host { links = without_first p host.links }) ≡ without_links (goes_with link.ns link.name) host
 left-first host sound p link found =
     left-leaves host sound link (found-among p host.links link found) (without_first p host.links)
     (without_first-one p (λ a b. is_at b.ns b.name a) is_at-itself (λ a b. is_at-symm a b) host.links link sound.links.keys found)
 
-pub drop_link-there : (host : Host) (key : LinkKey) (link : Link) → has_ns_in host.namespaces key.ns ≡ true → IsSound host → find (is_at key.ns key.name) host.links ≡ Some link
+pub drop_link-there : (host : Host) (key : LinkKey) (link : Link) → has_ns_in host.namespaces key.ns ≡ true
+    → IsSound host → find (is_at key.ns key.name) host.links ≡ Some link
     → (left_with link (record host { links = filter (λ l. not (is_at key.ns key.name l)) host.links }), Gone true) ≡ drop_link_of host key
 drop_link-there host key link there sound found =
     ap (λ h. (h, Gone true)) (left-leaves host sound link (found-among (is_at key.ns key.name) host.links link found) (filter (λ l. not (is_at key.ns key.name l)) host.links)
     (at-key key.ns key.name link host.links (passes-found (is_at key.ns key.name) host.links link found)))
     ∙ ap (without_link host) (sym found) ∙ ap (λ b. if b then without_link host (find (is_at key.ns key.name) host.links) else (host, NoNs)) (sym there)
 
-pub drop_link-none : (host : Host) (key : LinkKey) → has_ns_in host.namespaces key.ns ≡ true → find (is_at key.ns key.name) host.links ≡ None
+pub drop_link-none : (host : Host) (key : LinkKey) → has_ns_in host.namespaces key.ns ≡ true
+    → find (is_at key.ns key.name) host.links ≡ None
     → (record host { links = filter (λ l. not (is_at key.ns key.name l)) host.links }, Gone false) ≡ drop_link_of host key
 drop_link-none host key there none =
     ap (λ ls. (record host { links = ls }, Gone false)) (none-filtered (is_at key.ns key.name) host.links (list_any-find_none (is_at key.ns key.name) host.links none))
@@ -363,7 +367,8 @@ drop_link-none host key there none =
 
 -- ---- the first link of an attachment
 
-pub own-leaves : (host : Host) → IsSound host → (att : Att) (link : Link) → find (λ l. is_own att l.tag) host.links ≡ Some link
+pub own-leaves : (host : Host) → IsSound host → (att : Att) (link : Link)
+    → find (λ l. is_own att l.tag) host.links ≡ Some link
     → (left_by_owner link att (record host { links = without_first (λ l. is_own att l.tag) host.links }), Gone true) ≡ link_del_of host att
 own-leaves host sound att link found =
     let owned : link.tag ≡ Own att = own-own-tag att link.tag (passes-found (λ l. is_own att l.tag) host.links link found) in

@@ -1,41 +1,35 @@
 -- What leaves a sound host with a namespace.
-use Rattle.std.proofs.Common.{◌≡◌, ◌<◌, ◌≤◌, ℕ, suc, Bool, true, false, not, ap, List, [], ◌∷◌, Option, Some, None, true≢false, refl, sym, subst, ◌∙◌, length, arith}
-use Rattle.std.specs.Prelude.{filter, find, ◌&&◌, ◌||◌, if◌then◌else◌}
-use Rattle.std.specs.List.{list_any}
-use Rattle.std.specs.Str.{bytes_eq}
-use Rattle.std.proofs.lemmas.Bool.{and_parts}
+use Rattle.std.proofs.Common.{◌≡◌, ◌<◌, ◌≤◌, ℕ, suc, Bool, true, false, not, ap, List, [], ◌∷◌, Option, Some, None}
+use Rattle.std.proofs.{Common.{true≢false, refl, sym, subst, ◌∙◌, length, arith}, lemmas.Bool.and_parts}
 use Rattle.std.proofs.lemmas.Slice.Eq.{bytes_eq-Decides}
+use Rattle.std.specs.{List.list_any, Prelude.{filter, find, ◌&&◌, ◌||◌, if◌then◌else◌}, Str.bytes_eq}
 use Rattle.cni_addr.specs.Lists.{IsAmong, without_first}
 use Rattle.kernel_types.specs.Apply.Calls.{goes_with, goes_with_ns, has_peer_in, ns_del_of, without_links, without_ns}
-use Rattle.kernel_types.specs.Sound.{IsSound, peer_fits, peers_back}
-use Rattle.kernel_types.specs.Terms.{has_named_ns, is_at, is_host_ns, is_peer_at}
-use Rattle.kernel_types.specs.declared.call.Reply.TheVariants.{Done, NoNs}
-use Rattle.kernel_types.specs.declared.object.AddrObj.{AddrObj}
-use Rattle.kernel_types.specs.declared.object.Host.{Host}
-use Rattle.kernel_types.specs.declared.object.Link.{Link}
-use Rattle.kernel_types.specs.declared.object.LinkKey.{LinkKey}
-use Rattle.kernel_types.specs.declared.object.RouteObj.{RouteObj}
+use Rattle.kernel_types.specs.{Sound.{IsSound, peer_fits, peers_back}, Terms.{has_named_ns, is_at, is_host_ns}}
+use Rattle.kernel_types.specs.{Terms.is_peer_at, declared.{call.Reply.TheVariants.{Done, NoNs}, object.AddrObj.AddrObj}}
+use Rattle.kernel_types.specs.declared.object.{Host.Host, Link.Link, LinkKey.LinkKey, RouteObj.RouteObj}
 use Rattle.kernel_types.specs.declared.object.Setting.{Setting}
 use Rattle.kernel_types.proofs.ListLemmas.{list_any-find_none, list_any-none, list_any-weaker}
-use Rattle.kernel_types.proofs.Removal.{goes_with-itself, IsSound-without_link}
-use Rattle.kernel_types.proofs.TouchRemoval.{from_one}
-use Rattle.kernel_tables.specs.Leaving.{left_with}
-use Rattle.kernel_tables.specs.Rows.{inner_ns}
-use Rattle.kernel_tables.specs.Table.{is_key}
-use Rattle.kernel_tables.proofs.Leaving.{all-among, any-among, filter-twice, found-among, from-among, keep-all, left-first, none-filtered, passes-found}
+use Rattle.kernel_types.proofs.{Removal.{goes_with-itself, IsSound-without_link}, TouchRemoval.from_one}
+use Rattle.kernel_tables.specs.{Leaving.left_with, Rows.inner_ns, Table.is_key}
+use Rattle.kernel_tables.proofs.Leaving.{all-among, any-among, filter-twice, found-among, from-among, keep-all}
+use Rattle.kernel_tables.proofs.Leaving.{left-first, none-filtered, passes-found}
 
-pub inner-named : (host : Host) → IsSound host → (name : List ℕ) → has_named_ns host name ≡ true → is_host_ns name ≡ false
+pub inner-named : (host : Host) → IsSound host → (name : List ℕ) → has_named_ns host name ≡ true
+    → is_host_ns name ≡ false
 inner-named host sound name named =
     let inner : not (is_host_ns name) ≡ true =
     from_one (λ n. bytes_eq n.name name) (λ n. not (is_host_ns n.name)) (not (is_host_ns name)) (λ n e g. ap (λ m. not (is_host_ns m)) (sym ((bytes_eq-Decides n.name name).0 e)) ∙ g) host.namespaces named sound.namespaces.named in
     grind (arith, inner)
 
 -- what has its site in a namespace other than the host's own
-apart : (name : List ℕ) → is_host_ns name ≡ false → (ns : List ℕ) → is_host_ns ns ≡ true → (b : Bool) → bytes_eq ns name ≡ b → false ≡ b
+apart : (name : List ℕ) → is_host_ns name ≡ false → (ns : List ℕ) → is_host_ns ns ≡ true → (b : Bool)
+    → bytes_eq ns name ≡ b → false ≡ b
 apart name inner ns host true e = absurd (true≢false (sym host ∙ ap is_host_ns ((bytes_eq-Decides ns name).0 e) ∙ inner))
 apart name inner ns host false e = refl
 
-pub inner-is : (name : List ℕ) → is_host_ns name ≡ false → (ns : List ℕ) → is_key bytes_eq (inner_ns ns) name ≡ bytes_eq ns name
+pub inner-is : (name : List ℕ) → is_host_ns name ≡ false → (ns : List ℕ)
+    → is_key bytes_eq (inner_ns ns) name ≡ bytes_eq ns name
 inner-is name inner ns = by (is_host_ns ns) refl
   where
     by : (b : Bool) → is_host_ns ns ≡ b → is_key bytes_eq (if b then None else Some ns) name ≡ bytes_eq ns name
@@ -74,7 +68,8 @@ module _ (g k : Link → Bool) (more : (l : Link) → g l ≡ true → k l ≡ t
     routes = lies-again (λ (r : RouteObj) l. is_at r.ns r.link l) host.links host.routes i;
   })
 
-none-both : (k at : Link → Bool) (links : List Link) → list_any k links ≡ false → list_any (λ l. k l && at l) links ≡ false
+none-both : (k at : Link → Bool) (links : List Link) → list_any k links ≡ false
+    → list_any (λ l. k l && at l) links ≡ false
 none-both k at links none = list_any-none (λ l. k l && at l) k (λ l h. (and_parts (k l) (at l) h).0) links none
 
 without-none : (k : Link → Bool) (host : Host) → list_any k host.links ≡ false → without_links k host ≡ host
@@ -94,7 +89,8 @@ filter-le f (x ∷ xs) = by (f x) (filter-le f xs)
     by true rest = omega (arith, rest)
     by false rest = omega (arith, rest)
 
-pub filter-fewer : {X : Type 0} (p : X → Bool) (xs : List X) → list_any p xs ≡ true → length (filter (λ x. not (p x)) xs) < length xs
+pub filter-fewer : {X : Type 0} (p : X → Bool) (xs : List X) → list_any p xs ≡ true
+    → length (filter (λ x. not (p x)) xs) < length xs
 filter-fewer p [] h = absurd (true≢false (sym h))
 filter-fewer p (x ∷ xs) h = by (p x) h (filter-fewer p xs)
   where
@@ -102,7 +98,8 @@ filter-fewer p (x ∷ xs) h = by (p x) h (filter-fewer p xs)
     by true e less = omega (arith, filter-le (λ y. not (p y)) xs)
     by false e less = omega (arith, less e)
 
-peer-in : (name : List ℕ) (link : Link) → link.ns ≡ name → (o : Option LinkKey) → is_peer_at link.ns link.name o ≡ true → has_peer_in name o ≡ true
+peer-in : (name : List ℕ) (link : Link) → link.ns ≡ name → (o : Option LinkKey) → is_peer_at link.ns link.name o ≡ true
+    → has_peer_in name o ≡ true
 peer-in name link one None g = absurd (true≢false (sym g))
 peer-in name link one (Some key) g = ap (bytes_eq key.ns) (sym one) ∙ (and_parts (bytes_eq key.ns link.ns) (bytes_eq key.name link.name) g).0
 

@@ -1,37 +1,35 @@
 -- What the indexes of a table find when a row comes.
-use Rattle.std.proofs.Common.{◌≡◌, ℕ, Bool, true, false, cond, ap, List, [], ◌∷◌, ◌++◌, Option, Some, None, inl, inr, true≢false, refl, sym, ◌∙◌, length, arith}
-use Rattle.std.specs.Prelude.{if◌then◌else◌, nat_lt}
-use Rattle.std.specs.List.{list_any, list_all}
-use Rattle.std.specs.Cmp.{IsEquivalence}
-use Rattle.std.specs.declared.collections.VecDeque.{VecDeque}
-use Rattle.std.specs.Map.{lookup}
-use Rattle.std.specs.Option.{option_map_or, option_to_list}
-use Rattle.std.specs.VecDeque.{deque_items}
-use Rattle.std.proofs.lemmas.List.Elements.{filter_agree}
+use Rattle.std.proofs.Common.{◌≡◌, ℕ, Bool, true, false, cond, ap, List, [], ◌∷◌, ◌++◌, Option, Some, None, inl, inr}
+use Rattle.std.proofs.{Common.{true≢false, refl, sym, ◌∙◌, length, arith}, lemmas.List.Elements.filter_agree}
+use Rattle.std.specs.{Cmp.IsEquivalence, List.{list_any, list_all}, Map.lookup, Option.{option_map_or, option_to_list}}
+use Rattle.std.specs.{Prelude.{if◌then◌else◌, nat_lt}, VecDeque.deque_items, declared.collections.VecDeque.VecDeque}
 use Rattle.indexmap.specs.IndexMap.{IndexMap, get}
-use Rattle.kernel_tables.specs.Places.{rows_of, row_at, passes, passing}
-use Rattle.kernel_tables.specs.Table.{is_key, has_key, place_of, IsIndex, AreTrails}
-use Rattle.kernel_tables.specs.Trails.{trail_of}
+use Rattle.kernel_tables.specs.{Places.{rows_of, row_at, passes, passing}, Table.{is_key, has_key, place_of, IsIndex}}
+use Rattle.kernel_tables.specs.{Table.AreTrails, Trails.trail_of}
 use Rattle.kernel_tables.proofs.Places.{Finds-keyed, Finds-trailed, Finds-trimmed, Trims}
 
 any-same : {X : Type 0} (p q : X → Bool) → ((x : X) → p x ≡ q x) → (xs : List X) → list_any p xs ≡ list_any q xs
 any-same p q h [] = refl
 any-same p q h (x ∷ xs) = grind (arith, h x, any-same p q h xs)
 
-is_key-same : {K : Type 0} (eq : K → K → Bool) → IsEquivalence eq → (own q : K) → eq own q ≡ true → (key : Option K) → is_key eq key q ≡ is_key eq key own
+is_key-same : {K : Type 0} (eq : K → K → Bool) → IsEquivalence eq → (own q : K) → eq own q ≡ true → (key : Option K)
+    → is_key eq key q ≡ is_key eq key own
 is_key-same eq laws own q is None = refl
 is_key-same eq laws own q is (Some m) = laws.symm m q ∙ sym (laws.congr own q m is) ∙ laws.symm own m
 
-absent-keys : {K T : Type 0} (eq : K → K → Bool) → IsEquivalence eq → (key_of : T → Option K) (rows : List T) (key : Option K)
+absent-keys : {K T : Type 0} (eq : K → K → Bool) → IsEquivalence eq
+    → (key_of : T → Option K) (rows : List T) (key : Option K)
     → ((own : K) → key ≡ Some own → list_any (has_key eq key_of own) rows ≡ false) → (q : K) → is_key eq key q ≡ true → list_any (has_key eq key_of q) rows ≡ false
 absent-keys eq laws key_of rows None absent q is = absurd (true≢false (sym is))
 absent-keys eq laws key_of rows (Some own) absent q is =
     any-same (has_key eq key_of q) (has_key eq key_of own) (λ row. is_key-same eq laws own q is (key_of row)) rows ∙ absent own refl
 
-pub no_row : {K T : Type 0} (eq : K → K → Bool) (key_of : T → Option K) (row : T) (q : K) → passes (has_key eq key_of q) None ≡ true → is_key eq (key_of row) q ≡ true
+pub no_row : {K T : Type 0} (eq : K → K → Bool) (key_of : T → Option K) (row : T) (q : K)
+    → passes (has_key eq key_of q) None ≡ true → is_key eq (key_of row) q ≡ true
 no_row eq key_of row q h = absurd (true≢false (sym h))
 
-pub index-noted : {K T S : Type 0} (eq : K → K → Bool) → IsEquivalence eq → (key_of : T → Option K) (places : List (Option T)) (index new : IndexMap K ℕ S) (row : T) (key : Option K) (n : ℕ) (o : Option T)
+pub index-noted : {K T S : Type 0} (eq : K → K → Bool) → IsEquivalence eq
+    → (key_of : T → Option K) (places : List (Option T)) (index new : IndexMap K ℕ S) (row : T) (key : Option K) (n : ℕ) (o : Option T)
     → IsIndex eq key_of places index → key ≡ key_of row → n ≡ length places
     → ((q : K) → place_of eq new q ≡ (if is_key eq key q then n ∷ [] else place_of eq index q))
     → ((own : K) → key_of row ≡ Some own → list_any (has_key eq key_of own) (rows_of places) ≡ false)
@@ -50,13 +48,15 @@ trails-noted eq owner_of places trails new row owner n o f is end says fits =
 
 -- ---- where nothing is noted, and no row stands
 
-pub index-empty : {K T S : Type 0} (eq : K → K → Bool) (key_of : T → Option K) (index : IndexMap K ℕ S) → index.entries ≡ [] → IsIndex eq key_of [] index
+pub index-empty : {K T S : Type 0} (eq : K → K → Bool) (key_of : T → Option K) (index : IndexMap K ℕ S)
+    → index.entries ≡ [] → IsIndex eq key_of [] index
 index-empty eq key_of index none = record {
   inside = (λ k. ap (λ es. list_all (λ p. nat_lt p 0) (option_to_list (lookup (eq k) es))) none);
   exact = (λ k. ap (λ es. passing (has_key eq key_of k) [] (option_to_list (lookup (eq k) es))) none);
 }
 
-pub trails-empty : {O T Z S : Type 0} (eq : O → O → Bool) (owner_of : T → Option O) (trails : IndexMap O (VecDeque ℕ Z) S) → trails.entries ≡ [] → AreTrails eq owner_of [] trails
+pub trails-empty : {O T Z S : Type 0} (eq : O → O → Bool) (owner_of : T → Option O) (trails : IndexMap O (VecDeque ℕ Z) S)
+    → trails.entries ≡ [] → AreTrails eq owner_of [] trails
 trails-empty eq owner_of trails none = record {
   inside = (λ q. ap (λ es. list_all (λ p. nat_lt p 0) (option_map_or deque_items (lookup (eq q) es) [])) none);
   exact = (λ q. ap (λ es. passing (has_key eq owner_of q) [] (option_map_or deque_items (lookup (eq q) es) [])) none);
@@ -68,7 +68,8 @@ lookup-same : {K X : Type 0} (p q : K → Bool) → ((k : K) → p k ≡ q k) �
 lookup-same p q same [] = refl
 lookup-same p q same (e ∷ es) = grind (arith, same e.0, lookup-same p q same es)
 
-pub passing-same : {T : Type 0} (t u : T → Bool) → ((x : T) → t x ≡ u x) → (places : List (Option T)) (cs : List ℕ) → passing t places cs ≡ passing u places cs
+pub passing-same : {T : Type 0} (t u : T → Bool) → ((x : T) → t x ≡ u x) → (places : List (Option T)) (cs : List ℕ)
+    → passing t places cs ≡ passing u places cs
 passing-same t u same places cs = filter_agree _ _ (λ p. by (row_at places p)) cs
   where
     by : (o : Option _) → passes t o ≡ passes u o

@@ -1,50 +1,34 @@
 -- What is asked of rows and answered by a look-up.
-use Rattle.std.proofs.Common.{◌≡◌, Bool, true, false, not, ap, List, [], ◌∷◌, ◌++◌, Option, Some, None, refl, sym, ◌∙◌, arith, rules, ℕ}
-use Rattle.std.specs.Prelude.{filter, map, find, is_some, ◌&&◌, ◌==◌, if◌then◌else◌}
-use Rattle.std.specs.List.{list_any, filter_map}
-use Rattle.std.specs.Option.{option_eq, option_map_or, option_to_list}
-use Rattle.std.specs.Str.{bytes_eq}
-use Rattle.std.proofs.Math.Bool.{beq}
-use Rattle.std.proofs.lemmas.Bool.{and_parts}
-use Rattle.std.proofs.lemmas.Slice.Eq.{bytes_eq-Decides}
-use Rattle.cni_addr.specs.declared.mac.Mac.{Mac}
-use Rattle.cni_addr.specs.Lists.{distinct, each_key_once}
-use Rattle.kernel_types.specs.contracts.object.AttPartialEq.TheImpl.{eq-value as att_eq-value}
+use Rattle.std.proofs.Common.{◌≡◌, Bool, true, false, not, ap, List, [], ◌∷◌, ◌++◌, Option, Some, None, refl, sym, ◌∙◌}
+use Rattle.std.proofs.{Common.{arith, rules, ℕ}, Math.Bool.beq, lemmas.{Bool.and_parts, Slice.Eq.bytes_eq-Decides}}
+use Rattle.std.specs.{List.{list_any, filter_map}, Option.{option_eq, option_map_or, option_to_list}, Prelude.filter}
+use Rattle.std.specs.{Prelude.{map, find, is_some, ◌&&◌, ◌==◌, if◌then◌else◌}, Str.bytes_eq}
+use Rattle.cni_addr.specs.{Lists.{distinct, each_key_once}, declared.mac.Mac.Mac}
+use Rattle.kernel_types.specs.Equal.{addr_eq, addr_obj_eq, att_eq, chain_eq, cidr_eq, key_eq, lease_eq, link_eq}
+use Rattle.kernel_types.specs.Equal.{link_kind_eq, mac_eq, route_eq, rule_eq, proto_eq, setting_eq, table_eq, tag_eq}
+use Rattle.kernel_types.specs.{Equal.target_eq, Keys.is_same_link, Sound.HasDistinctKeys, Terms.{is_at, is_bridge}}
+use Rattle.kernel_types.specs.Terms.{is_bridge_with, is_host_link, is_host_ns, owner_in}
 use Rattle.kernel_types.specs.contracts.object.AddrObjPartialEq.TheImpl.{eq-value as address_eq-value}
+use Rattle.kernel_types.specs.contracts.object.AttPartialEq.TheImpl.{eq-value as att_eq-value}
+use Rattle.kernel_types.specs.contracts.object.LeasePartialEq.TheImpl.{eq-value as lease_eq-value}
 use Rattle.kernel_types.specs.contracts.object.RouteObjPartialEq.TheImpl.{eq-value as route_eq-value}
+use Rattle.kernel_types.specs.contracts.object.SettingPartialEq.TheImpl.{eq-value as setting_eq-value}
+use Rattle.kernel_types.specs.contracts.object.TagPartialEq.TheImpl.{eq-value as tag_eq-value}
 use Rattle.kernel_types.specs.contracts.rule.RulePartialEq.TheImpl.{eq-value as rule_eq-value}
 use Rattle.kernel_types.specs.contracts.rule.TargetPartialEq.TheImpl.{eq-value as target_eq-value}
-use Rattle.kernel_types.specs.contracts.object.TagPartialEq.TheImpl.{eq-value as tag_eq-value}
-use Rattle.kernel_types.specs.declared.rule.Rule.{Rule}
-use Rattle.kernel_types.specs.declared.rule.Target.{Target}
+use Rattle.kernel_types.specs.declared.object.{AddrObj.AddrObj, Att.Att, Lease.Lease, Link.Link, RouteObj.RouteObj}
+use Rattle.kernel_types.specs.declared.object.{Setting.Setting, Tag.{Tag, TheVariants.{Outside, Base, Own}}}
+use Rattle.kernel_types.specs.declared.rule.{Rule.Rule, Target.Target}
 use Rattle.kernel_types.specs.declared.rule.Target.TheVariants as targets
-use Rattle.kernel_types.specs.contracts.object.SettingPartialEq.TheImpl.{eq-value as setting_eq-value}
-use Rattle.kernel_types.specs.contracts.object.LeasePartialEq.TheImpl.{eq-value as lease_eq-value}
-use Rattle.kernel_types.specs.Equal.{addr_eq, addr_obj_eq, att_eq, chain_eq, cidr_eq, key_eq, lease_eq, link_eq, link_kind_eq, mac_eq, route_eq, rule_eq, proto_eq, setting_eq, table_eq, tag_eq, target_eq}
-use Rattle.kernel_types.specs.Keys.{is_same_link}
-use Rattle.kernel_types.specs.Sound.{HasDistinctKeys}
-use Rattle.kernel_types.specs.Terms.{is_at, is_bridge, is_bridge_with, is_host_link, is_host_ns, owner_in}
-use Rattle.kernel_types.specs.declared.object.AddrObj.{AddrObj}
-use Rattle.kernel_types.specs.declared.object.Att.{Att}
-use Rattle.kernel_types.specs.declared.object.Lease.{Lease}
-use Rattle.kernel_types.specs.declared.object.Link.{Link}
-use Rattle.kernel_types.specs.declared.object.RouteObj.{RouteObj}
-use Rattle.kernel_types.specs.declared.object.Setting.{Setting}
-use Rattle.kernel_types.specs.declared.object.Tag.{Tag}
-use Rattle.kernel_types.specs.declared.object.Tag.TheVariants.{Outside, Base, Own}
-use Rattle.kernel_tables.specs.Places.{rows_of, row_at, passes, places_where, passing, first_of}
-use Rattle.kernel_tables.specs.Rows.{host_name, inner_ns, network_named, owner_named}
-use Rattle.kernel_tables.specs.Table.{is_key}
-use Rattle.kernel_types.proofs.Cases.{host_ns-eq, tag_eq-own}
-use Rattle.kernel_types.proofs.ListLemmas.{list_any-none}
-use Rattle.kernel_types.proofs.TouchRemoval.{one_place}
-use Rattle.kernel_tables.proofs.Namespaces.{inner-is}
-use Rattle.kernel_tables.proofs.Owned.{att-same, own-is}
-use Rattle.kernel_tables.proofs.Places.{any-first}
+use Rattle.kernel_tables.specs.{Places.{rows_of, row_at, passes, places_where, passing, first_of}, Rows.host_name}
+use Rattle.kernel_tables.specs.{Rows.{inner_ns, network_named, owner_named}, Table.is_key}
+use Rattle.kernel_types.proofs.{Cases.{host_ns-eq, tag_eq-own}, ListLemmas.list_any-none, TouchRemoval.one_place}
+use Rattle.kernel_tables.proofs.{Namespaces.inner-is, Owned.{att-same, own-is}, Places.any-first}
 
 -- ---- rows that pass, along a trail
 
-some-step : (g : ℕ → Bool) (c : ℕ) (cs : List ℕ) (b : Bool) → g c ≡ b → list_any g cs ≡ is_some (first_of (filter g cs)) → list_any g (c ∷ cs) ≡ is_some (first_of (filter g (c ∷ cs)))
+some-step : (g : ℕ → Bool) (c : ℕ) (cs : List ℕ) (b : Bool) → g c ≡ b → list_any g cs ≡ is_some (first_of (filter g cs))
+    → list_any g (c ∷ cs) ≡ is_some (first_of (filter g (c ∷ cs)))
 some-step g c cs true e rest = rw e refl
 some-step g c cs false e rest = rw e rest
 
@@ -52,13 +36,16 @@ some-first : (g : ℕ → Bool) (cs : List ℕ) → list_any g cs ≡ is_some (f
 some-first g [] = refl
 some-first g (c ∷ cs) = some-step g c cs (g c) refl (some-first g cs)
 
-pub any-along : {T : Type 0} (t : T → Bool) (places : List (Option T)) (trail : List ℕ) → passing t places trail ≡ places_where t places → list_any (λ p. passes t (row_at places p)) trail ≡ list_any t (rows_of places)
+pub any-along : {T : Type 0} (t : T → Bool) (places : List (Option T)) (trail : List ℕ)
+    → passing t places trail ≡ places_where t places
+    → list_any (λ p. passes t (row_at places p)) trail ≡ list_any t (rows_of places)
 any-along t places trail h =
     some-first (λ p. passes t (row_at places p)) trail ∙ any-first t places (passing t places trail) (sym h)
 
 -- ---- the owners of a network
 
-filter_map-cons : {A B : Type 0} (f : A → Option B) (x : A) (xs : List A) → filter_map f (x ∷ xs) ≡ option_to_list (f x) ++ filter_map f xs
+filter_map-cons : {A B : Type 0} (f : A → Option B) (x : A) (xs : List A)
+    → filter_map f (x ∷ xs) ≡ option_to_list (f x) ++ filter_map f xs
 filter_map-cons f x xs = by (f x) refl
   where
     by : (o : Option _) → f x ≡ o → filter_map f (x ∷ xs) ≡ option_to_list o ++ filter_map f xs
@@ -106,12 +93,14 @@ named-is name l = by (is_host_ns l.ns)
 host_link-at : (name : List ℕ) (l : Link) → is_host_link name l ≡ true → is_at [] name l ≡ true
 host_link-at name l h = grind (arith, host_ns-eq l.ns, h)
 
-one-named-step : {X : Type 0} (p t u : X → Bool) (x : X) (xs : List X) (b : Bool) → p x ≡ b → t x ≡ (p x && u x) → (p x ≡ true → list_any t xs ≡ false) → list_any t xs ≡ option_map_or u (find p xs) false
+one-named-step : {X : Type 0} (p t u : X → Bool) (x : X) (xs : List X) (b : Bool) → p x ≡ b → t x ≡ (p x && u x)
+    → (p x ≡ true → list_any t xs ≡ false) → list_any t xs ≡ option_map_or u (find p xs) false
     → list_any t (x ∷ xs) ≡ option_map_or u (find p (x ∷ xs)) false
 one-named-step p t u x xs true e is none rest = rw (is, e, none e) (grind arith)
 one-named-step p t u x xs false e is none rest = rw (is, e) rest
 
-one-found : {X : Type 0} (p t u : X → Bool) (same : X → X → Bool) → ((x : X) → t x ≡ (p x && u x)) → ((x y : X) → p x ≡ true → p y ≡ true → same x y ≡ true) → (xs : List X) → distinct same xs ≡ true
+one-found : {X : Type 0} (p t u : X → Bool) (same : X → X → Bool) → ((x : X) → t x ≡ (p x && u x))
+    → ((x y : X) → p x ≡ true → p y ≡ true → same x y ≡ true) → (xs : List X) → distinct same xs ≡ true
     → list_any t xs ≡ option_map_or u (find p xs) false
 one-found p t u same is one [] d = refl
 one-found p t u same is one (x ∷ xs) d =
@@ -121,7 +110,8 @@ one-found p t u same is one (x ∷ xs) d =
     (one-found p t u same is one xs parts.1)
 
 -- in a sound host one link of the host has the name: what is asked of all is asked of it
-pub one-named : (name : List ℕ) (t u : Link → Bool) → ((l : Link) → t l ≡ (is_host_link name l && u l)) → (links : List Link) → HasDistinctKeys is_same_link links
+pub one-named : (name : List ℕ) (t u : Link → Bool) → ((l : Link) → t l ≡ (is_host_link name l && u l))
+    → (links : List Link) → HasDistinctKeys is_same_link links
     → list_any t links ≡ option_map_or u (find (λ l. is_key bytes_eq (host_name l) name) links) false
 one-named name t u is links d =
     one-found (is_host_link name) t u (λ a b. is_same_link b a) is (λ x y h g. one_place [] name x y (host_link-at name x h) (host_link-at name y g)) links d
@@ -136,14 +126,16 @@ equal-place : (l link : Link) → link_eq l link ≡ true → is_at link.ns link
 equal-place l link h = grind (arith, h)
 
 -- a link that is equal to one of the host is one of its name
-pub equal-named : (link : Link) → is_host_ns link.ns ≡ true → (l : Link) → link_eq l link ≡ (is_host_link link.name l && link_eq l link)
+pub equal-named : (link : Link) → is_host_ns link.ns ≡ true → (l : Link)
+    → link_eq l link ≡ (is_host_link link.name l && link_eq l link)
 equal-named link host l =
     absorbs (is_host_link link.name l) (link_eq l link)
     (λ h. let at = and_parts (bytes_eq l.ns link.ns) (bytes_eq l.name link.name) (equal-place l link h) in
     let ns : is_host_ns l.ns ≡ true = ap is_host_ns ((bytes_eq-Decides l.ns link.ns).0 at.0) ∙ host in
     grind (arith, ns, at.1))
 
-last_test : (a b c d e f g h i j k l : Bool) → (a && (b && (c && (d && (e && (f && (g && (h && (i && (j && (k && l))))))))))) ≡ true → l ≡ true
+last_test : (a b c d e f g h i j k l : Bool)
+    → (a && (b && (c && (d && (e && (f && (g && (h && (i && (j && (k && l))))))))))) ≡ true → l ≡ true
 last_test a b c d e f g h i j k l all = grind (arith, all)
 
 equal-tag : (l link : Link) → link_eq l link ≡ true → tag_eq l.tag link.tag ≡ true
@@ -152,18 +144,21 @@ equal-tag l link h =
     (l.mtu == link.mtu) (beq l.hairpin link.hairpin) (beq l.promisc link.promisc) (beq l.allmulti link.allmulti) (l.tx_qlen == link.tx_qlen) (tag_eq l.tag link.tag) h
 
 -- a link that is equal to the attachment's is its own too
-pub equal-owned : (att : Att) (link : Link) → link.tag ≡ Own att → (l : Link) → link_eq l link ≡ (is_key att_eq-value.it (owner_named l.tag) att && link_eq l link)
+pub equal-owned : (att : Att) (link : Link) → link.tag ≡ Own att → (l : Link)
+    → link_eq l link ≡ (is_key att_eq-value.it (owner_named l.tag) att && link_eq l link)
 equal-owned att link tag l =
     absorbs (is_key att_eq-value.it (owner_named l.tag) att) (link_eq l link)
     (λ h. own-is att_eq-value.it att-same att l.tag ∙ sym (tag_eq-own att l.tag) ∙ ap (tag_eq l.tag) (sym tag) ∙ equal-tag l link h)
 
 -- a link that is equal to one elsewhere is in its namespace
-pub equal-sited : (link : Link) → is_host_ns link.ns ≡ false → (l : Link) → link_eq l link ≡ (is_key bytes_eq (inner_ns l.ns) link.ns && link_eq l link)
+pub equal-sited : (link : Link) → is_host_ns link.ns ≡ false → (l : Link)
+    → link_eq l link ≡ (is_key bytes_eq (inner_ns l.ns) link.ns && link_eq l link)
 equal-sited link inner l =
     absorbs (is_key bytes_eq (inner_ns l.ns) link.ns) (link_eq l link)
     (λ h. inner-is link.ns inner l.ns ∙ (and_parts (bytes_eq l.ns link.ns) (bytes_eq l.name link.name) (equal-place l link h)).0)
 
-pub bridge-named : (name : List ℕ) (mac : Mac) (l : Link) → is_bridge_with name mac l ≡ (is_host_link name l && (is_bridge l.kind && mac_eq l.mac mac))
+pub bridge-named : (name : List ℕ) (mac : Mac) (l : Link)
+    → is_bridge_with name mac l ≡ (is_host_link name l && (is_bridge l.kind && mac_eq l.mac mac))
 bridge-named name mac l = grind arith
 
 -- ---- what `==` computes of whole objects

@@ -1,10 +1,6 @@
 -- What the objects of a host are found by.
 use Rattle.std.specs.Prelude.{ℕ, List, Option, Some, None, if◌then◌else◌}
-use Rattle.kernel_types.specs.Terms.{is_host_ns}
-use Rattle.kernel_types.specs.declared.object.Att.{Att}
-use Rattle.kernel_types.specs.declared.object.Link.{Link}
-use Rattle.kernel_types.specs.declared.object.LinkKey.{LinkKey}
-use Rattle.kernel_types.specs.declared.object.Tag.{Tag}
+use Rattle.kernel_types.specs.{Terms.is_host_ns, declared.object.{Att.Att, Link.Link, LinkKey.LinkKey, Tag.Tag}}
 use Rattle.kernel_types.specs.declared.object.Tag.TheVariants.{Outside, Base, Own}
 
 -- the attachment that a tag names

@@ -73,7 +73,8 @@ impl Tables {
 /// Four go further, and never beyond their own: `OwnersOf` takes a step for each object of its kind and network;
 /// `NsChange` that takes a namespace away, for each link and setting in it, and what is on the links; `Outside`, for
 /// each rule of its table, or what is on its link; and `HasObj` of a link that nobody owns and that isn't in the host's
-/// own namespace, for each link that ever was in the link's. Objects that went cost the first three one more step, once.
+/// own namespace, for each link that ever was in the link's. Objects that went cost the first three one more step,
+/// once.
 /// `LeaseNext` and `PoolFree` take two steps for each range of the set, however many addresses are leased.
 #[derive(Drop)]
 pub struct TableKernel {

@@ -1,10 +1,8 @@
 use Rattle.std.proofs.Common.{◌≡◌, ◌∙◌, Some, ap, sym, rules}
-use Rattle.std.specs.Prelude.{nat_lt}
-use Rattle.std.specs.List.{list_all}
+use Rattle.std.specs.{List.list_all, Prelude.nat_lt}
 use Rattle.indexmap.specs.IndexMap.{get}
 use Rattle.kernel_tables.specs.Table.{has_key}
-use Rattle.kernel_tables.proofs.Noted.{passing-same, trails-trimmed}
-use Rattle.kernel_tables.proofs.Places.{inside-drop}
+use Rattle.kernel_tables.proofs.{Noted.{passing-same, trails-trimmed}, Places.inside-drop}
 use Rattle.kernel_tables.proofs.indexes.first_place.Goals as goal
 
 pub returns-in-Some-clause-trails : goal.returns-in-Some-clause-trails

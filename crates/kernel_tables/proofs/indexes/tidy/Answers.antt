@@ -1,11 +1,8 @@
 use Rattle.std.proofs.Common.{◌≡◌, ◌∙◌, Some, ap, sym, rules}
-use Rattle.std.specs.Prelude.{nat_lt}
-use Rattle.std.specs.List.{list_all}
+use Rattle.std.specs.{List.list_all, Prelude.nat_lt}
 use Rattle.indexmap.specs.IndexMap.{get}
-use Rattle.kernel_tables.specs.Places.{passes, passing, row_at}
-use Rattle.kernel_tables.specs.Table.{has_key}
-use Rattle.kernel_tables.proofs.Noted.{passing-same, trails-trimmed}
-use Rattle.kernel_tables.proofs.Places.{inside-filter, passing-twice}
+use Rattle.kernel_tables.specs.{Places.{passes, passing, row_at}, Table.has_key}
+use Rattle.kernel_tables.proofs.{Noted.{passing-same, trails-trimmed}, Places.{inside-filter, passing-twice}}
 use Rattle.kernel_tables.proofs.indexes.tidy.Goals as goal
 
 pub returns-in-Some-clause-trails : goal.returns-in-Some-clause-trails

@@ -1,9 +1,5 @@
-use Rattle.std.proofs.Common.{◌≡◌, ◌∙◌, [], Some, None, ap, sym, rules}
-use Rattle.std.specs.List.{filter_map}
-use Rattle.std.specs.Option.{option_map_or}
-use Rattle.std.specs.Str.{bytes_eq}
-use Rattle.std.specs.VecDeque.{deque_items}
-use Rattle.std.proofs.lemmas.Result.{IfOk-weaker}
+use Rattle.std.proofs.{Common.{◌≡◌, ◌∙◌, [], Some, None, ap, sym, rules}, lemmas.Result.IfOk-weaker}
+use Rattle.std.specs.{List.filter_map, Option.option_map_or, Str.bytes_eq, VecDeque.deque_items}
 use Rattle.cni_addr.specs.Lists.{each_key_once}
 use Rattle.indexmap.specs.IndexMap.{get}
 use Rattle.kernel_tables.specs.Places.{rows_at}

@@ -1,12 +1,8 @@
 use Rattle.std.proofs.Common.{◌≡◌, ◌&&◌, ◌∙◌, [], ap, sym, None, Some, rules}
-use Rattle.std.specs.List.{list_any}
-use Rattle.std.specs.Option.{option_map_or}
-use Rattle.std.specs.VecDeque.{deque_items}
+use Rattle.std.specs.{List.list_any, Option.option_map_or, VecDeque.deque_items}
 use Rattle.indexmap.specs.IndexMap.{get}
-use Rattle.kernel_tables.specs.Places.{passes, passing, places_where, row_at}
-use Rattle.kernel_tables.specs.Table.{has_key}
-use Rattle.kernel_tables.proofs.Along.{both-along}
-use Rattle.kernel_tables.proofs.Questions.{any-along}
+use Rattle.kernel_tables.specs.{Places.{passes, passing, places_where, row_at}, Table.has_key}
+use Rattle.kernel_tables.proofs.{Along.both-along, Questions.any-along}
 use Rattle.kernel_tables.proofs.table.Table.any_at.Goals as goal
 
 pub returns-in-Some : goal.returns-in-Some

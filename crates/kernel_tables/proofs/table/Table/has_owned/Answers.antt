@@ -1,9 +1,6 @@
 use Rattle.std.proofs.Common.{◌≡◌, ◌∙◌, ap, refl, sym, subst, rules}
-use Rattle.std.specs.Prelude.{is_some}
-use Rattle.std.specs.List.{list_any}
-use Rattle.kernel_tables.specs.Places.{first_of, passing, places_where}
-use Rattle.kernel_tables.specs.Table.{has_key, AreTrails}
-use Rattle.kernel_tables.specs.Trails.{trail_of}
+use Rattle.std.specs.{List.list_any, Prelude.is_some}
+use Rattle.kernel_tables.specs.{Places.{first_of, passing, places_where}, Table.{has_key, AreTrails}, Trails.trail_of}
 use Rattle.kernel_tables.proofs.Places.{any-first}
 use Rattle.kernel_tables.proofs.table.Table.has_owned.Goals as goal
 

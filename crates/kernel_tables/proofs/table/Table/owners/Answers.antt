@@ -1,12 +1,7 @@
-use Rattle.std.proofs.Common.{◌≡◌, ◌∙◌, ap, refl, sym, subst}
-use Rattle.std.specs.Prelude.{filter}
-use Rattle.std.specs.List.{filter_map}
-use Rattle.std.specs.Str.{bytes_eq}
-use Rattle.std.proofs.lemmas.Result.{IfOk-weaker}
+use Rattle.std.proofs.{Common.{◌≡◌, ◌∙◌, ap, refl, sym, subst}, lemmas.Result.IfOk-weaker}
+use Rattle.std.specs.{List.filter_map, Prelude.filter, Str.bytes_eq}
 use Rattle.cni_addr.specs.Lists.{each_key_once}
-use Rattle.kernel_tables.specs.Places.{passing, places_where, rows_at}
-use Rattle.kernel_tables.specs.Table.{has_key, AreTrails}
-use Rattle.kernel_tables.specs.Trails.{trail_of}
+use Rattle.kernel_tables.specs.{Places.{passing, places_where, rows_at}, Table.{has_key, AreTrails}, Trails.trail_of}
 use Rattle.kernel_tables.proofs.Owners.{rows-where}
 use Rattle.kernel_tables.proofs.table.Table.owners.Goals as goal
 

@@ -1,10 +1,8 @@
 use Rattle.std.proofs.Common.{◌≡◌, ◌++◌, ◌∷◌, [], ◌∙◌, ap, refl, Some, None, length, set, rules}
-use Rattle.std.specs.List.{list_any}
-use Rattle.std.specs.Str.{bytes_eq}
-use Rattle.kernel_tables.specs.Places.{rows_of}
-use Rattle.kernel_tables.specs.Table.{has_key}
-use Rattle.kernel_tables.proofs.Places.{Finds-kept, rows_of-push_none, rows_of-push, set-pushed}
-use Rattle.kernel_tables.proofs.Noted.{no_row, index-noted, trails-noted}
+use Rattle.std.specs.{List.list_any, Str.bytes_eq}
+use Rattle.kernel_tables.specs.{Places.rows_of, Table.has_key}
+use Rattle.kernel_tables.proofs.{Noted.{no_row, index-noted, trails-noted}, Places.{Finds-kept, rows_of-push_none}}
+use Rattle.kernel_tables.proofs.Places.{rows_of-push, set-pushed}
 use Rattle.kernel_tables.proofs.table.Table.push.Goals as goal
 
 pub invariant_of-self-in_err-note_place : goal.invariant_of-self-in_err-note_place

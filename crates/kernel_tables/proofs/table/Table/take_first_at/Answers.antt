@@ -1,9 +1,7 @@
-use Rattle.std.proofs.Common.{◌≡◌, ◌∙◌, ap, refl, sym, subst, None, set, rules}
+use Rattle.std.proofs.{Common.{◌≡◌, ◌∙◌, ap, refl, sym, subst, None, set, rules}, lemmas.List.get_or_default}
 use Rattle.std.specs.Prelude.{find}
-use Rattle.std.proofs.lemmas.List.{get_or_default}
 use Rattle.cni_addr.specs.Lists.{without_first}
-use Rattle.kernel_tables.specs.Places.{first_of, passing, places_where, rows_of}
-use Rattle.kernel_tables.specs.Table.{has_key, AreTrails}
+use Rattle.kernel_tables.specs.{Places.{first_of, passing, places_where, rows_of}, Table.{has_key, AreTrails}}
 use Rattle.kernel_tables.specs.Trails.{trail_of}
 use Rattle.kernel_tables.proofs.Places.{Finds-clear, goes-first, none-goes}
 use Rattle.kernel_tables.proofs.table.Table.take_first_at.Goals as goal

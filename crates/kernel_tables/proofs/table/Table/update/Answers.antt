@@ -1,11 +1,7 @@
-use Rattle.std.proofs.Common.{◌≡◌, ◌∙◌, ap, sym, [], ◌∷◌, Some, None, length, set, rules}
-use Rattle.std.specs.Prelude.{map, if◌then◌else◌}
-use Rattle.std.specs.Option.{option_map, option_to_list}
-use Rattle.std.specs.Str.{bytes_eq}
-use Rattle.std.proofs.lemmas.List.{get_or_default}
+use Rattle.std.proofs.{Common.{◌≡◌, ◌∙◌, ap, sym, [], ◌∷◌, Some, None, length, set, rules}, lemmas.List.get_or_default}
+use Rattle.std.specs.{Option.{option_map, option_to_list}, Prelude.{map, if◌then◌else◌}, Str.bytes_eq}
 use Rattle.indexmap.specs.IndexMap.{get}
-use Rattle.kernel_tables.specs.Places.{passing, places_where, rows_of}
-use Rattle.kernel_tables.specs.Table.{has_key, is_key}
+use Rattle.kernel_tables.specs.{Places.{passing, places_where, rows_of}, Table.{has_key, is_key}}
 use Rattle.kernel_tables.proofs.Places.{Finds-changed, rows_of-changed, unless-test, noted-within, none-changed}
 use Rattle.kernel_tables.proofs.table.Table.update.Goals as goal
 

@@ -1,8 +1,6 @@
 use Rattle.std.proofs.Common.{◌≡◌, ◌∙◌, ap, sym, not, true, None, Some, refl, rules, false}
 use Rattle.std.specs.Prelude.{filter, find}
-use Rattle.kernel_types.specs.Terms.{has_ns_in, is_at}
-use Rattle.kernel_types.specs.declared.call.Reply.TheVariants.{Gone}
-use Rattle.kernel_types.specs.declared.object.Host.{Host}
+use Rattle.kernel_types.specs.{Terms.{has_ns_in, is_at}, declared.{call.Reply.TheVariants.Gone, object.Host.Host}}
 use Rattle.kernel_types.specs.declared.object.Link.{Link}
 use Rattle.kernel_tables.specs.Leaving.{left_with}
 use Rattle.kernel_tables.proofs.Leaving.{drop_link-none, drop_link-there}

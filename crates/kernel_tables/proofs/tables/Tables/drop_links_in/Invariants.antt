@@ -1,6 +1,5 @@
 use Rattle.std.proofs.Common.{◌≡◌, length}
-use Rattle.kernel_types.specs.Apply.Calls.{goes_with_ns, without_links}
-use Rattle.kernel_types.specs.Sound.{IsSound}
+use Rattle.kernel_types.specs.{Apply.Calls.{goes_with_ns, without_links}, Sound.IsSound}
 use Rattle.kernel_tables.proofs.tables.Tables.drop_links_in.Given as goal
 
 -- the host so far is sound, and without what goes with the namespace it is what it was at first without that

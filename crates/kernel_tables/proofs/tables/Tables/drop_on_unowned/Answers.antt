@@ -1,7 +1,6 @@
 use Rattle.std.proofs.Common.{◌≡◌, ◌∙◌, not}
 use Rattle.std.specs.Prelude.{filter}
-use Rattle.kernel_types.specs.declared.object.AddrObj.{AddrObj}
-use Rattle.kernel_types.specs.declared.object.RouteObj.{RouteObj}
+use Rattle.kernel_types.specs.declared.object.{AddrObj.AddrObj, RouteObj.RouteObj}
 use Rattle.kernel_tables.specs.Leaving.{is_unowned_on}
 use Rattle.kernel_tables.proofs.Leaving.{gone-unowned}
 use Rattle.kernel_tables.proofs.tables.Tables.drop_on_unowned.Goals as goal

@@ -1,16 +1,9 @@
-use Rattle.std.proofs.Common.{◌≡◌, ◌∙◌, ap, sym, rules}
+use Rattle.std.proofs.{Common.{◌≡◌, ◌∙◌, ap, sym, rules}, lemmas.Result.IfOk-weaker}
 use Rattle.std.specs.List.{filter_map}
-use Rattle.std.proofs.lemmas.Result.{IfOk-weaker}
 use Rattle.cni_addr.specs.Lists.{each_key_once}
-use Rattle.kernel_types.specs.Apply.Calls.{tags_of}
-use Rattle.kernel_types.specs.Equal.{att_eq}
-use Rattle.kernel_types.specs.Terms.{owner_in}
+use Rattle.kernel_types.specs.{Apply.Calls.tags_of, Equal.att_eq, Terms.owner_in, declared.object.CachedObj.CachedObj}
+use Rattle.kernel_types.specs.declared.{object.{Lease.Lease, Link.Link, Setting.Setting}, rule.Rule.Rule}
 use Rattle.kernel_types.specs.declared.call.Kind.TheVariants as kinds
-use Rattle.kernel_types.specs.declared.object.CachedObj.{CachedObj}
-use Rattle.kernel_types.specs.declared.object.Lease.{Lease}
-use Rattle.kernel_types.specs.declared.object.Link.{Link}
-use Rattle.kernel_types.specs.declared.object.Setting.{Setting}
-use Rattle.kernel_types.specs.declared.rule.Rule.{Rule}
 use Rattle.kernel_tables.proofs.Questions.{owners-once}
 use Rattle.kernel_tables.proofs.tables.Tables.owners.Goals as goal
 
