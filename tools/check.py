@@ -26,6 +26,7 @@ import places
 SUFFIXES = (".conf", ".conflist", ".json")
 # a range set with fewer addresses is told
 FEW = 2
+UNKNOWN = "engines.json doesn't say what to write for these in an engine's list"
 LEVELS = {"refused": "error", "warning": "warning", "ignored": "note"}
 
 
@@ -186,7 +187,7 @@ def told_of_mending(name):
     done = mending.mend(file.value, refusals)
     if done is None:
         told = [file.finding("not mended", it.place, f"{it.reason}; {it.remedy}") for it in refusals]
-        return None, [*told, file.finding("not mended", (), "engines.json doesn't say what to write for these in an engine's list")]
+        return None, [*told, file.finding("not mended", (), UNKNOWN)]
     mended, changes = done
     return mended, [file.finding("mended", it.place, it.sentence) for it in changes]
 

@@ -1,13 +1,14 @@
 #!/usr/bin/env python3
 """Draws a dump as an SVG picture.
 
-    ./cnitool --dump PODS LIST .. | tools/diagram.py >PICTURE.svg
+    ./cnitool --dump PODS LIST .. | tools/diagram.py [--only ATTACHMENT ..] >PICTURE.svg
 
 Each namespace is a box, the host's the lowest. A line joins the two ends of a veth pair, a port and its bridge, or a
 macvlan link and its master; an arrow is a published port, one a family; a rule is written as for iptables. What an
 attachment owns has its colour, and is dashed where the attachment has no cached result; what all share is black. There
 are six colours, which begin anew with the seventh attachment. Hardware addresses, queue lengths and the last leased
-addresses aren't drawn.
+addresses aren't drawn. With --only the picture has these attachments, each as NETWORK/CONTAINER/IFNAME, with their
+namespaces, and what all share.
 """
 
 import dataclasses
@@ -97,11 +98,23 @@ class Column:
             box.x = self.middle - box.width // 2
 
 
-class Dump:
-    """The objects of a dump, by kind."""
+def narrowed(objects, owners):
+    """What these attachments own, and what no attachment owns in their namespaces and in the host's."""
+    namespaces = {"", *(it["ns"] for it in objects if it.get("tag") in owners and "ns" in it)}
 
-    def __init__(self, lines):
+    def is_kept(it):
+        place = it["name"] if it["kind"] == "namespace" else it.get("ns", "")
+        return it["tag"] in owners if "/" in it.get("tag", "") else place in namespaces
+
+    return [it for it in objects if is_kept(it)]
+
+
+class Dump:
+    """The objects of a dump, by kind; of some attachments alone where any are named."""
+
+    def __init__(self, lines, only=()):
         objects = [value for value in map(json.loads, lines) if "kind" in value]
+        objects = narrowed(objects, only) if only else objects
         self.by_kind = {}
         for value in objects:
             self.by_kind.setdefault(value["kind"], []).append(value)
@@ -324,13 +337,20 @@ def draw(dump):
     for place, row in enumerate(scene.rows):
         picture.row(scene.host.x, scene.rows_top + LINE_HEIGHT * place + PAD, row, scene.widths)
     legend = picture.legend(scene.host.x, scene.host.bottom + GAP + PAD)
-    return picture.svg(max(scene.host.right, legend) + GAP, scene.host.bottom + 2 * GAP + LINE_HEIGHT * len(dump.owners))
+    height = scene.host.bottom + 2 * GAP + LINE_HEIGHT * len(dump.owners)
+    return picture.svg(max(scene.host.right, legend) + GAP, height)
 
 
 def main():
-    dump = Dump(sys.stdin)
+    option, *only = sys.argv[1:] or [""]
+    if option not in ("", "--only") or bool(option) != bool(only):
+        sys.exit(__doc__)
+    dump = Dump(sys.stdin, only)
     if not dump.by_kind:
         sys.exit("diagram.py: no line of a dump; give the program --dump")
+    unknown = [it for it in only if it not in dump.owners]
+    if unknown:
+        sys.exit(f"diagram.py: no such attachment: {' '.join(unknown)}")
     sys.stdout.write(draw(dump))
 
 

@@ -69,7 +69,7 @@ def lines_of(number, packet, rules, left_over):
 
 def main():
     signal.signal(signal.SIGPIPE, signal.SIG_DFL)
-    if len(sys.argv) != 2:
+    if len(sys.argv) != 2 or sys.argv[1].startswith("-"):
         sys.exit(__doc__)
     with open(sys.argv[1], encoding="utf-8") as file:
         packets = json.load(file)

@@ -24,7 +24,7 @@ def table(objects, keys):
 
 
 def main():
-    if len(sys.argv) < 2:
+    if len(sys.argv) < 2 or sys.argv[1].startswith("-"):
         sys.exit(__doc__)
     kind, *keys = sys.argv[1:]
     values = [value for value in map(json.loads, sys.stdin) if "kind" in value]

@@ -168,9 +168,10 @@ def mend(program):
         yield "engine_lists.json hasn't a list for each change"
     by_nerdctl = next(it for it in read_json(TOP / "tests/readers/network_lists.json") if "nerdctl" in it["about"])
     isolated = next(it["list"] for it in rows if it["file"] == "isolate.conflist")
+    first, *later = isolated["plugins"]
     others = {
         "another engine's": by_nerdctl["input"].encode("utf-8"),
-        "with a key of its own": {**isolated, "plugins": [{**isolated["plugins"][0], "x": 1}, *isolated["plugins"][1:]]},
+        "with a key of its own": {**isolated, "plugins": [{**first, "x": 1}, *later]},
         "with another fault": {**isolated, "name": "a b"},
         "a pod file": PODS,
         "no JSON": b"{",

@@ -8,8 +8,10 @@
 - crashes:     with each call no less is left, and at the last what the dump has;
 - fates:       each row of packets is read as the program reads it, and another fate is told apart;
 - changes:     what the calls of a run changed, one after another, leads from the opening to the last dump;
-- pictures:    each is XML, the same twice, and says each name and address; frames are within one another or apart;
-- completion:  the options of README's table.
+- pictures:    each is XML, the same twice, and says each name and address; frames are within one another or apart; one
+               of an attachment alone names no other;
+- completion:  the options of README's table;
+- usage:       each says how it is used.
 """
 
 import collections
@@ -205,8 +207,23 @@ def pictures(program):
         with in_folder(files) as folder:
             dump = dump_of(program, files, folder)
         yield from (f"{name}: {it}" for it in wrong_of_picture(dump))
+        owners = diagram.Dump(dump).owners
+        for owner in owners:
+            drawn = diagram.draw(diagram.Dump(dump, [owner]))
+            if [it for it in owners if it in drawn] != [owner]:
+                yield f"{name}: {owner} isn't drawn alone"
     if output_of("diagram.py", [])[1] == 0:
         yield "no dump is drawn"
+    if output_of("diagram.py", ["--only", "pods/none/eth0"], DUMP)[1] == 0:
+        yield "an attachment that isn't there is drawn"
+
+
+def usage(_):
+    """Each tool that one runs prints how, where it is asked or can't make sense of its words."""
+    for tool in ("changes.py", "check.py", "crashes.py", "diagram.py", "fates.py", "show.py", "table.py"):
+        ended = subprocess.run([TOOLS / tool, "--help"], stdin=subprocess.DEVNULL, capture_output=True, check=False)
+        if f"tools/{tool}".encode() not in ended.stdout + ended.stderr and b"usage: " not in ended.stdout:
+            yield f"{tool}: {ended}"
 
 
 def completion(_):
@@ -229,7 +246,7 @@ def completion(_):
 
 def main():
     program = program_of(sys.argv[1:])
-    tried = (table, show, crashes, fates, changes, pictures, completion)
+    tried = (table, show, crashes, fates, changes, pictures, completion, usage)
     failed = count_failed((it.__name__, list(it(program))) for it in tried)
     print(f"tools: {failed} wrong")
     return 1 if failed else 0
