@@ -3,14 +3,14 @@
 
     check.py [PROGRAM]
 
-Each file that a document names in backticks is there. Each `crate::item` is an item of that crate, each `crate/edit` an
-edit that must be refused, and each bare name in the documents on the code stands in some crate. docs/GUARANTEES.md
-names every law. The picture of docs/ARCHITECTURE.md has every crate above those that it stands on, and the page names
-every file that tells plugins apart. Each definition of docs/DEFINITIONS.md stands in the file beside it. docs/INDEX.md
-is what index.py finds, and definitions and proofs begin with their imports as imports.py lays them out. examples/first
-is as the data of crates/cnitool, and examples/plugins as the pages of the plugins. Some command of the documents makes
-each picture, and the vectors that vectors/README.md shows are in its files. With a program, the documents' sessions and
-examples are run by examples.py.
+Each file that a document names in backticks is there, and so is what each link leads to. Each `crate::item` is an item
+of that crate, each `crate/edit` an edit that must be refused, and each bare name in the documents on the code stands in
+some crate. docs/GUARANTEES.md names every law. The picture of docs/ARCHITECTURE.md has every crate above those that it
+stands on, and the page names every file that tells plugins apart. Each definition of docs/DEFINITIONS.md stands in the
+file beside it. docs/INDEX.md is what index.py finds, and definitions and proofs begin with their imports as imports.py
+lays them out. examples/first is as the data of crates/cnitool, and examples/plugins as the pages of the plugins. Some
+command of the documents makes each picture, and the vectors that vectors/README.md shows are in its files. With a
+program, the documents' sessions and examples are run by examples.py.
 """
 
 import os
@@ -59,6 +59,23 @@ def missing_files(text):
         places = [TOP / word, TOP / "crates" / word, TOP / "docs" / word]
         if not any(it.exists() for it in places) and not word.startswith(("specs/", "proofs/", "src/", "must-fail/")):
             yield f"no file {word}"
+
+
+def anchors_of(text):
+    """The anchors of a page's headings, as they are made of their words."""
+    headings = re.findall(r"^#+ (.*)", text, re.MULTILINE)
+    return {re.sub(r"[^\w -]", "", it.lower()).replace(" ", "-") for it in headings}
+
+
+def missing_links(path, text):
+    """The links within the repository that lead to no file, or to no heading of one."""
+    for link in re.findall(r"\]\(([^)\s]+)\)", text):
+        name, _, anchor = link.partition("#")
+        target = (path.parent / name).resolve() if name else path
+        if link.startswith("http"):
+            continue
+        if not target.exists() or anchor and anchor not in anchors_of(target.read_text(encoding="utf-8")):
+            yield f"no place {link}"
 
 
 def missing_items(text, sources):
@@ -160,6 +177,7 @@ def missing_definitions(text):
 def wrong_in(path, sources, program):
     text = path.read_text(encoding="utf-8")
     yield from missing_files(text)
+    yield from missing_links(path, text)
     yield from missing_items(text, sources)
     yield from missing_edits(text)
     if path.name in ON_THE_CODE:
