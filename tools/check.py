@@ -62,14 +62,14 @@ class File:
 
 
 def read(name):
-    """The file of this name, or a finding where it is no JSON."""
+    """The file of this name, or a finding where it isn't JSON."""
     try:
         data = pathlib.Path(name).read_bytes()
         text = data.decode("utf-8")
         return File(name, text, places.of_text(text))
     except UnicodeDecodeError as error:
         line, column = places.line_and_column(data[: error.start].decode("utf-8"), error.start)
-        return Finding(name, line, column, "refused", "this is no UTF-8")
+        return Finding(name, line, column, "refused", "this isn't UTF-8")
     except json.JSONDecodeError as error:
         return Finding(name, error.lineno, error.colno, "refused", error.msg)
     except (ValueError, RecursionError) as error:

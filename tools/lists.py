@@ -176,7 +176,7 @@ def of_keys(name, plugin, place):
     for key, (taken, remedy) in OF_PLUGIN[name].items():
         value, there = plugin.get(key), (*place, key)
         if value is not None and not is_taken(value, taken):
-            yield invalid(there, key, f"{text_of(value)} isn't taken", remedy)
+            yield invalid(there, key, f"{text_of(value)} isn't accepted", remedy)
         elif key == "master" and value is None:
             yield invalid(there, key, "there is none", "name a link of the host")
         elif value is not None:
@@ -188,7 +188,7 @@ def of_keys(name, plugin, place):
 def of_capabilities(value, place):
     if not isinstance(value.get("portMappings"), (bool, type(None))):
         said = text_of(value["portMappings"])
-        yield invalid((*place, "portMappings"), "capabilities", f"{said} isn't taken", TRUTH[1])
+        yield invalid((*place, "portMappings"), "capabilities", f"{said} isn't accepted", TRUTH[1])
 
 
 def of_sysctl(value, place):
@@ -199,7 +199,7 @@ def of_sysctl(value, place):
         if not key.startswith("net."):
             yield invalid(there, "sysctl", "only settings of a network namespace can be set", "write net. and dots")
         elif not is_text(setting):
-            yield invalid(there, "sysctl", f"{text_of(setting)} is no text", "put it into quotes")
+            yield invalid(there, "sysctl", f"{text_of(setting)} isn't a text", "put it into quotes")
         elif "IFNAME" in key:
             yield unsupported(there, setting, "write the interface's name in place of IFNAME")
 
@@ -219,12 +219,12 @@ def of_dns(dns, place):
     if dns is None:
         return
     if not is_object(dns):
-        yield invalid(place, "dns", "it is no object", 'write {"nameservers":["192.0.2.1"]}')
+        yield invalid(place, "dns", "it isn't an object", 'write {"nameservers":["192.0.2.1"]}')
         return
     for key, is_of_kind in kinds.items():
         if dns.get(key) is not None and not is_of_kind(dns[key]):
             remedy = "write a text" if key == "domain" else "write a list of texts"
-            yield invalid((*place, key), "dns", f"{text_of(dns[key])} isn't taken", remedy)
+            yield invalid((*place, key), "dns", f"{text_of(dns[key])} isn't accepted", remedy)
 
 
 def sets_of(ipam, place):
@@ -251,7 +251,7 @@ def of_range(place, given):
     if subnet is None or subnet.prefixlen not in PREFIXES[subnet.version]:
         loose = network_of(given.get("subnet"), strict=False)
         remedy = f"write {loose}" if loose and not subnet else "write a CIDR of prefix 8 to 30, of IPv6 8 to 126"
-        yield invalid((*place, "subnet"), "subnet", f"{text_of(given.get('subnet'))} is no subnet", remedy)
+        yield invalid((*place, "subnet"), "subnet", f"{text_of(given.get('subnet'))} isn't a subnet", remedy)
         return None
     ends = {"rangeStart": subnet[1], "rangeEnd": subnet[-2]}
     for key in ends:
@@ -263,12 +263,12 @@ def of_range(place, given):
                 return None
     first, last = ends.values()
     if first > last:
-        yield invalid((*place, "rangeStart"), "rangeStart", f"{first} is above the end, {last}", "turn them round")
+        yield invalid((*place, "rangeStart"), "rangeStart", f"{first} is above the end, {last}", "swap them")
         return None
     if given.get("gateway") is not None:
         gateway = address_of(given["gateway"])
         if gateway is None or gateway.version != subnet.version:
-            reason = f"{text_of(given['gateway'])} is no IPv{subnet.version} address"
+            reason = f"{text_of(given['gateway'])} isn't an IPv{subnet.version} address"
             yield invalid((*place, "gateway"), "gateway", reason, "write one")
             return None
     return first, last
@@ -298,15 +298,15 @@ def of_routes(routes, place):
     if routes is None:
         return
     if not isinstance(routes, list) or not all(map(is_object, routes)):
-        yield invalid(place, "routes", "it is no list of objects", 'write [{"dst":"0.0.0.0/0"}]')
+        yield invalid(place, "routes", "it isn't a list of objects", 'write [{"dst":"0.0.0.0/0"}]')
         return
     for number, route in enumerate(routes):
         to = network_of(route.get("dst"), strict=False)
         gateway = address_of(route.get("gw"))
         if to is None:
-            yield invalid((*place, number, "dst"), "routes", f"{text_of(route.get('dst'))} is no CIDR", "write one")
+            yield invalid((*place, number, "dst"), "routes", f"{text_of(route.get('dst'))} isn't a CIDR", "write one")
         elif route.get("gw") is not None and (gateway is None or gateway.version != to.version):
-            reason = f"{text_of(route['gw'])} is no IPv{to.version} address"
+            reason = f"{text_of(route['gw'])} isn't an IPv{to.version} address"
             yield invalid((*place, number, "gw"), "routes", reason, "write one")
 
 
@@ -337,7 +337,7 @@ def of_ipam(name, ipam, place):
 def of_plugin(number, plugin, before):
     place = ("plugins", number)
     if not is_object(plugin):
-        yield invalid(place, "plugins", f"{text_of(plugin)} is no object", 'write {"type":"bridge"}')
+        yield invalid(place, "plugins", f"{text_of(plugin)} isn't an object", 'write {"type":"bridge"}')
         return
     name = plugin.get("type")
     if name not in (*FIRST, *CHAINED):
@@ -345,10 +345,10 @@ def of_plugin(number, plugin, before):
         yield invalid((*place, "type"), "type", f"{text_of(name)} isn't among the plugins", remedy)
         return
     if (name in FIRST) != (number == 0):
-        remedy = f"begin with one of {', '.join(FIRST)}" if number == 0 else "leave it out; only the first makes a link"
-        yield invalid(place, "plugins", f"{name} can't stand here", remedy)
+        reason = f"{name} can't be the first plugin" if number == 0 else f"{name} can only be the first plugin"
+        yield invalid(place, "plugins", reason, f"begin with one of {', '.join(FIRST)}" if number == 0 else LEAVE_OUT)
     elif name in before:
-        yield invalid(place, "plugins", f"{name} was there before", LEAVE_OUT)
+        yield invalid(place, "plugins", f"{name} is here a second time", LEAVE_OUT)
     yield from of_keys(name, plugin, place)
     if number == 0:
         yield from of_dns(plugin.get("dns"), (*place, "dns"))
@@ -359,13 +359,13 @@ def of_versions(value):
     one, more = value.get("cniVersion"), value.get("cniVersions")
     write = f"write one of {', '.join(VERSIONS)}"
     if one is not None and not is_text(one):
-        yield invalid(("cniVersion",), "cniVersion", f"{text_of(one)} is no text", write)
+        yield invalid(("cniVersion",), "cniVersion", f"{text_of(one)} isn't a text", write)
     if more is not None and not are_texts(more):
-        yield invalid(("cniVersions",), "cniVersions", "it is no list of texts", write)
+        yield invalid(("cniVersions",), "cniVersions", "it isn't a list of texts", write)
     named = [it for it in (one, *(more if are_texts(more) else [])) if it is not None]
     if not set(VERSIONS) & {it for it in named if is_text(it)}:
         said = named[0] if named and is_text(named[0]) else ""
-        reason = f"{text_of(said)} isn't taken" if said else "no version is named"
+        reason = f"{text_of(said)} isn't accepted" if said else "no version is named"
         yield Refusal(("cniVersion",), 1, f"incompatible CNI version: {said}", reason, write)
 
 
@@ -374,16 +374,18 @@ def of_list(value):
     name = value.get("name")
     if not is_text(name) or not NAME.fullmatch(name):
         remedy = "write letters, digits, _ . and -, none of these three first"
-        yield invalid(("name",), "name", f"{text_of(name)} is no name", remedy)
+        reason = "there is none" if name is None else f"{text_of(name)} isn't a network's name"
+        yield invalid(("name",), "name", reason, remedy)
     for key in ("disableCheck", "disableGC"):
         if value.get(key) not in (None, "true", "false") and not is_truth(value[key]):
-            yield invalid((key,), key, f"{text_of(value[key])} isn't taken", TRUTH[1])
+            yield invalid((key,), key, f"{text_of(value[key])} isn't accepted", TRUTH[1])
     plugins = value.get("plugins")
     if plugins is None and "type" in value:
         remedy = 'wrap it: {"cniVersion":"1.1.0","name":"NAME","plugins":[..]}'
-        yield invalid(("plugins",), "plugins", "this is a single plugin and no list", remedy)
+        yield invalid(("plugins",), "plugins", "this is a single plugin, not a list", remedy)
     elif not isinstance(plugins, list) or not plugins:
-        yield invalid(("plugins",), "plugins", f"{text_of(plugins)} has no plugin", 'write [{"type":"bridge"}]')
+        reason = "there are none" if plugins is None else f"{text_of(plugins)} has no plugin"
+        yield invalid(("plugins",), "plugins", reason, 'write [{"type":"bridge"}]')
     for number, plugin in enumerate(plugins if isinstance(plugins, list) else []):
         before = [it.get("type") for it in plugins[:number] if is_object(it)]
         yield from of_plugin(number, plugin, before)
@@ -396,6 +398,6 @@ def refusals(value):
             yield invalid(place, "number", reason, "write a whole number, or a text")
             return
     if not is_object(value):
-        yield invalid((), "list", "it is no object", 'write {"cniVersion":"1.1.0","name":"NAME","plugins":[..]}')
+        yield invalid((), "list", "it isn't an object", 'write {"cniVersion":"1.1.0","name":"NAME","plugins":[..]}')
         return
     yield from of_list(value)

@@ -27,7 +27,7 @@ def fraction(text):
 
 
 def refuse(text):
-    raise ValueError(f"{text} is no JSON")
+    raise ValueError(f"{text} isn't JSON")
 
 
 def members(value):
@@ -45,7 +45,7 @@ def everywhere(value, place=()):
 
 
 def of_text(text):
-    """The value of a text. It raises a ValueError where the text is no JSON."""
+    """The value of a text. It raises a ValueError where the text isn't JSON."""
     value = json.loads(text, parse_int=whole, parse_float=fraction, parse_constant=refuse)
     for place, inside in everywhere(value):
         if len(place) + isinstance(inside, (dict, list)) > MOST_DEPTH:
