@@ -203,8 +203,18 @@ def joined(program, _):
 
 
 def collections(program, part):
-    """Of a network that has nothing, beside many attachments of another."""
+    """Of a network that has nothing, beside many attachments of another: ten times as many where so few take no more
+    than a tenth of the ADDs before them, since then the difference is lost in the noise."""
     large, small, swept = 20000 // part, 2000 // part, 2000 // part
+    added, of_large, of_small = swept_beside(program, large, small, swept)
+    if of_large is not None and of_large < added / 10:
+        swept *= 10
+        added, of_large, of_small = swept_beside(program, large, small, swept)
+    tell(f"{swept} GCs of nothing, beside {large} attachments against {small}", ratio(of_large, of_small), 2)
+
+
+def swept_beside(program, large, small, swept):
+    """The seconds of the many ADDs, and of so many GCs beside many attachments and beside few."""
     files = {f"{it}.net.json": network_list(it, bridge(subnet="10.0.0.0/8")) for it in ("pods", "none")}
     runs = {}
     for count in (large, small):
@@ -213,8 +223,7 @@ def collections(program, part):
         files[f"{count}-gc.json"] = pods(spaces(count), adds, *alone([{"verb": "GC", "network": "none"}] * swept))
         runs |= {(count, it): [f"{count}{it}.json", "pods.net.json", "none.net.json"] for it in ("", "-gc")}
     taken = least_in_turn(program, runs, files)
-    of_large, of_small = (less(taken[count, "-gc"], taken[count, ""]) for count in (large, small))
-    tell(f"{swept} GCs of nothing, beside {large} attachments against {small}", ratio(of_large, of_small), 2)
+    return taken[large, ""], *(less(taken[count, "-gc"], taken[count, ""]) for count in (large, small))
 
 
 def removals(program, part):
