@@ -15,6 +15,7 @@ use cni_addr::Text;
 use cni_io::Files;
 use pod_text::{Asked, CommandPart};
 use pod_workers::Plan;
+use sha2::{Digest, Sha256};
 use std::alloc::Global;
 use tool_words::{Source, Words, WordsEnd, read_words};
 
@@ -26,6 +27,8 @@ pub struct Due {
     pub plan: Plan,
     /// What is to be printed of it.
     pub asked: Asked,
+    /// SHA-256 of the words and of all bytes that were read, which nobody who writes them can choose.
+    pub digest: [u8; 32],
 }
 
 /// Reads the words and then the files that they name, if they name any: the pod file first, then the network lists in
@@ -36,10 +39,19 @@ pub fn read_due<F: Files>(alloc: Global, words: &[Text], files: &mut F) -> Resul
     ensures untouched { NameNoFile words.now → files.new ≡ files.old }
 {
     match read_words(alloc, words) {
-        Ok(taken) => read_due_of(alloc, words, taken, files),
+        Ok(taken) => read_due_of(alloc, words, taken, files, words_taken_in(words)),
         Err(WordsEnd::Usage) => Err(NoPlan::Usage),
         Err(WordsEnd::NoMemory) => Err(NoPlan::NoMemory),
     }
+}
+
+/// A digest that has taken the words in.
+fn words_taken_in(words: &[Text]) -> Sha256 {
+    let mut seen = Sha256::new();
+    for word in words {
+        seen.update(word.as_str().as_bytes());
+    }
+    seen
 }
 
 /// The same, once the words are taken.
@@ -48,6 +60,7 @@ fn read_due_of<F: Files>(
     given: &[Text],
     words: Words,
     files: &mut F,
+    mut seen: Sha256,
 ) -> Result<Due, NoPlan>
     requires taken { words_given given.now ≡ Some words }
     requires limits { IsWithinLimits words }
@@ -55,13 +68,18 @@ fn read_due_of<F: Files>(
     ensures keeps { F.files files.new ≡ F.files files.old }
     ensures untouched { NameNoFile given.now → files.new ≡ files.old }
 {
-    let input = input_for(alloc, files, &words.source)?;
-    Ok(due_of(&words, input))
+    let input = input_for(alloc, files, &words.source, &mut seen)?;
+    Ok(due_of(&words, input, seen.finalize()))
 }
 
 /// The input that the source asks for, from files or of generated pods.
 #[tactic(auto, using(crate::proofs::Dues::inputs))]
-fn input_for<F: Files>(alloc: Global, files: &mut F, source: &Source) -> Result<Input, NoPlan>
+fn input_for<F: Files>(
+    alloc: Global,
+    files: &mut F,
+    source: &Source,
+    seen: &mut Sha256,
+) -> Result<Input, NoPlan>
     requires { IsSourceWithin source.now }
     ensures gives { GivesInput source.now (files_seen F.files F.failure_count files.old files.new) result }
     ensures by { IfOk result (IsInputBy source.now) }
@@ -70,13 +88,13 @@ fn input_for<F: Files>(alloc: Global, files: &mut F, source: &Source) -> Result<
     ensures untouched { files_named source.now ≡ [] → files.new ≡ files.old }
 {
     match source {
-        Source::Files(named) => read_input(alloc, files, named),
+        Source::Files(named) => read_input(alloc, files, named, seen),
         Source::Generated { count, stop_at } => Ok(generated_input(alloc, *count, *stop_at)?),
     }
 }
 
 /// What the words ask for of this input.
-fn due_of(words: &Words, input: Input) -> Due
+fn due_of(words: &Words, input: Input, digest: [u8; 32]) -> Due
     ensures threads { result.threads ≡ words.now.threads }
     ensures plan { result.plan ≡ input.plan }
     ensures asked { result.asked ≡ asked_of words.now input }
@@ -96,6 +114,7 @@ fn due_of(words: &Words, input: Input) -> Due
             dump: words.dump,
             packets,
         },
+        digest,
     }
 }
 

@@ -18,6 +18,7 @@ use packet_probe::{Packet, PacketsError};
 use plugin_requests::RawList;
 use pod_file::{PodError, Pods};
 use pod_workers::Plan;
+use sha2::{Digest, Sha256};
 use std::alloc::Global;
 use tool_words::Named;
 
@@ -57,10 +58,12 @@ impl From<NoMemory> for NoPlan {
 }
 
 /// Reads the pod file, then each network list in order, then the packet file if one is named, and joins lists and pods.
+/// The digest takes all bytes in that are read.
 pub(crate) fn read_input<F: Files>(
     alloc: Global,
     files: &mut F,
     named: &Named,
+    seen: &mut Sha256,
 ) -> Result<Input, NoPlan>
     requires { length named.now.lists ≤ most_lists }
     ensures gives { GivesStored (λ input. input) (F.files files.old)
@@ -72,9 +75,9 @@ pub(crate) fn read_input<F: Files>(
     ensures keeps { F.files files.new ≡ F.files files.old }
     ensures later { F.failure_count files.old ≤ F.failure_count files.new }
 {
-    let pods = read_pods(alloc, files, named.pods.as_str())?;
-    let raws = read_lists(alloc, files, named.lists.as_slice())?;
-    let packets = read_packets(alloc, files, &named.packets)?;
+    let pods = read_pods(alloc, files, named.pods.as_str(), seen)?;
+    let raws = read_lists(alloc, files, named.lists.as_slice(), seen)?;
+    let packets = read_packets(alloc, files, &named.packets, seen)?;
     let lists = shared_lists(alloc, raws.as_slice())?;
     let plan = join(alloc, named, pods, lists)?;
     Ok(Input {
@@ -109,7 +112,12 @@ fn join(
 }
 
 #[tactic(auto, using(crate::proofs::Stopping::stopping), unfolding(crate::specs::Verdict::stored_pods))]
-fn read_pods<F: Files>(alloc: Global, files: &mut F, file: &str) -> Result<Pods, NoPlan>
+fn read_pods<F: Files>(
+    alloc: Global,
+    files: &mut F,
+    file: &str,
+    seen: &mut Sha256,
+) -> Result<Pods, NoPlan>
     ensures gives { GivesStored (λ pods. pods) (F.files files.old)
         (F.failure_count files.old) (F.failure_count files.new)
         (λ name. name ≡ file.now) (λ stored. stored_pods stored file.now) result }
@@ -118,6 +126,7 @@ fn read_pods<F: Files>(alloc: Global, files: &mut F, file: &str) -> Result<Pods,
     ensures later { F.failure_count files.old ≤ F.failure_count files.new }
 {
     let bytes = read_bytes(alloc, files, file)?;
+    seen.update(bytes.as_slice());
     pods_of_bytes(alloc, bytes.as_slice(), file)
 }
 
@@ -137,6 +146,7 @@ fn read_lists<F: Files>(
     alloc: Global,
     files: &mut F,
     names: &[Text],
+    seen: &mut Sha256,
 ) -> Result<Items<RawList>, NoPlan>
     ensures gives { GivesStored (λ raws. raws) (F.files files.old)
         (F.failure_count files.old) (F.failure_count files.new)
@@ -147,14 +157,19 @@ fn read_lists<F: Files>(
 {
     let mut raws = Items::new(alloc);
     for name in names {
-        let raw = read_list(alloc, files, name.as_str())?;
+        let raw = read_list(alloc, files, name.as_str(), seen)?;
         raws.push(raw)?;
     }
     Ok(raws)
 }
 
 #[tactic(auto, using(crate::proofs::Stopping::stopping), unfolding(crate::specs::Verdict::stored_list))]
-fn read_list<F: Files>(alloc: Global, files: &mut F, file: &str) -> Result<RawList, NoPlan>
+fn read_list<F: Files>(
+    alloc: Global,
+    files: &mut F,
+    file: &str,
+    seen: &mut Sha256,
+) -> Result<RawList, NoPlan>
     ensures gives { GivesStored (λ raw. raw) (F.files files.old)
         (F.failure_count files.old) (F.failure_count files.new)
         (λ name. name ≡ file.now) (λ stored. stored_list stored file.now) result }
@@ -162,6 +177,7 @@ fn read_list<F: Files>(alloc: Global, files: &mut F, file: &str) -> Result<RawLi
     ensures later { F.failure_count files.old ≤ F.failure_count files.new }
 {
     let bytes = read_bytes(alloc, files, file)?;
+    seen.update(bytes.as_slice());
     list_of_bytes(alloc, bytes.as_slice(), file)
 }
 
@@ -195,6 +211,7 @@ fn read_packets<F: Files>(
     alloc: Global,
     files: &mut F,
     file: &Option<Text>,
+    seen: &mut Sha256,
 ) -> Result<Items<Packet>, NoPlan>
     ensures gives { GivesStored (λ packets. packets) (F.files files.old)
         (F.failure_count files.old) (F.failure_count files.new)
@@ -204,7 +221,7 @@ fn read_packets<F: Files>(
     ensures later { F.failure_count files.old ≤ F.failure_count files.new }
 {
     match file {
-        Some(file) => read_packet_file(alloc, files, file.as_str()),
+        Some(file) => read_packet_file(alloc, files, file.as_str(), seen),
         None => Ok(Items::new(alloc)),
     }
 }
@@ -214,6 +231,7 @@ fn read_packet_file<F: Files>(
     alloc: Global,
     files: &mut F,
     file: &str,
+    seen: &mut Sha256,
 ) -> Result<Items<Packet>, NoPlan>
     ensures gives { GivesStored (λ packets. packets) (F.files files.old)
         (F.failure_count files.old) (F.failure_count files.new)
@@ -222,6 +240,7 @@ fn read_packet_file<F: Files>(
     ensures later { F.failure_count files.old ≤ F.failure_count files.new }
 {
     let bytes = read_bytes(alloc, files, file)?;
+    seen.update(bytes.as_slice());
     packets_of_bytes(alloc, bytes.as_slice(), file)
 }
 

@@ -11,6 +11,7 @@ use crate::kernel::{FromHost, begin};
 use crate::rounds::make_round;
 use cni_addr::NoMemory;
 use kernel_model::Kernel;
+use kernel_tables::TableKey;
 use pod_text::{Asked, text};
 use pod_threads::Gate;
 use pod_workers::Book;
@@ -43,8 +44,9 @@ pub(crate) fn carry_out<K: FromHost + Send + Drop, R: Threads + Wait + Sync, G: 
         threads,
         plan,
         asked,
+        digest,
     } = due;
-    let mut book: Book<K> = begin(alloc, plan)?;
+    let mut book: Book<K> = begin(alloc, &TableKey { digest }, plan)?;
     while !book.ended() {
         book = make_round(rt, alloc, book, threads, gate);
     }
@@ -65,8 +67,9 @@ pub(crate) fn carry_out_alone<K: FromHost + Drop>(
         threads: _,
         plan,
         asked,
+        digest,
     } = due;
-    let mut book: Book<K> = begin(alloc, plan)?;
+    let mut book: Book<K> = begin(alloc, &TableKey { digest }, plan)?;
     while !book.ended() {
         book.round_alone();
     }

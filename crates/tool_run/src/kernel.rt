@@ -8,7 +8,7 @@ ghost use Rattle.pod_workers.specs.World.{begun};
 
 use cni_addr::{Duplicate, NoMemory};
 use kernel_model::{Host, Kernel};
-use kernel_tables::TableKernel;
+use kernel_tables::{TableKernel, TableKey};
 use pod_workers::{Book, Plan};
 use std::alloc::Global;
 
@@ -17,25 +17,29 @@ pub type NodeKernel = TableKernel;
 
 /// A kernel that can begin with any sound host.
 pub trait FromHost: Kernel {
-    /// A kernel with this host. The only error is out of memory.
-    fn from_host(alloc: Global, host: Host) -> Result<Self, NoMemory>
+    /// A kernel with this host, which looks things up under this key. The only error is out of memory.
+    fn from_host(alloc: Global, key: &TableKey, host: Host) -> Result<Self, NoMemory>
         requires { IsSound host }
         ensures { IfOk result (λ kernel. Self.Kernel.host kernel ≡ host) };
 }
 
 impl FromHost for TableKernel {
-    fn from_host(alloc: Global, host: Host) -> Result<TableKernel, NoMemory> {
-        TableKernel::of_host(alloc, host)
+    fn from_host(alloc: Global, key: &TableKey, host: Host) -> Result<TableKernel, NoMemory> {
+        TableKernel::keyed(alloc, key, host)
     }
 }
 
 /// A book of the plan, with nothing done yet, over a kernel that begins with a copy of the opening.
-pub(crate) fn begin<K: FromHost + Drop>(alloc: Global, plan: Plan) -> Result<Book<K>, NoMemory>
+pub(crate) fn begin<K: FromHost + Drop>(
+    alloc: Global,
+    key: &TableKey,
+    plan: Plan,
+) -> Result<Book<K>, NoMemory>
     requires { IsWellFormed plan }
     ensures begun { IfOk result (λ book. book ≡ begun plan) }
     ensures order { IfOk result IsInFileOrder }
 {
-    let kernel = K::from_host(alloc, plan.pods.opening.copy()?)?;
+    let kernel = K::from_host(alloc, key, plan.pods.opening.copy()?)?;
     let book = Book::begin(alloc, plan, kernel)?;
     Ok(book)
 }
