@@ -17,7 +17,8 @@ of two sizes by what one item takes:
 - ranges: the memory of 2,000 ADDs with sets of 1,000 ranges against sets of one;
 - sets: an ADD and its DEL with 65,536 sets against 6,554, ascending, descending and shuffled;
 - texts: JSON of 8 MB against 0.8 MB, of brackets as deep as may be, and of one key again and again;
-- generated: `gen:10000` against BEFORE, and with four threads against one.
+- generated: `gen:10000` against BEFORE, and with four threads against one;
+- others: what the other benchmarks time (inputs.py), against BEFORE.
 
 Behind a ratio stands what it must be at most, where it must. A time is the processor's, the least of RUNS in turn. What
 isn't over within MOST_SECONDS is ended, and no figure is given.
@@ -34,6 +35,7 @@ import time
 from rounds import seconds
 import colliding
 from asked import peak
+from inputs import words_and_files
 from program import MOST_SECONDS, NO_PODS, bridge, command, compact, in_folder, network_list, program_of
 
 RUNS = 10
@@ -325,19 +327,32 @@ def passed(program, words):
     return time.monotonic() - start
 
 
+def of_both(builds, words, folder, count):
+    """The least seconds of the program over those of the version before, run in turn; none where one isn't over in
+    time."""
+    times = [[seconds(it, words, folder) for it in builds] for _ in range(count)]
+    ours, before = zip(*times)
+    return None if None in (*ours, *before) else ratio(min(ours), min(before))
+
+
 def generated(program, part, before):
     word = f"gen:{10000 // part}"
     if before:
-        both = {program: [], before: []}
-        for _ in range(RUNS_OF_GENERATED):
-            for it, taken in both.items():
-                taken.append(seconds(it, [word], os.curdir))
-        tell(f"{word} against the version before", min(both[program]) / min(both[before]), "no more")
-        memory = [peak(it, [word], os.curdir) for it in both]
-        tell(f"memory of {word} against the version before", memory[0] / memory[1], "no more")
+        builds = (program, before)
+        found = of_both(builds, [word], os.curdir, RUNS_OF_GENERATED)
+        tell(f"{word} against the version before", found, "no more")
+        memory = ratio(*(peak(it, [word], os.curdir) for it in builds))
+        tell(f"memory of {word} against the version before", memory, "no more")
     each = [(passed(program, [word]), passed(program, ["--threads", "4", word])) for _ in range(RUNS)]
     one, four = (statistics.median(it) for it in zip(*each))
     tell(f"{word} with four threads against one, by medians of the time that passes", four / one)
+
+
+def others(program, part, before):
+    """Each input of the other benchmarks on both builds in turn."""
+    for name, words, files in words_and_files(part) if before else []:
+        with in_folder(files) as folder:
+            tell(f"{name}, against the version before", of_both((program, before), words, folder, RUNS), 1.15)
 
 
 ROWS = (namespaces, containers, routes, sixes, joined, collections, removals, turns, ranges, sets, texts)
@@ -347,12 +362,12 @@ def main():
     program = program_of(sys.argv[1:2])
     before = program_of(sys.argv[2:3]) if len(sys.argv) > 2 and sys.argv[2] != "-" else None
     part = int(sys.argv[3]) if len(sys.argv) > 3 else 1
-    named = sys.argv[4:] or [*(it.__name__ for it in ROWS), "generated"]
     for row in ROWS:
-        if row.__name__ in named:
+        if row.__name__ in sys.argv[4:] or not sys.argv[4:]:
             row(program, part)
-    if "generated" in named:
-        generated(program, part, before)
+    for row in (generated, others):
+        if row.__name__ in sys.argv[4:] or not sys.argv[4:]:
+            row(program, part, before)
 
 
 if __name__ == "__main__":
