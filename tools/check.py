@@ -61,6 +61,21 @@ class File:
         return Finding(self.name, line, column, level, f"{named}: {sentence}" if named else sentence)
 
 
+def fault_of(text, at, said):
+    """Where a text stops being JSON, and what to do; what the reader of JSON says where it isn't a usual mistake."""
+    if text[at : at + 1] == ",":
+        at += len(text[at:]) - len(text[at + 1 :].lstrip())
+    if text.startswith("\ufeff"):
+        return at, "the file begins with a byte order mark; save it without one"
+    if not text.strip():
+        return at, f"the file is empty; write {lists.SMALLEST}"
+    if text.startswith(("//", "/*", "#"), at):
+        return at, "JSON has no comments; leave it out"
+    if text[at : at + 1] in ("}", "]") and text[:at].rstrip().endswith(","):
+        return at, "there is a comma before the end; leave it out"
+    return at, said
+
+
 def read(name):
     """The file of this name, or a finding where it isn't JSON."""
     try:
@@ -69,9 +84,10 @@ def read(name):
         return File(name, text, places.of_text(text))
     except UnicodeDecodeError as error:
         line, column = places.line_and_column(data[: error.start].decode("utf-8"), error.start)
-        return Finding(name, line, column, "refused", "this isn't UTF-8")
+        return Finding(name, line, column, "refused", "this isn't UTF-8; save it as UTF-8")
     except json.JSONDecodeError as error:
-        return Finding(name, error.lineno, error.colno, "refused", error.msg)
+        at, sentence = fault_of(text, error.pos, error.msg)
+        return Finding(name, *places.line_and_column(text, at), "refused", sentence)
     except (ValueError, RecursionError) as error:
         return Finding(name, 1, 1, "refused", str(error) or "lists and objects are too deep")
 

@@ -14,6 +14,7 @@ from places import WrongNumber, everywhere
 
 VERSIONS = ("0.4.0", "1.0.0", "1.1.0")
 FIRST, CHAINED = ("bridge", "ptp", "macvlan"), ("portmap", "firewall", "tuning")
+SMALLEST = '{"cniVersion":"1.1.0","name":"NAME","plugins":[..]}'
 MOST_SETS = 65_536
 # the prefixes of a range, by the family
 PREFIXES = {4: range(8, 31), 6: range(8, 127)}
@@ -381,8 +382,7 @@ def of_list(value):
             yield invalid((key,), key, f"{text_of(value[key])} isn't accepted", TRUTH[1])
     plugins = value.get("plugins")
     if plugins is None and "type" in value:
-        remedy = 'wrap it: {"cniVersion":"1.1.0","name":"NAME","plugins":[..]}'
-        yield invalid(("plugins",), "plugins", "this is a single plugin, not a list", remedy)
+        yield invalid(("plugins",), "plugins", "this is a single plugin, not a list", f"wrap it: {SMALLEST}")
     elif not isinstance(plugins, list) or not plugins:
         reason = "there are none" if plugins is None else f"{text_of(plugins)} has no plugin"
         yield invalid(("plugins",), "plugins", reason, 'write [{"type":"bridge"}]')
@@ -398,6 +398,6 @@ def refusals(value):
             yield invalid(place, "number", reason, "write a whole number, or a text")
             return
     if not is_object(value):
-        yield invalid((), "list", "it isn't an object", 'write {"cniVersion":"1.1.0","name":"NAME","plugins":[..]}')
+        yield invalid((), "list", "it isn't an object", f"write {SMALLEST}")
         return
     yield from of_list(value)

@@ -55,7 +55,7 @@ FILES = {
     "pods.json": PODS,
 }
 TOLD = """\
-latin.json:2:2: refused: this isn't UTF-8
+latin.json:2:2: refused: this isn't UTF-8; save it as UTF-8
 pods.json:1:18: warning: opening.ns: this key is ignored
 pods.json:1:74: warning: opening.links[0].mut: this key is ignored; the nearest name is mtu
 pods.json:1:84: warning: opening.links[0].netns: this key is ignored; the nearest name is ns
