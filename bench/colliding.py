@@ -147,13 +147,8 @@ SIP = (0x736F6D6570736575, 0x646F72616E646F6D, 0x6C7967656E657261, 0x74656462797
 
 
 def digest_of(words, files):
-    """The key of the tables: of the words, each ended by a byte 0, and of the files as they are read."""
-    hasher = hashlib.sha256()
-    for it in words:
-        hasher.update(it.encode("utf-8") + b"\0")
-    for it in files:
-        hasher.update(it)
-    return hasher.digest()
+    """The key of the tables: of the words, and of the files as they are read."""
+    return hashlib.sha256("".join(words).encode("utf-8") + b"".join(files)).digest()
 
 
 def crowding(digest, keys):
