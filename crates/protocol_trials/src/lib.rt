@@ -1,9 +1,11 @@
-//! Requests between a runtime and its plugins, tried on words and texts that were worked out by hand.
+//! Requests between a runtime and its plugins, tried on words, texts and lists that were worked out by hand.
 //!
 //! That a request is read again, and that the works of all plugins are together the ADD, is proved in `exec_protocol`.
-//! What a reader is told, and what a line looks like, is tried here.
+//! What a reader is told and what a line looks like is tried here, and one ADD with both of its plugins.
 #![tactic(auto)]
 
+#[cfg(test)]
+mod chaining;
 #[cfg(test)]
 mod reading;
 #[cfg(test)]
