@@ -78,7 +78,8 @@ impl Tables {
 /// `LeaseNext` and `PoolFree` take two steps for each range of the set, however many addresses are leased.
 #[derive(Drop)]
 pub struct TableKernel {
-    tables: Tables,
+    // Boxed: a kernel is handed from function to function, and each would need room for all its maps on the stack.
+    tables: Box<Tables>,
 }
 
 impl Model for TableKernel {
@@ -87,9 +88,9 @@ impl Model for TableKernel {
 
     ghost Value = { Host };
 
-    ghost view = { λ k. k.tables };
+    ghost view = { λ k. k.tables.value };
 
-    ghost invariant = { λ k. IsSound k.tables };
+    ghost invariant = { λ k. IsSound k.tables.value };
 }
 
 impl TableKernel {
@@ -108,7 +109,9 @@ impl TableKernel {
         ensures { IfOk result (λ kernel. kernel ≡ host) }
     {
         let tables = Tables::of_host(alloc, key, host)?;
-        Ok(TableKernel { tables })
+        Ok(TableKernel {
+            tables: Box::new(alloc, tables)?,
+        })
     }
 }
 

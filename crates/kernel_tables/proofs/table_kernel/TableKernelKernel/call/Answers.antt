@@ -16,12 +16,16 @@ stays_sound host old new call (Err e) is sound allowed ok err = subst IsSound (s
 
 pub invariant_of-self : goal.invariant_of-self
 invariant_of-self c =
-    stays_sound _ _ _ c.args.call.now _ c.self.view_is c.self.invariant c.requires c.carry_out.ensures.ok c.carry_out.ensures.err
+    let is = c.deref_mut.ensures.value in
+    stays_sound _ c.deref_mut.result.now _ c.args.call.now _ (is ∙ c.self.view_is) (subst IsSound (sym is) c.self.invariant) c.requires
+    c.carry_out.ensures.ok c.carry_out.ensures.err
 
 pub returns-clause-sound : goal.returns-clause-sound
 returns-clause-sound c =
-    stays_sound _ _ _ c.args.call.now _ c.self.view_is c.self.invariant c.requires c.carry_out.ensures.ok c.carry_out.ensures.err
+    let is = c.deref_mut.ensures.value in
+    stays_sound _ c.deref_mut.result.now _ c.args.call.now _ (is ∙ c.self.view_is) (subst IsSound (sym is) c.self.invariant) c.requires
+    c.carry_out.ensures.ok c.carry_out.ensures.err
 
 pub returns-clause-never : goal.returns-clause-never
 returns-clause-never c =
-    IfOk-weaker c.carry_out.result _ _ (λ reply step. ap (λ (s : Host × Reply). is_fault s.1) step ∙ (IsReplyOf-apply c.self.inside.tables c.args.call.now).no_fault) c.carry_out.ensures.ok
+    IfOk-weaker c.carry_out.result _ _ (λ reply step. ap (λ (s : Host × Reply). is_fault s.1) step ∙ (IsReplyOf-apply c.deref_mut.result.now c.args.call.now).no_fault) c.carry_out.ensures.ok
