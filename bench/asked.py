@@ -13,7 +13,6 @@ Sizes are 1,000 and 10,000 commands, 60,000 rules and 65,536 packets where none 
 """
 
 import ipaddress
-import os
 import subprocess
 import sys
 
@@ -26,12 +25,19 @@ PORTMAP = {"type": "portmap", "capabilities": {"portMappings": True}, "snat": Fa
 NET = network_list("pods", bridge(subnet="10.0.0.0/8"), PORTMAP, {"type": "firewall"})
 
 
+# starts a program and tells the peak of its memory. The system counts that of who starts it too, so this is to be small
+PEAK_OF = """
+import os, sys
+child = os.spawnv(os.P_NOWAIT, sys.argv[1], sys.argv[1:])
+print(os.wait4(child, 0)[2].ru_maxrss * 1024, file=sys.stderr)
+"""
+
+
 def peak(program, words, folder):
     """The peak of memory of one run, in bytes."""
-    child = subprocess.Popen([program, *words], cwd=folder, stdout=subprocess.DEVNULL)
-    _, _, used = os.wait4(child.pid, 0)
-    child.returncode = 0
-    return used.ru_maxrss * 1024
+    how = {"cwd": folder, "stdout": subprocess.DEVNULL, "stderr": subprocess.PIPE, "check": True}
+    told = subprocess.run([sys.executable, "-S", "-c", PEAK_OF, program, *words], **how)
+    return int(told.stderr)
 
 
 def least_in_turn(program, words_of, folder):

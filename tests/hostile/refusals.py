@@ -3,8 +3,8 @@
 
     refusals.py [PROGRAM]
 
-- memory:  the address space is limited, in steps from where the program begins to where it has enough, once for
-           commands that need much, and once for a text that does;
+- memory:  its data is limited, in steps from where the program begins to where it has enough, once for commands that
+           need much, and once for a text that does. Its stack isn't: where that can't grow the system ends a program;
 - output:  a full device, a pipe that nobody reads, one whose reader stops halfway, and none at all;
 - files:   a folder, a file without permission, one that is missing, and lists of 16,777,216 and 16,777,217 bytes; and
            the first three in place of a packet file.
@@ -90,10 +90,10 @@ SHORT_WORDS = ["published.json", "ports.json"]
 
 
 def limited(program, words, folder, size):
-    """A run with so many bytes of address space."""
+    """A run with so many bytes of data."""
 
     def limit():
-        resource.setrlimit(resource.RLIMIT_AS, (size, size))
+        resource.setrlimit(resource.RLIMIT_DATA, (size, size))
 
     return subprocess.run(
         [program, *words],
