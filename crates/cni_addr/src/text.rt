@@ -114,14 +114,16 @@ impl AsStr for Text {
 }
 
 impl Hash for Text {
-    ghost use Rattle.cni_addr.specs.TextLaws.{one_write, write-respects_eq};
+    ghost use Rattle.cni_addr.specs.TextLaws.{closed_write, write-respects_eq};
 
-    ghost hash_input = { one_write };
+    ghost hash_input = { closed_write };
 
     ghost respects_eq = { write-respects_eq };
 
-    // One write of all bytes: std's derived way feeds a hasher byte by byte.
+    // One write of all bytes, since std's derived way feeds a hasher byte by byte. The byte after them stands in no
+    // text, so that what is hashed of several texts tells where each ends.
     fn hash<H: Hasher>(&self, state: &mut H) {
         state.write(self.as_str().as_bytes());
+        state.write_u8(0xff);
     }
 }
