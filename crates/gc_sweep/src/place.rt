@@ -1,6 +1,6 @@
 //! Where a GC is: the sweep at hand, its owners, and the step of the one at hand.
 
-ghost use Rattle.std.specs.Prelude.{◌≡◌, ◌<◌, ◌≤◌, ◌+◌, not, false, List, filter, length, slice_get, Some, nat_le, nat_lt, [], IfOk, IsOk, OnErr, OnOk};
+ghost use Rattle.std.specs.Prelude.{◌≡◌, ◌<◌, ◌≤◌, ◌+◌, not, false, List, drop, filter, length, slice_get, Some, nat_le, nat_lt, [], IfOk, IsOk, OnErr, OnOk};
 ghost use Rattle.kernel_types.specs.Replies.{holds_text_or_list, is_fault};
 ghost use Rattle.kernel_types.specs.declared.call.Kind.{Kind};
 ghost use Rattle.pod_file.specs.declared.command.ValidAtt.{ValidAtt};
@@ -52,6 +52,21 @@ impl SweepPlace {
     {
         SweepPlace {
             stage: Stage::Start,
+            owners: Vec::new(alloc),
+            at: 0,
+            step: 0,
+        }
+    }
+
+    /// The place before the first call of a GC that asks for the owners of each kind, and makes no DEL for those of
+    /// cached results first. Takes no memory.
+    pub fn by_kinds(alloc: Global) -> SweepPlace
+        ensures work { (kinds : List Kind)
+            → work_of kinds result ≡ record { jobs = []; sweeps = drop 1 (all_sweeps kinds) } }
+        ensures range { (kinds : List Kind) → IsPlace kinds result }
+    {
+        SweepPlace {
+            stage: Stage::First,
             owners: Vec::new(alloc),
             at: 0,
             step: 0,
