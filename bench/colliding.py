@@ -7,8 +7,8 @@ constant. So whoever makes one factor 0 makes the state 0, whatever the other fa
 - of an address, where its upper half is the constant: all of one /64 are alike;
 - of a text, where eight of its bytes are the state that stood before them: what follows in it changes nothing.
 
-A text feeds a hasher its bytes alone, and a key of several texts one after another. So a hasher that joins what it is
-fed finds those keys alike whose texts joined are the same, whatever its own key is.
+A text feeds a hasher its bytes, and then one that no text has. Without it a hasher that joins what it is fed would find
+those keys of several texts alike whose texts joined are the same, whatever its own key is.
 """
 
 import hashlib
@@ -165,4 +165,4 @@ def crowding(digest, keys):
 
 def text_key(*texts):
     """What a key of texts feeds a hasher."""
-    return "".join(texts).encode("utf-8")
+    return b"".join(it.encode("utf-8") + b"\xff" for it in texts)

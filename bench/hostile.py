@@ -10,7 +10,7 @@ of two sizes by what one item takes:
 - namespaces, containers, routes, sixes: an opening of 10,000 namespaces, 2,000 ADDs, and one ADD with 2,000 IPv6 routes
   or IPv6 range sets, which a hasher with a fixed key finds alike (colliding.py), against others; and the same beside
   that one of 200 unnamed texts by which they crowd most in tables whose hasher has a key of what was read;
-- joined: 960 ADDs whose names are alike to a hasher that joins them, whatever its key;
+- joined: 960 ADDs whose names, joined, are one text, against others;
 - collections: 2,000 GCs of a network that has nothing, beside 20,000 attachments of another against beside 2,000;
 - removals: 20,000 namespaces that go against as many that come;
 - turns: a GC, an NSDEL and a DROP by turns among 60 networks, with 18,000 attachments against 1,800;
