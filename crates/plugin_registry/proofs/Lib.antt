@@ -1,0 +1,3 @@
+mod Finds
+mod Numbers
+pub mod OwnCalls
