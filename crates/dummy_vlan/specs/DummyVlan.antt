@@ -66,7 +66,7 @@ vlan_link_of ask = inner_link ask (Vlan (vlan_id_of ask.options)) (value_of (cod
 
 -- ---- calls
 
--- the link, and each given address on it
+-- the link, and on it each given address once
 abbrev pub calls_with : Ask → Link → List Call
 calls_with ask link = MacvlanAdd link ∷ map AddrAdd (addresses_on ask.att ask.netns ask.given)
 

@@ -23,7 +23,7 @@ pub fn dummy_needs(alloc: Global) -> Result<Items<Need>, NoMemory>
     Ok(needs)
 }
 
-/// The calls after the leases: the link, and an address on it for each that was given. Linear in the given addresses
+/// The calls after the leases: the link, and on it each given address once. Linear in the given addresses
 /// and the options.
 pub fn dummy_calls(alloc: Global, ask: &Ask) -> Result<Items<Call>, NoMemory>
     requires { IsAskable plan.dummy_needs_of ask.now }

@@ -66,7 +66,7 @@ fn vlan_link(alloc: Global, ask: &Ask) -> Result<Link, NoMemory>
     inner_link(ask, LinkKind::Vlan { id }, master)
 }
 
-/// The calls after the leases: the link, and an address on it for each that was given. Linear in the given addresses
+/// The calls after the leases: the link, and on it each given address once. Linear in the given addresses
 /// and the options.
 pub fn vlan_calls(alloc: Global, ask: &Ask) -> Result<Items<Call>, NoMemory>
     requires { IsAskable plan.vlan_needs_of ask.now }

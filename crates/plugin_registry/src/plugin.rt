@@ -69,6 +69,7 @@ impl<P: Promise> Plugin<P> {
         ensures name { result.name ≡ name }
         ensures needs { result.needs ≡ needs }
         ensures kinds { result.kinds ≡ kinds }
+        ensures closures { (result.calls ≡ calls) × (result.result ≡ results) }
         ensures calls { Keeps (λ ask. ask.now) (λ r f. ForOk r f) needs (Calls.post result.calls) (P.may_call name) }
         ensures result { Keeps (λ ask. ask.now) (λ r f. ForOk r f) needs (Results.post result.result)
             (P.may_result name) }
@@ -88,6 +89,7 @@ impl<P: Promise> Plugin<P> {
         requires askable { IsAskable self.now.needs ask.now }
         requires promised { Keeps (λ ask. ask.now) (λ r f. ForOk r f) self.now.needs (Calls.post self.now.calls)
             (P.may_call self.now.name) }
+        ensures asked { Calls.post self.now.calls alloc ask.entry result }
         ensures own { IfOk result (λ calls. OwnCalls ask.now self.now.kinds calls) }
         ensures may { IfOk result (λ calls. P.may_call self.now.name ask.now calls) }
     {
@@ -99,6 +101,7 @@ impl<P: Promise> Plugin<P> {
         requires askable { IsAskable self.now.needs ask.now }
         requires promised { Keeps (λ ask. ask.now) (λ r f. ForOk r f) self.now.needs (Results.post self.now.result)
             (P.may_result self.now.name) }
+        ensures asked { Results.post self.now.result alloc ask.entry result }
         ensures may { IfOk result (λ result. P.may_result self.now.name ask.now result) }
     {
         (self.result)(alloc, ask)
