@@ -1,0 +1,36 @@
+pub mod AddSteps
+pub mod Causes
+pub mod Checked
+pub mod Collected
+pub mod Courses
+pub mod Going
+pub mod KindEnds
+pub mod QuietRuns
+pub mod Ready
+pub mod TakenBack
+mod AddCalls
+mod AddEnds
+mod AddRuns
+mod Asking
+mod EachTask
+mod EarlyAdds
+mod Endings
+mod Ends
+mod Entered
+mod LastRows
+mod Leased
+mod Numbered
+mod Numbers
+mod RanTasks
+mod SessionKept
+mod StepAnswers
+mod StepEnds
+mod StepRows
+mod StepShapes
+mod StepShares
+mod StepViews
+mod StepsHold
+mod StepsKeep
+mod Sweeping
+mod Turned
+mod Unpooled

@@ -1,0 +1,20 @@
+use Rattle.gc_sweep.specs.View.{IsPlace, work_of}
+use Rattle.gc_sweep.proofs.Weights.{collection_left}
+use Rattle.kernel_types.specs.Sound.{IsSound}
+use Rattle.plugin_session.specs.Pools.{IsReady, Pools}
+use Rattle.plugin_session.proofs.Sweeping.{SweptSoFar}
+use Rattle.std.proofs.Common.{[]}
+use Rattle.plugin_session.proofs.collect.collect.Given as goal
+
+-- the script is where the place is
+abbrev pub invariant-loop-faults : goal.invariant-loop-faults
+invariant-loop-faults g l = record {
+  swept : SweptSoFar l.network l.valid l.fn.journal l.journal l.place l.faults.items;
+  place : IsPlace [] l.place;
+  sound : IsSound l.journal.host;
+  ready : (pools : Pools) → IsReady pools l.fn.journal.host → IsReady pools l.journal.host;
+}
+
+-- the calls that are left
+abbrev pub decreases-loop-faults : goal.decreases-loop-faults
+decreases-loop-faults g l = collection_left (work_of [] l.place) l.journal.host

@@ -1,0 +1,11 @@
+use Rattle.std.proofs.Common.{drop}
+use Rattle.kernel_types.specs.Sound.{IsSound}
+use Rattle.plugin_session.proofs.{KindEnds.StaysReady, TakenBack.LeavesKinds}
+use Rattle.plugin_session.proofs.delete.delete_each.Given as goal
+
+abbrev pub invariant-loop-kind : goal.invariant-loop-kind
+invariant-loop-kind g l = record {
+  went : LeavesKinds l.att l.kinds (drop l.kind-index l.kinds) l.initial.journal l.journal;
+  ready : StaysReady l.initial.journal.host l.journal.host;
+  sound : IsSound l.journal.host;
+}

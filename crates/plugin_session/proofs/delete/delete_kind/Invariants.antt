@@ -1,0 +1,15 @@
+use Rattle.kernel_types.specs.Sound.{IsSound}
+use Rattle.plugin_base.specs.Share.{share_of}
+use Rattle.gc_sweep.specs.Deletions.{deletions_of}
+use Rattle.plugin_session.proofs.KindEnds.{StaysAt, StaysReady}
+use Rattle.plugin_session.proofs.delete.delete_kind.Given as goal
+
+abbrev pub invariant-loop-kind : goal.invariant-loop-kind
+invariant-loop-kind g l = record {
+  went : StaysAt l.att l.kind l.initial.journal l.journal;
+  ready : StaysReady l.initial.journal.host l.journal.host;
+  sound : IsSound l.journal.host;
+}
+
+abbrev pub decreases-loop-kind : goal.decreases-loop-kind
+decreases-loop-kind g l = deletions_of (share_of l.att l.journal.host)

@@ -1,0 +1,12 @@
+use Rattle.std.proofs.{Common.{ap, sym, ◌∙◌}, lemmas.Option.{none-some, same_Some}}
+use Rattle.std.specs.Option.{option_copied}
+use Rattle.kernel_types.specs.Replies.{is_fault}
+use Rattle.plugin_session.proofs.journal.Journal.met_fault.Goals as goal
+
+pub returns-in-Some : goal.returns-in-Some
+returns-in-Some g c = λ reply last.
+    c.is_fault.ensures ∙ ap is_fault (same_Some _ reply (ap option_copied (sym c.in-Some.is) ∙ c.reply.ensures reply last))
+
+pub returns-in-None : goal.returns-in-None
+returns-in-None g c = λ reply last.
+    absurd (none-some reply (ap option_copied (sym c.in-None.is) ∙ c.reply.ensures reply last))

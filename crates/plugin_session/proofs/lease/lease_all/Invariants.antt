@@ -1,0 +1,10 @@
+use Rattle.std.proofs.Common.{◌≡◌, ◌≤◌, drop, length, vec_capacity}
+use Rattle.plugin_session.proofs.AddSteps.{LeasesFirst}
+use Rattle.plugin_session.proofs.lease.lease_all.Given as goal
+
+abbrev pub invariant-loop-set : goal.invariant-loop-set
+invariant-loop-set g l = record {
+  first : LeasesFirst l.att l.sets (drop l.set-index l.sets) l.given.items l.initial.journal l.journal;
+  count : length l.given.items ≡ l.set-index;
+  room : length l.sets ≤ vec_capacity l.given;
+}

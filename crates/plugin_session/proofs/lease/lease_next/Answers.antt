@@ -1,0 +1,14 @@
+use Rattle.std.proofs.Common.{◌≡◌, length, rules}
+use Rattle.kernel_types.specs.declared.call.Call.TheVariants.{LeaseNext}
+use Rattle.plugin_session.specs.{Adds.IsMade, Journal.made_next}
+use Rattle.plugin_session.proofs.AddSteps.{lease-ends}
+use Rattle.plugin_session.proofs.lease.lease_next.Goals as goal
+
+pub returns-clause-ends : goal.returns-clause-ends
+returns-clause-ends g c =
+    let same : c.in_ok-of.field-0 ≡ LeaseNext c.args.att.now (length c.args.given.now.items) c.args.set.now = search rules in
+    let made : IsMade c.in_ok-of.field-0 c.args.journal.now c.make.new.self = search rules in
+    let replied : (made_next c.args.journal.now c.in_ok-of.field-0).reply ≡ c.in-Some.reply.now = search rules in
+    lease-ends c.args.att.now c.args.set.now c.args.journal.now c.make.new.self c.args.given.now.items c.take_lease.new.given.items
+    c.in_ok-of.field-0 c.len-number.result c.made.result c.in-Some.reply.now c.take_lease.result same (search rules) c.made.ensures made replied
+    c.take_lease.ensures.ok c.take_lease.ensures.given

@@ -1,0 +1,35 @@
+use Rattle.std.proofs.Common.{◌≡◌, [], None, IfOk, refl, sym, ap, subst, ◌∙◌}
+use Rattle.cni_errors.specs.{CommandFields.{att_of, del_refusal}, declared.answer.Ending.TheVariants.Yes}
+use Rattle.cni_verbs.specs.Script.{ReadingCache}
+use Rattle.std.specs.Option.{option_copied}
+use Rattle.plugin_session.specs.{Course.begins, Kept.pools_of, Ran.{command_for, course_for}, Runs.IsAnswerToEnd}
+use Rattle.plugin_session.specs.{Runs.handed_of, Tasks.kinds_back}
+use Rattle.plugin_session.proofs.Turned.{runs-cut, runs-ends, stopped-there}
+use Rattle.plugin_session.proofs.run.run_del.Goals as goal
+
+pub returns-in_err-end-clause-ran : goal.returns-in_err-end-clause-ran
+returns-in_err-end-clause-ran g c =
+    let h = handed_of c.args.hand.now in
+    let at : att_of (command_for h) ≡ c.in_ok-att.att = sym (c.in_ok-att.ensures ∙ ap att_of c.requires.command) in
+    runs-cut h (del_refusal c.args.command.now) c.args.journal.now c.take_back.new.journal (ReadingCache Yes) _ c.from_residual-in_err-end.result c.requires.turned
+    (sym c.del_refusal.ensures ∙ c.in_default.is) (ap begins c.requires.verb) (c.in_err-end.ensures.ends (course_for h [] None) (command_for h) at (ap (λ o. kinds_back o (option_copied c.args.hand.now.row)) (sym c.as_ref.ensures.value) ∙ sym c.in_ok-kinds.ensures ∙ sym c.as_slice.ensures)) c.from_residual-in_err-end.ensures.0
+
+pub returns-in_err-end-clause-ready : goal.returns-in_err-end-clause-ready
+returns-in_err-end-clause-ready g c = c.take_back.ensures.ready (pools_of c.args.hand.now.conf.now) c.requires.ready
+
+pub answer_end-requires : goal.answer_end-requires
+answer_end-requires g c =
+    let h = handed_of c.args.hand.now in
+    let at : att_of (command_for h) ≡ c.in_ok-att.att = sym (c.in_ok-att.ensures ∙ ap att_of c.requires.command) in
+    stopped-there (course_for h [] None) (command_for h) c.args.journal.now c.take_back.new.journal (ReadingCache Yes) c.in_ok-end.end (c.in_ok-end.ensures.ends (course_for h [] None) (command_for h) at (ap (λ o. kinds_back o (option_copied c.args.hand.now.row)) (sym c.as_ref.ensures.value) ∙ sym c.in_ok-kinds.ensures ∙ sym c.as_slice.ensures))
+
+pub returns-clause-ran : goal.returns-clause-ran
+returns-clause-ran g c =
+    let h = handed_of c.args.hand.now in
+    let at : att_of (command_for h) ≡ c.in_ok-att.att = sym (c.in_ok-att.ensures ∙ ap att_of c.requires.command) in
+    runs-ends h (del_refusal c.args.command.now) c.args.journal.now c.take_back.new.journal (ReadingCache Yes) c.in_ok-end.end c.answer_end.result c.requires.turned
+    (sym c.del_refusal.ensures ∙ c.in_default.is) (ap begins c.requires.verb) refl (c.in_ok-end.ensures.ends (course_for h [] None) (command_for h) at (ap (λ o. kinds_back o (option_copied c.args.hand.now.row)) (sym c.as_ref.ensures.value) ∙ sym c.in_ok-kinds.ensures ∙ sym c.as_slice.ensures))
+    (subst (λ x. IfOk c.answer_end.result (IsAnswerToEnd x c.take_back.new.journal c.in_ok-end.end)) c.requires.command c.answer_end.ensures)
+
+pub returns-clause-ready : goal.returns-clause-ready
+returns-clause-ready g c = c.take_back.ensures.ready (pools_of c.args.hand.now.conf.now) c.requires.ready

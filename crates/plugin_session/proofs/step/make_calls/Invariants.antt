@@ -1,0 +1,6 @@
+use Rattle.std.proofs.Common.{drop}
+use Rattle.plugin_session.proofs.AddCalls.{MakesFirst}
+use Rattle.plugin_session.proofs.step.make_calls.Given as goal
+
+abbrev pub invariant-loop-call : goal.invariant-loop-call
+invariant-loop-call g l = MakesFirst l.row.calls (drop l.call-index l.row.calls) l.initial.journal l.journal
