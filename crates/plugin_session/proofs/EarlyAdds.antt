@@ -10,7 +10,7 @@ use Rattle.cni_errors.specs.declared.answer.WrongFields.{WrongFields}
 use Rattle.pod_file.specs.declared.command.Command.{Command}
 use Rattle.plugin_registry.specs.{Needs.first_unmet, declared.ask.Need.Need}
 use Rattle.plugin_session.specs.{Holds.{Known, Wrong, early_by, wrong_option}, Views.{PluginView, plugin_named}}
-use Rattle.plugin_session.specs.declared.task.Task.{Task}
+use Rattle.session_file.specs.declared.session.Task.{Task}
 use Rattle.pod_file.specs.declared.command.Verb.TheVariants as verbs
 
 -- the first of a list's images that passes is the image of the first that passes

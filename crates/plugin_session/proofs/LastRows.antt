@@ -8,7 +8,8 @@ use Rattle.gc_sweep.specs.Trace.{Made}
 use Rattle.plugin_session.specs.{Holds.Suite, Kept.{AreLastRows, AreNumbered, IsLastRow}, Ran.Ran}
 use Rattle.plugin_session.specs.Steps.{LastRowsAreRead, StepsKeepPlaces, after_task, handed, places_after}
 use Rattle.plugin_session.specs.Views.{SessionView, att_by, finish, number, row_of}
-use Rattle.plugin_session.specs.declared.{answer.TaskAnswer.TaskAnswer, row.Row.Row, task.Task.Task}
+use Rattle.plugin_session.specs.declared.{answer.TaskAnswer.TaskAnswer, row.Row.Row}
+use Rattle.session_file.specs.declared.session.Task.{Task}
 use Rattle.plugin_session.proofs.StepViews.{row_of-after}
 
 -- ---- lists

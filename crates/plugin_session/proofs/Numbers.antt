@@ -11,7 +11,8 @@ use Rattle.std.specs.declared.cmp.Ordering.TheVariants.{Less, Equal, Greater}
 use Rattle.std.specs.BTreeMap as tree
 use Rattle.kernel_types.specs.{Equal.att_eq, declared.object.Att.Att}
 use Rattle.kernel_types.proofs.{Cases.att_eq-refl, Isolation.att_eq-same}
-use Rattle.plugin_session.specs.{Kept.{AreNumbered, att_in}, declared.task.Task.Task}
+use Rattle.session_file.specs.declared.session.Task.{Task}
+use Rattle.plugin_session.specs.Kept.{AreNumbered, att_in}
 
 -- the number that the map has for these names
 abbrev pub at_names : BTreeMap (Bor (List ℕ) × Bor (List ℕ)) ℕ → List ℕ → List ℕ → Option ℕ

@@ -6,11 +6,11 @@ use Rattle.cni_addr.specs.declared.address.Addr.{Addr}
 use Rattle.cni_verbs.specs.Script.{leases_in}
 use Rattle.gc_sweep.specs.Trace.{Made, host_from, replies}
 use Rattle.plugin_session.specs.{Holds.{Grows, Suite, TaskHolds}, Journal.{JournalView, entry_of}, Kept.AreNumbered}
-use Rattle.plugin_session.specs.{Kept.{AreLastRows, IsKept, IsLastRow, IsSessionConf, pools_of}, Pools.IsReady}
-use Rattle.plugin_session.specs.{Ran.{Handed, Ran}, Runs.RanTask, Steps.{Step, handed, if_any, places_after}}
-use Rattle.plugin_session.specs.Views.{SessionView, att_by, begun, finish, leased_by, leased_to, number, row_of}
+use Rattle.plugin_session.specs.{Kept.{AreLastRows, IsKept, IsLastRow, pools_of}, Pools.IsReady, Ran.{Handed, Ran}}
+use Rattle.plugin_session.specs.{Runs.RanTask, Steps.{Step, handed, if_any, places_after}, Views.{SessionView, att_by}}
+use Rattle.plugin_session.specs.Views.{begun, finish, leased_by, leased_to, number, row_of}
 use Rattle.plugin_session.specs.declared.{begun.Begun.Begun, row.Row.Row, run.TaskRun.TaskRun}
-use Rattle.plugin_session.specs.declared.task.{SessionConf.SessionConf, Task.Task}
+use Rattle.session_file.specs.{WellFormed.IsSessionConf, declared.session.{SessionConf.SessionConf, Task.Task}}
 use Rattle.plugin_session.proofs.{LastRows.{last_row-read, steps-places}, StepViews.{finish-after, steps-grow}}
 use Rattle.plugin_session.proofs.{StepsHold.steps-hold_of_the_last, StepsKeep.{first-kept, steps-keep, steps-leases}}
 use Rattle.plugin_session.proofs.StepsKeep.{view-kept}

@@ -16,7 +16,8 @@ use Rattle.gc_sweep.specs.Trace.{Made}
 use Rattle.plugin_session.specs.{Holds.Suite, Kept.IsRowKept, Laws.IsOwnRow, LawsOfAnswers.asks_for_lease}
 use Rattle.plugin_session.specs.{Pools.sets_by, Ran.{Handed, IsAnswered, IsNewRow, command_for}, Steps.IsViewKept}
 use Rattle.plugin_session.specs.{Steps.handed, Tasks.{forward_by, forward_of}, Views.{SessionView, number, row_of}}
-use Rattle.plugin_session.specs.declared.{row.Row.Row, task.Task.Task}
+use Rattle.plugin_session.specs.declared.row.Row.{Row}
+use Rattle.session_file.specs.declared.session.Task.{Task}
 use Rattle.plugin_session.proofs.Numbered.{last_found}
 
 -- ---- a row

@@ -15,7 +15,8 @@ use Rattle.plugin_session.specs.{LawsOfAnswers.LeasesBySetsAlone, Pools.IsReady,
 use Rattle.plugin_session.specs.Ran.{RanByCourse, WasEarly, command_for, course_for, early_for, row_after}
 use Rattle.plugin_session.specs.{Steps.{IsViewKept, after_task, handed, if_any}, Tasks.kinds_back, Views.SessionView}
 use Rattle.plugin_session.specs.Views.{att_by, finish, leased_to, number, part_by, row_of}
-use Rattle.plugin_session.specs.declared.{answer.TaskAnswer.TaskAnswer, row.Row.Row, task.Task.Task}
+use Rattle.plugin_session.specs.declared.{answer.TaskAnswer.TaskAnswer, row.Row.Row}
+use Rattle.session_file.specs.declared.session.Task.{Task}
 use Rattle.plugin_session.proofs.{Checked.row-asks, Courses.Added.{add_leaves_others, add_makes_parts, add_stays_ready}}
 use Rattle.plugin_session.proofs.{Courses.Calls.part-of_kinds, Numbered.last_found, StepEnds.begun-add}
 use Rattle.plugin_session.proofs.StepRows.{found-att, found-kept, kept-later, kept-new, own-kept, ranges-apart}

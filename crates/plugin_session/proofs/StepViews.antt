@@ -14,7 +14,8 @@ use Rattle.plugin_session.specs.{Ran.{IsNewRow, leased_after, row_after}, Steps.
 use Rattle.plugin_session.specs.{Steps.{after_task, handed, if_any, seen, seen_for}, Tasks.{command_of, course_by}}
 use Rattle.plugin_session.specs.Views.{SessionView, att_by, entries_of, finish, leased_by, leased_to, made_of, number}
 use Rattle.plugin_session.specs.{Views.{own, row_of, start}, declared.{answer.TaskAnswer.TaskAnswer, entry.Entry.Entry}}
-use Rattle.plugin_session.specs.declared.{row.Row.Row, task.Task.Task}
+use Rattle.plugin_session.specs.declared.row.Row.{Row}
+use Rattle.session_file.specs.declared.session.Task.{Task}
 use Rattle.plugin_session.proofs.Numbered.{before-all, before-own, entries_of-append, entries_of-later}
 use Rattle.plugin_session.proofs.Numbered.{entries_of-others, all-numbered, entries_of-own, filter-none_all, last_found}
 use Rattle.plugin_session.proofs.Numbered.{map-made}

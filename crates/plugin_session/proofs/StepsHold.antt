@@ -21,7 +21,8 @@ use Rattle.plugin_session.specs.{Laws.{IsDel, IsUndone, BeginsAt}, LawsOfAnswers
 use Rattle.plugin_session.specs.Ran.{IsAnswered, IsNewRow, Ran, RanByCourse, WasEarly, ask_for, course_for, early_for}
 use Rattle.plugin_session.specs.Steps.{IsViewKept, Seen, StepsHold, StepsHoldOfTheLast, after_task, handed, if_any}
 use Rattle.plugin_session.specs.{Steps.{seen, seen_for}, Views.{SessionView, ask_by, att_by, finish, number, own}}
-use Rattle.plugin_session.specs.declared.{answer.TaskAnswer.TaskAnswer, row.Row.Row, task.Task.Task}
+use Rattle.plugin_session.specs.declared.{answer.TaskAnswer.TaskAnswer, row.Row.Row}
+use Rattle.session_file.specs.declared.session.Task.{Task}
 use Rattle.plugin_session.specs.declared.answer.TaskAnswer.TheVariants as answers
 use Rattle.plugin_session.proofs.{Causes.each-cause, Checked.{check-exact, check-same, row-asks}, Collected.gc-keeps}
 use Rattle.plugin_session.proofs.Courses.{Added.{added_is_whole, refused_add_is_undone}, Deleted.deleted-gone}

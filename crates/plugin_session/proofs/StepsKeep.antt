@@ -18,7 +18,8 @@ use Rattle.plugin_session.specs.{Holds.Suite, Journal.entry_of, Kept.{IsRowKept,
 use Rattle.plugin_session.specs.{Pools.{IsReady, sets_by}, Ran.Ran, Steps.{IsViewKept, StepsKeep, StepsKeepLeases}}
 use Rattle.plugin_session.specs.Steps.{TheFirstViewIsKept, TheViewIsKept, after_task, handed, if_any}
 use Rattle.plugin_session.specs.Views.{SessionView, begun, finish, leased_to, number}
-use Rattle.plugin_session.specs.declared.{answer.TaskAnswer.TaskAnswer, entry.Entry.Entry, row.Row.Row, task.Task.Task}
+use Rattle.plugin_session.specs.declared.{answer.TaskAnswer.TaskAnswer, entry.Entry.Entry, row.Row.Row}
+use Rattle.session_file.specs.declared.session.Task.{Task}
 use Rattle.plugin_session.proofs.{Numbered.{filter-none_of, numbered-own}, StepRows.{kept-later, kept-new}}
 use Rattle.plugin_session.proofs.StepShapes.{begun-found, leases-alone, objects-after, ready-after, run_of}
 use Rattle.plugin_session.proofs.{StepViews.{leased_to-before, leased_to-own}, Unpooled.unpooled-leases}

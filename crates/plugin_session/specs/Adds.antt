@@ -15,7 +15,8 @@ use Rattle.gc_sweep.specs.Trace.{Made, replies}
 use Rattle.plugin_session.specs.{Course.Course, Holds.has_begun, Journal.{JournalView, Went, IsOver, IsStopped, may_go}}
 use Rattle.plugin_session.specs.{Journal.{after_entries, made_next}, Pools.{Pools, sets_by}, Tasks.forward_of}
 use Rattle.plugin_session.specs.{Tasks.kinds_back, declared.{begun.Begun.Begun, part.PartEnd.PartEnd, row.Row.Row}}
-use Rattle.plugin_session.specs.declared.{step.StepEnd.StepEnd, task.{SessionConf.SessionConf, Task.Task}}
+use Rattle.plugin_session.specs.declared.step.StepEnd.{StepEnd}
+use Rattle.session_file.specs.declared.session.{SessionConf.SessionConf, Task.Task}
 use Rattle.plugin_session.specs.declared.part.PartEnd.TheVariants as parts
 use Rattle.plugin_session.specs.declared.step.StepEnd.TheVariants as steps
 

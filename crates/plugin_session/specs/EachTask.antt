@@ -2,7 +2,7 @@
 use Rattle.std.specs.{List.list_all, Prelude.{◌≡◌, ◌<◌, ◌-◌, ℕ, true}}
 use Rattle.plugin_session.specs.{Holds.{Grows, Suite, TaskHolds}, Kept.is_numbered, Steps.IsViewKept, Views.SessionView}
 use Rattle.plugin_session.specs.{Views.{begun, number, upto}, declared.{entry.Entry.Entry, row.Row.Row}}
-use Rattle.plugin_session.specs.declared.task.SessionConf.{SessionConf}
+use Rattle.session_file.specs.declared.session.SessionConf.{SessionConf}
 
 -- the session's law of each task, by its place: it is the last of those up to it
 abbrev pub EachTaskHolds : Suite → SessionView → Type 0

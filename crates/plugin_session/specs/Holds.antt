@@ -20,7 +20,7 @@ use Rattle.plugin_session.specs.{Course.{IsRunFrom, begins}, Views.{PluginView, 
 use Rattle.plugin_session.specs.Views.{finish, row_of, part_by, att_by, command_by, ask_by, course, state, plugin_named}
 use Rattle.plugin_session.specs.declared.answer.TaskAnswer.{TaskAnswer, TheVariants.{Added, Yes, Refused, OutOfMemory}}
 use Rattle.plugin_session.specs.declared.{answer.TaskAnswer.TheVariants.Stopped, entry.Entry.Entry, row.Row.Row}
-use Rattle.plugin_session.specs.declared.task.Task.{Task}
+use Rattle.session_file.specs.declared.session.Task.{Task}
 use Rattle.pod_file.specs.declared.command.Verb.TheVariants as verbs
 use Rattle.cni_errors.specs.declared.answer.Cause.TheVariants as causes
 use Rattle.kernel_types.specs.declared.call.Reply.TheVariants as replies

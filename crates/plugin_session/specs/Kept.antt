@@ -4,31 +4,11 @@ use Rattle.std.specs.Prelude.{[], length, map, slice_get, Option, Some, None, Ma
 use Rattle.std.specs.Prelude.{reverse}
 use Rattle.cni_addr.specs.declared.address.Addr.{Addr}
 use Rattle.kernel_types.specs.{Equal.att_eq, declared.object.Att.Att}
-use Rattle.net_conf.specs.WellFormed.{IsWellFormedIpam}
-use Rattle.pod_file.specs.{WellFormed.IsOpening, declared.command.Verb.Verb}
 use Rattle.plugin_registry.specs.Own.{is_own_call}
 use Rattle.plugin_session.specs.{Holds.HasByRow, Journal.JournalView, Pools.{Pools, IsReady, sets_by}}
 use Rattle.plugin_session.specs.{Views.{SessionView, att_by, finish, leased_to, number}, declared.entry.Entry.Entry}
-use Rattle.plugin_session.specs.declared.{row.Row.Row, task.{SessionConf.SessionConf, Task.Task}}
-use Rattle.pod_file.specs.declared.command.Verb.TheVariants as verbs
-
--- a session has four of the verbs
-abbrev pub is_of_session : Verb → Bool
-is_of_session verbs.Add = true
-is_of_session verbs.Check = true
-is_of_session verbs.Del = true
-is_of_session verbs.Gc = true
-is_of_session verb = false
-
--- a session has so many tasks at most
-abbrev pub most_tasks : ℕ
-most_tasks = 65536
-
-pub record IsSessionConf (conf : SessionConf) : Type 0 where
-  pub opening : IsOpening conf.opening
-  pub ipam : IsWellFormedIpam conf.ipam
-  pub count : length conf.tasks ≤ most_tasks
-  pub verbs : list_all (λ (t : Task). is_of_session t.verb) conf.tasks ≡ true
+use Rattle.plugin_session.specs.declared.row.Row.{Row}
+use Rattle.session_file.specs.{WellFormed.IsSessionConf, declared.session.{SessionConf.SessionConf, Task.Task}}
 
 abbrev pub pools_of : SessionConf → Pools
 pools_of conf = record { network = conf.network; sets = sets_by conf.ipam }

@@ -13,8 +13,8 @@ use Rattle.gc_sweep.specs.Trace.{Made, replies}
 use Rattle.plugin_session.specs.{Course.{Course, IsRunFrom, begins, state_from}, Holds.{Suite, TaskCause, Known}}
 use Rattle.plugin_session.specs.{Holds.{early_by, error_by, has_begun, is_faulty}, Journal.IsOver, Pools.sets_by}
 use Rattle.plugin_session.specs.{Tasks.{command_of, course_by}, Views.{PluginView, plugin_named}}
-use Rattle.plugin_session.specs.declared.{answer.TaskAnswer.TaskAnswer, row.Row.Row, task.SessionConf.SessionConf}
-use Rattle.plugin_session.specs.declared.task.Task.{Task}
+use Rattle.plugin_session.specs.declared.{answer.TaskAnswer.TaskAnswer, row.Row.Row}
+use Rattle.session_file.specs.declared.session.{SessionConf.SessionConf, Task.Task}
 use Rattle.plugin_session.specs.declared.answer.TaskAnswer.TheVariants as answers
 use Rattle.cni_errors.specs.declared.answer.Ending.TheVariants as endings
 

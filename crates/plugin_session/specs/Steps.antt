@@ -9,11 +9,12 @@ use Rattle.cni_verbs.specs.Script.{leases_in}
 use Rattle.gc_sweep.specs.Trace.{Made, host_from, replies}
 use Rattle.plugin_session.specs.{Course.Course, Holds.{Grows, HasByRow, HoldsOf, Suite, TaskHolds, rows_of_task}}
 use Rattle.plugin_session.specs.{Journal.{JournalView, entry_of}, Kept.{AreLastRows, AreNumbered, IsKept, IsLastRow}}
-use Rattle.plugin_session.specs.{Kept.{IsRowKept, IsSessionConf, is_numbered, pools_of}, Pools.IsReady, Ran.Handed}
-use Rattle.plugin_session.specs.Ran.{Ran, ask_for, command_for, course_for, leased_after, row_after}
-use Rattle.plugin_session.specs.Views.{SessionView, ask_by, att_by, begun, command_by, course, finish, leased_by}
-use Rattle.plugin_session.specs.{Views.{leased_to, number, own, row_of, start}, declared.answer.TaskAnswer.TaskAnswer}
-use Rattle.plugin_session.specs.declared.{entry.Entry.Entry, row.Row.Row, task.{SessionConf.SessionConf, Task.Task}}
+use Rattle.plugin_session.specs.{Kept.{IsRowKept, is_numbered, pools_of}, Pools.IsReady, Ran.{Handed, Ran, ask_for}}
+use Rattle.plugin_session.specs.{Ran.{command_for, course_for, leased_after, row_after}, Views.{SessionView, ask_by}}
+use Rattle.plugin_session.specs.Views.{att_by, begun, command_by, course, finish, leased_by, leased_to, number, own}
+use Rattle.plugin_session.specs.{Views.{row_of, start}, declared.{answer.TaskAnswer.TaskAnswer, entry.Entry.Entry}}
+use Rattle.plugin_session.specs.declared.row.Row.{Row}
+use Rattle.session_file.specs.{WellFormed.IsSessionConf, declared.session.{SessionConf.SessionConf, Task.Task}}
 
 -- of what is kept from task to task (`IsKept`), what the view tells
 pub record IsViewKept (s : SessionView) : Type 0 where

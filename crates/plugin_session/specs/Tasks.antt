@@ -10,7 +10,8 @@ use Rattle.pod_file.specs.declared.command.Command.{Command}
 use Rattle.cni_errors.specs.ObjectQuestions.{link_question, address_question, route_question, rule_question}
 use Rattle.cni_errors.specs.{ObjectQuestions.{setting_question, lease_question}, declared.answer.Question.Question}
 use Rattle.kernel_types.specs.declared.call.Kind.TheVariants as kinds
-use Rattle.plugin_session.specs.{Course.Course, Pools.sets_by, declared.{row.Row.Row, task.Task.Task}}
+use Rattle.session_file.specs.declared.session.Task.{Task}
+use Rattle.plugin_session.specs.{Course.Course, Pools.sets_by, declared.row.Row.Row}
 
 -- a task as a command of the network, whose words are tested as a pod file's are
 abbrev pub command_of : List ℕ → ℕ → Task → Command

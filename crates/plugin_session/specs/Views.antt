@@ -13,7 +13,7 @@ use Rattle.cni_verbs.specs.Script.{State, leases_in}
 use Rattle.gc_sweep.specs.Trace.{Made, host_from, replies}
 use Rattle.plugin_session.specs.{Course.{Course, begins, state_from}, Pools.sets_by, Tasks.{command_of, course_by}}
 use Rattle.plugin_session.specs.declared.{answer.TaskAnswer.TaskAnswer, entry.Entry.Entry, row.Row.Row}
-use Rattle.plugin_session.specs.declared.task.{SessionConf.SessionConf, Task.Task}
+use Rattle.session_file.specs.declared.session.{SessionConf.SessionConf, Task.Task}
 
 pub record PluginView : Type 0 where
   pub name : List ℕ

@@ -26,7 +26,7 @@ use crate::lease::lease_by;
 use crate::part::PartEnd;
 use crate::row::Row;
 use crate::step::{StepEnd, make_call, make_row};
-use crate::task::{SessionConf, Task};
+use session_file::{SessionConf, Task};
 use cni_addr::{Addr, Duplicate, Items, NoMemory};
 use cni_errors::{Cause, Ending};
 use cni_result::AddResult;

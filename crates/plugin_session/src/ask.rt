@@ -12,7 +12,7 @@ ghost use Rattle.plugin_session.specs.Adds as adds;
 ghost use Rattle.plugin_session.specs.Pools.{sets_by};
 
 use crate::row::Row;
-use crate::task::{SessionConf, Task};
+use session_file::{SessionConf, Task};
 use cni_addr::{Addr, Duplicate, Items, NoMemory, RefCounted, Text};
 use cni_result::{AddResult, Cached};
 use host_local::given_of;

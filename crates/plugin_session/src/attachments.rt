@@ -1,9 +1,10 @@
 //! The attachments that a session's tasks speak of, by their numbers.
 
 ghost use Rattle.std.specs.Prelude.{◌≡◌, ◌≤◌, ◌<◌, ℕ, List, Option, None, Some, length, slice_get, IfOk, OnOk};
-ghost use Rattle.plugin_session.specs.Kept.{AreNumbered, most_tasks};
+ghost use Rattle.plugin_session.specs.Kept.{AreNumbered};
+ghost use Rattle.session_file.specs.WellFormed.{most_tasks};
 
-use crate::task::Task;
+use session_file::Task;
 use cni_addr::NoMemory;
 use std::alloc::Global;
 use std::collections::BTreeMap;

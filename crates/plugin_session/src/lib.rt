@@ -44,7 +44,6 @@ mod run_add;
 mod session;
 mod step;
 mod step_laws;
-mod task;
 mod words;
 
 pub use answer::TaskAnswer;
@@ -55,4 +54,3 @@ pub use step_laws::{
     each_task_holds, steps_are_seen, steps_grow, steps_hold, steps_keep, steps_keep_places,
     tasks_stay, views_are_kept,
 };
-pub use task::{SessionConf, Task};

@@ -24,7 +24,7 @@ use crate::journal::Journal;
 use crate::part::PartEnd;
 use crate::row::Row;
 use crate::run_add::run_add;
-use crate::task::{SessionConf, Task};
+use session_file::{SessionConf, Task};
 use crate::words::command_of;
 use cni_addr::{Addr, Items, NoMemory};
 use cni_errors::fields::{att_of, del_refusal};

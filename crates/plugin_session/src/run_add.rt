@@ -26,7 +26,7 @@ use crate::journal::Journal;
 use crate::part::PartEnd;
 use crate::row::Row;
 use crate::run::{Hand, TaskRun, answer_end, answered, without_row};
-use crate::task::SessionConf;
+use session_file::SessionConf;
 use cni_addr::{Duplicate, Items, NoMemory, RefCounted};
 use cni_errors::Ending;
 use cni_errors::fields::{add_refusal, att_of};

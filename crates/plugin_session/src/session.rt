@@ -5,7 +5,7 @@ ghost use Rattle.std.specs.Option.{option_and_then, option_copied, option_map, u
 ghost use Rattle.std.specs.Result.{ForOk};
 ghost use Rattle.plugin_registry.specs.Promised.{Keeps};
 ghost use Rattle.plugin_session.specs.Holds.{Grows, TaskHolds};
-ghost use Rattle.plugin_session.specs.Kept.{IsSessionConf};
+ghost use Rattle.session_file.specs.WellFormed.{IsSessionConf};
 ghost use Rattle.plugin_session.specs.Steps.{if_any, places_after};
 ghost use Rattle.plugin_session.specs.Views.{answer_of, begun, finish};
 
@@ -16,7 +16,7 @@ use crate::entry::Entry;
 use crate::journal::Journal;
 use crate::row::Row;
 use crate::run::{Hand, TaskRun, run_task};
-use crate::task::SessionConf;
+use session_file::SessionConf;
 use cni_addr::{Addr, Items, NoMemory};
 use cni_result::AddResult;
 use kernel_model::Kernel;

@@ -3,7 +3,7 @@
 ghost use Rattle.std.specs.Prelude.{IfOk, ◌≡◌};
 ghost use Rattle.plugin_session.specs.Tasks as tasks;
 
-use crate::task::Task;
+use session_file::Task;
 use cni_addr::{Duplicate, Items, NoMemory, Text};
 use pod_file::Command;
 use std::alloc::Global;

@@ -5,6 +5,6 @@
 #![tactic(auto)]
 
 #[cfg(test)]
-mod guard;
+mod suite;
 #[cfg(test)]
 mod tests;

@@ -6,18 +6,20 @@ ghost use Rattle.plugin_registry.specs.Promised.{Keeps};
 ghost use Rattle.std.specs.List.{list_all};
 ghost use Rattle.pod_file.specs.WellFormed.{IsOpening};
 ghost use Rattle.plugin_registry.specs.Own.{OwnCalls};
-ghost use Rattle.plugin_session.specs.Kept.{IsSessionConf, is_of_session};
-ghost use Rattle.session_trials.specs.Guard as guards;
+ghost use Rattle.session_file.specs.WellFormed.{IsSessionConf, is_of_session};
+ghost use Rattle.guard.specs.Guard as guards;
 
-use crate::guard::{GuardAlone, calls, kinds, needs, result};
+use crate::suite::GuardAlone;
 use cni_addr::{Duplicate, Items, NoMemory, Text};
 use cni_json::{Value, read};
 use cni_result::AddResult;
+use guard::{guard_calls, guard_kinds, guard_needs, guard_result};
 use kernel_model::{Kernel, ListKernel};
 use kernel_types::{Call, Host, Kind};
 use plugin_registry::{Ask, Calls, Need, Opt, Plugin, Promise, Registry, Results};
-use plugin_session::{Session, SessionConf, Task, TaskAnswer};
+use plugin_session::{Session, TaskAnswer};
 use pod_file::{ValidAtt, Verb, pod_file_laws, read_opening};
+use session_file::{SessionConf, Task};
 use std::alloc::Global;
 use std::test::Fail;
 
@@ -183,12 +185,12 @@ struct Parts {
 
 fn parts_of_guard(alloc: Global) -> Result<Parts, NoMemory>
     ensures name { IfOk result (λ parts. parts.name ≡ guards.guard_name) }
-    ensures needs { IfOk result (λ parts. parts.needs ≡ guards.guard_needs) }
-    ensures kinds { IfOk result (λ parts. parts.kinds ≡ guards.guard_kinds) }
+    ensures needs { IfOk result (λ parts. parts.needs ≡ guards.guard_needs_of) }
+    ensures kinds { IfOk result (λ parts. parts.kinds ≡ guards.guard_kinds_of) }
 {
     let name = Text::of(alloc, "guard")?;
-    let needs = needs(alloc)?;
-    let kinds = kinds(alloc)?;
+    let needs = guard_needs(alloc)?;
+    let kinds = guard_kinds(alloc)?;
     Ok(Parts { name, needs, kinds })
 }
 
@@ -229,15 +231,15 @@ fn a_registered_plugin_goes_through_each_verb(rt: HostRuntime) -> Result<(), Fai
     let asked: Calls = Box::new(
         alloc,
         |alloc: Global, ask: &Ask| -> Result<Items<Call>, NoMemory>
-            ensures calls { IfOk result (λ calls. calls ≡ guards.guard_calls ask.now) }
-            ensures own { IfOk result (λ calls. OwnCalls ask.now guards.guard_kinds calls) }
-        { calls(alloc, ask) },
+            ensures calls { IfOk result (λ calls. calls ≡ guards.guard_calls_of ask.now) }
+            ensures own { IfOk result (λ calls. OwnCalls ask.now guards.guard_kinds_of calls) }
+        { guard_calls(alloc, ask) },
     )?;
     let answered: Results = Box::new(
         alloc,
         |alloc: Global, _ask: &Ask| -> Result<AddResult, NoMemory>
-            ensures { IfOk result (λ r. r ≡ guards.guard_result) }
-        { result(alloc) },
+            ensures { IfOk result (λ r. r ≡ guards.guard_result_of) }
+        { guard_result(alloc) },
     )?;
     let Parts { name, needs, kinds } = parts;
     let guard: Plugin<GuardAlone> = Plugin::new(name, needs, kinds, asked, answered);

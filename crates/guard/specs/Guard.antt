@@ -1,4 +1,4 @@
--- `guard`, a plugin that lets packets from one address through, and a suite of this plugin alone.
+-- `guard`: a plugin that lets packets from one address through. It is this project's own.
 use Rattle.std.specs.{Option.{option_and_then, option_map_or}, Prelude.{◌≡◌, ℕ, List, [], ◌∷◌, codes, Option, Some}}
 use Rattle.std.specs.Prelude.{true}
 use Rattle.cni_addr.specs.{AddrText.addr_of_text, Network.whole, declared.address.Addr.Addr}
@@ -15,25 +15,20 @@ guard_name = codes "guard"
 abbrev pub from_key : List ℕ
 from_key = codes "from"
 
-abbrev pub guard_needs : List Need
-guard_needs = record { key = from_key; form = Address; must = true } ∷ []
+abbrev pub guard_needs_of : List Need
+guard_needs_of = record { key = from_key; form = Address; must = true } ∷ []
 
-abbrev pub guard_kinds : List Kind
-guard_kinds = Rules ∷ []
+abbrev pub guard_kinds_of : List Kind
+guard_kinds_of = Rules ∷ []
 
+-- packets from this address are accepted
 abbrev pub guard_rule : Att → Addr → Rule
 guard_rule att addr = record (rule_for_all att Filter Forward Accept) { src = Some (whole addr) }
 
-abbrev pub guard_calls : Ask → List Call
-guard_calls ask = option_map_or (λ addr. RuleAppend (guard_rule ask.att addr) ∷ [])
+-- one rule, for the address in the option `from`
+abbrev pub guard_calls_of : Ask → List Call
+guard_calls_of ask = option_map_or (λ addr. RuleAppend (guard_rule ask.att addr) ∷ [])
     (option_and_then addr_of_text (value_of from_key ask.options)) []
 
-abbrev pub guard_result : AddResult
-guard_result = record { version = V1_1; interfaces = []; ips = []; routes = []; dns = no_dns }
-
--- exactly these calls and this result, of a plugin of this name
-abbrev pub guard_may_call : List ℕ → Ask → List Call → Type 0
-guard_may_call name ask calls = (name ≡ guard_name) × (calls ≡ guard_calls ask)
-
-abbrev pub guard_may_result : List ℕ → Ask → AddResult → Type 0
-guard_may_result name ask result = (name ≡ guard_name) × (result ≡ guard_result)
+abbrev pub guard_result_of : AddResult
+guard_result_of = record { version = V1_1; interfaces = []; ips = []; routes = []; dns = no_dns }

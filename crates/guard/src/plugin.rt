@@ -1,32 +1,22 @@
-//! `guard`: a plugin that lets packets from one address through.
+//! What `guard` needs, makes and answers.
 
 ghost use Rattle.std.specs.Prelude.{◌≡◌, ◌∷◌, [], IfOk};
 ghost use Rattle.std.specs.Option.{option_and_then};
 ghost use Rattle.cni_addr.specs.AddrText.{addr_of_text};
 ghost use Rattle.plugin_registry.specs.Needs.{value_of};
 ghost use Rattle.plugin_registry.specs.Own.{OwnCalls};
-ghost use Rattle.session_trials.specs.Guard as guard;
+ghost use Rattle.guard.specs.Guard as plan;
 
 use cni_addr::{Addr, Items, NoMemory, RefCounted, Text, read_addr, whole};
 use cni_result::{AddResult, Version, no_dns};
 use kernel_types::{Call, Chain, Kind, Rule, Table, Target};
 use plugin_base::rule_for_all;
-use plugin_registry::{Ask, Form, Need, Promise, value_of};
+use plugin_registry::{Ask, Form, Need, value_of};
 use std::alloc::Global;
 
-/// The suite of `guard` alone.
-pub(crate) struct GuardAlone;
-
-impl Promise for GuardAlone {
-    ghost use Rattle.session_trials.specs.Guard.{guard_may_call, guard_may_result};
-
-    ghost may_call = { guard_may_call };
-
-    ghost may_result = { guard_may_result };
-}
-
-pub(crate) fn needs(alloc: Global) -> Result<Items<Need>, NoMemory>
-    ensures { IfOk result (λ needs. needs ≡ guard.guard_needs) }
+/// The option that the plugin looks at: `from`, an address of either family, which must be there.
+pub fn guard_needs(alloc: Global) -> Result<Items<Need>, NoMemory>
+    ensures { IfOk result (λ needs. needs ≡ plan.guard_needs_of) }
 {
     let mut needs = Items::new(alloc);
     needs.push(Need {
@@ -37,8 +27,9 @@ pub(crate) fn needs(alloc: Global) -> Result<Items<Need>, NoMemory>
     Ok(needs)
 }
 
-pub(crate) fn kinds(alloc: Global) -> Result<Items<Kind>, NoMemory>
-    ensures { IfOk result (λ kinds. kinds ≡ guard.guard_kinds) }
+/// The kinds of what the plugin makes: rules alone.
+pub fn guard_kinds(alloc: Global) -> Result<Items<Kind>, NoMemory>
+    ensures { IfOk result (λ kinds. kinds ≡ plan.guard_kinds_of) }
 {
     let mut kinds = Items::new(alloc);
     kinds.push(Kind::Rules)?;
@@ -47,7 +38,7 @@ pub(crate) fn kinds(alloc: Global) -> Result<Items<Kind>, NoMemory>
 
 /// The address in the option `from`.
 fn from(ask: &Ask) -> Option<Addr>
-    ensures { result ≡ option_and_then addr_of_text (value_of guard.from_key ask.now.options) }
+    ensures { result ≡ option_and_then addr_of_text (value_of plan.from_key ask.now.options) }
 {
     match value_of("from", ask.options.as_slice()) {
         None => None,
@@ -55,9 +46,11 @@ fn from(ask: &Ask) -> Option<Addr>
     }
 }
 
-pub(crate) fn calls(alloc: Global, ask: &Ask) -> Result<Items<Call>, NoMemory>
-    ensures calls { IfOk result (λ calls. calls ≡ guard.guard_calls ask.now) }
-    ensures own { IfOk result (λ calls. OwnCalls ask.now guard.guard_kinds calls) }
+/// The call after the leases: a rule that accepts what is forwarded from the address in `from`. What was leased is not
+/// looked at. Where `from` is no address there is no call; the plugin isn't asked then.
+pub fn guard_calls(alloc: Global, ask: &Ask) -> Result<Items<Call>, NoMemory>
+    ensures calls { IfOk result (λ calls. calls ≡ plan.guard_calls_of ask.now) }
+    ensures own { IfOk result (λ calls. OwnCalls ask.now plan.guard_kinds_of calls) }
 {
     let mut calls = Items::new(alloc);
     if let Some(addr) = from(ask) {
@@ -72,8 +65,9 @@ pub(crate) fn calls(alloc: Global, ask: &Ask) -> Result<Items<Call>, NoMemory>
     Ok(calls)
 }
 
-pub(crate) fn result(alloc: Global) -> Result<AddResult, NoMemory>
-    ensures { IfOk result (λ r. r ≡ guard.guard_result) }
+/// The result, which has no interface and no address.
+pub fn guard_result(alloc: Global) -> Result<AddResult, NoMemory>
+    ensures { IfOk result (λ r. r ≡ plan.guard_result_of) }
 {
     Ok(AddResult {
         version: Version::V1_1,
