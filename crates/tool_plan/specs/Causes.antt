@@ -2,7 +2,7 @@
 use Rattle.std.specs.Prelude.{◌≡◌, ◌⊎◌, ℕ, List, [], ◌∷◌, ◌++◌, Option, Some, option_to_list, Result, Ok, Err, IsOk, ⊤}
 use Rattle.cni_io.specs.{Failures.Rose, Files.StoredFiles}
 use Rattle.pod_file.specs.{PodFile.pods_of, declared.pods.Pods.Pods}
-use Rattle.tool_words.specs.declared.source.{Named.Named, Source.{Source, TheVariants.{Files, Generated}}}
+use Rattle.tool_words.specs.declared.source.{Named.Named, Source.{Source, TheVariants.{Files, Generated, Session}}}
 use Rattle.tool_plan.specs.{Lines.unread_line, Seen.FilesSeen, Verdict.{Judged, input_of, stored_lists, stored_pods}}
 use Rattle.tool_plan.specs.declared.plan.{Input.Input, NoPlan.{NoPlan, TheVariants.{Usage, Line, Unread, NoMemory}}}
 
@@ -26,11 +26,12 @@ abbrev pub ReachesPackets : Option StoredFiles → Named → List ℕ → Type 0
 ReachesPackets files named file =
     (named.packets ≡ Some file) × WhereTold files (λ stored. IsOk (stored_lists stored named.lists))
 
--- reading gets to this file: the pod file; or, behind it, one of the lists, or the packet file
+-- reading gets to this file: the pod file; or, behind it, one of the lists, or the packet file; or the session file
 abbrev pub ReachesFile : Option StoredFiles → Source → List ℕ → Type 0
 ReachesFile files (Files named) file = (file ≡ named.pods)
     ⊎ (AreTakenPods files named × (ReachesList files named.lists file ⊎ ReachesPackets files named file))
 ReachesFile files (Generated count stop_at) file = ⊥
+ReachesFile files (Session named) file = file ≡ named
 
 -- a read failed, and the line names a file that reading gets to
 pub record IsUnread (Reached : List ℕ → Type 0) (before now : ℕ) (line : List ℕ) : Type 0 where
@@ -58,10 +59,12 @@ GivesJudged (Err (Line line)) wanted = wanted ≡ Err line.items
 GivesJudged (Err (Unread line)) wanted = ⊥
 GivesJudged (Err NoMemory) wanted = ⊤
 
--- the files that are named: the pod file, the lists and the packet file; where pods are generated, none
+-- the files that are named: the pod file, the lists and the packet file; or the session file; where pods are
+-- generated, none
 abbrev pub files_named : Source → List (List ℕ)
 files_named (Files named) = named.pods ∷ named.lists ++ option_to_list named.packets
 files_named (Generated count stop_at) = []
+files_named (Session file) = file ∷ []
 
 -- these are the files, as far as any is named: they are told, or none is named
 abbrev pub AreFilesFor : Source → FilesSeen → StoredFiles → Type 0

@@ -4,7 +4,9 @@ use Rattle.cni_io.specs.Files.{StoredFiles}
 use Rattle.pod_workers.specs.Plans.{IsWellFormed}
 use Rattle.tool_words.specs.{Words.words_given, declared.words.Words.Words}
 use Rattle.tool_plan.specs.{Causes.{IsUnread, ReachesFile, files_named}, Seen.FilesSeen, Verdict.{IsAskedBy, Verdict}}
-use Rattle.tool_plan.specs.{Verdict.{carry, line, verdict_of}, declared.{due.Due.Due, plan.NoPlan.NoPlan}}
+use Rattle.tool_plan.specs.{Verdict.{carry, line, session, session_asked_of, verdict_of}, declared.{due.{Due.Due, DuePlan.DuePlan, DueSession.DueSession}, plan.NoPlan.NoPlan}}
+use Rattle.session_file.specs.WellFormed.{IsSessionConf}
+use Rattle.tool_plan.specs.declared.due.Due.TheVariants as dues
 use Rattle.tool_plan.specs.declared.plan.NoPlan.TheVariants.{Usage, Line, Unread, NoMemory}
 
 -- the words name no file: they aren't taken, or they ask for generated pods
@@ -32,7 +34,7 @@ pub record IsUnreadOf (words : List (List ℕ)) (files : FilesSeen) (bytes : Lis
   pub unread : IsUnread (ReachesFile files.stored by.source) files.failures_before files.failures_now bytes
 
 -- the words are taken and ask for so many threads, and words and files come to this plan and what is printed of it
-pub record IsDueOf (words : List (List ℕ)) (files : FilesSeen) (due : Due) : Type 0 where
+pub record IsDueOf (words : List (List ℕ)) (files : FilesSeen) (due : DuePlan) : Type 0 where
   pub by : Words
   pub words_are : words_given words ≡ Some by
   pub threads_are : due.threads ≡ by.threads
@@ -41,7 +43,15 @@ pub record IsDueOf (words : List (List ℕ)) (files : FilesSeen) (due : Due) : T
   pub well_formed : IsWellFormed due.plan
   pub some_threads : 1 ≤ due.threads
 
--- words and files come to no plan, for this cause
+-- the words are taken, and words and files come to this session and what is printed of it
+pub record IsSessionDueOf (words : List (List ℕ)) (files : FilesSeen) (due : DueSession) : Type 0 where
+  pub by : Words
+  pub words_are : words_given words ≡ Some by
+  pub comes : ComesTo words files (session due.conf due.asked)
+  pub asked_is : due.asked ≡ session_asked_of by
+  pub well_formed : IsSessionConf due.conf
+
+-- words and files come to nothing that is due, for this cause
 abbrev pub ComesToNoPlan : List (List ℕ) → FilesSeen → NoPlan → Type 0
 ComesToNoPlan words files Usage = words_given words ≡ None
 ComesToNoPlan words files (Line text) = IsRefusal words files text.items
@@ -49,5 +59,6 @@ ComesToNoPlan words files (Unread text) = IsUnreadOf words files text.items
 ComesToNoPlan words files NoMemory = ⊤
 
 abbrev pub ComesToDue : List (List ℕ) → FilesSeen → Result Due NoPlan → Type 0
-ComesToDue words files (Ok due) = IsDueOf words files due
+ComesToDue words files (Ok (dues.Plan due)) = IsDueOf words files due
+ComesToDue words files (Ok (dues.Session due)) = IsSessionDueOf words files due
 ComesToDue words files (Err none) = ComesToNoPlan words files none

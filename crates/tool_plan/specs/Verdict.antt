@@ -12,7 +12,11 @@ use Rattle.pod_file.specs.{Generator.generated, PodFile.pods_of, declared.pods.P
 use Rattle.pod_text.specs.declared.asked.{Asked.Asked, CommandPart.{CommandPart, TheVariants.{Lines, Summary}}}
 use Rattle.pod_workers.specs.{Join.joined, declared.plan.Plan.Plan}
 use Rattle.tool_words.specs.{Words.words_given, declared.source.{Named.Named, Source.{Source, TheVariants.Files}}}
-use Rattle.tool_words.specs.declared.{source.Source.TheVariants.Generated, words.Words.Words}
+use Rattle.tool_words.specs.declared.{source.Source.TheVariants.{Generated, Session}, words.Words.Words}
+use Rattle.session_file.specs.{SessionFile.session_of, declared.session.SessionConf.SessionConf}
+use Rattle.pod_text.specs.declared.asked.SessionAsked.{SessionAsked}
+use Rattle.tool_plan.specs.declared.plan.PlanInput.{PlanInput}
+use Rattle.tool_plan.specs.declared.plan.Input.TheVariants as inputs
 use Rattle.tool_plan.specs.{Lines.{reason_line, unread_line, error_line}, Refusals.{list_error, packets_error}}
 use Rattle.tool_plan.specs.{Refusals.{pods_error, plan_error, blamed_file}, declared.plan.Input.Input}
 
@@ -50,6 +54,9 @@ judged_pods file bytes = judged_by pods_of pods_error file bytes
 abbrev pub judged_list : List ℕ → List ℕ → Judged RawView
 judged_list file bytes = judged_by raw_of list_error file bytes
 
+abbrev pub judged_session : List ℕ → List ℕ → Judged SessionConf
+judged_session file bytes = judged_by session_of pods_error file bytes
+
 abbrev pub judged_packets : List ℕ → List ℕ → Judged (List Packet)
 judged_packets file bytes = judged_by packets_of packets_error file bytes
 
@@ -58,6 +65,9 @@ stored_pods files file = stored_bytes files file >>= judged_pods file
 
 unfoldable pub stored_list : StoredFiles → List ℕ → Judged RawView
 stored_list files file = stored_bytes files file >>= judged_list file
+
+unfoldable pub stored_session : StoredFiles → List ℕ → Judged SessionConf
+stored_session files file = stored_bytes files file >>= judged_session file
 
 -- each list in order, up to the first that is refused
 abbrev pub stored_lists : StoredFiles → List (List ℕ) → Judged (List RawView)
@@ -85,7 +95,7 @@ judged_plan named pods lists = judged (λ e. error_line (plan_error e) (blamed_f
 
 -- the pod file, then each list, then the packet file, then the plan; the lists' objects are kept where requests are
 -- asked for
-unfoldable pub input_of_files : StoredFiles → Named → Judged Input
+unfoldable pub input_of_files : StoredFiles → Named → Judged PlanInput
 input_of_files files named = do
   pods ← stored_pods files named.pods
   raws ← stored_lists files named.lists
@@ -102,21 +112,22 @@ generated_plan stop_at count = let made = generated count in record {
 }
 
 -- generated pods have no requests and no packets
-abbrev pub generated_input : Option ℕ → ℕ → Input
+abbrev pub generated_input : Option ℕ → ℕ → PlanInput
 generated_input stop_at count = record { plan = generated_plan stop_at count; requests = None; packets = [] }
 
--- the input of files, or of generated pods, on which no file has a say
+-- the input of files, of a session file, or of generated pods, on which no file has a say
 abbrev pub input_of : StoredFiles → Source → Judged Input
-input_of files (Files named) = input_of_files files named
-input_of files (Generated count stop_at) = Ok (generated_input stop_at count)
+input_of files (Files named) = result_map inputs.Plan (input_of_files files named)
+input_of files (Generated count stop_at) = Ok (inputs.Plan (generated_input stop_at count))
+input_of files (Session file) = result_map inputs.Session (stored_session files file)
 
 -- what is printed of the commands: generated ones are many, and have one line of numbers
 abbrev pub command_part_of : Source → CommandPart
-command_part_of (Files named) = Lines
 command_part_of (Generated count stop_at) = Summary
+command_part_of source = Lines
 
 -- what is to be printed of this input
-abbrev pub asked_of : Words → Input → Asked
+abbrev pub asked_of : Words → PlanInput → Asked
 asked_of words input = record {
   commands = command_part_of words.source;
   requests = input.requests;
@@ -125,17 +136,21 @@ asked_of words input = record {
   packets = input.packets;
 }
 
+-- what is to be printed of a session
+abbrev pub session_asked_of : Words → SessionAsked
+session_asked_of words = record { trace = words.trace; dump = words.dump }
+
 -- ---- what the words say of this, whatever the files
 
 -- requests are asked for
 abbrev pub asks_for_requests : Source → Bool
 asks_for_requests (Files named) = named.requests
-asks_for_requests (Generated count stop_at) = false
+asks_for_requests source = false
 
 -- the packet file that is named
 abbrev pub packets_named : Source → Option (List ℕ)
 packets_named (Files named) = named.packets
-packets_named (Generated count stop_at) = None
+packets_named source = None
 
 -- where requests are asked for, these are the plan's lists with their plugins' objects, and else none
 abbrev pub AreRequestsOf : Source → Plan → Option (List RawView) → Type 0
@@ -145,7 +160,7 @@ AreRequestsOf source plan raws = option_map lists_of raws ≡ then_some (asks_fo
 abbrev pub ArePacketsOf : Source → List Packet → Type 0
 ArePacketsOf source packets = packets_named source ≡ None → packets ≡ []
 
-pub record IsInputBy (source : Source) (input : Input) : Type 0 where
+pub record IsInputBy (source : Source) (input : PlanInput) : Type 0 where
   pub requests : AreRequestsOf source input.plan input.requests
   pub packets : ArePacketsOf source input.packets
 
@@ -159,14 +174,17 @@ pub record IsAskedBy (words : Words) (plan : Plan) (asked : Asked) : Type 0 wher
 
 -- ---- what words and files come to
 
--- the words aren't taken; or a line tells what is refused; or a plan is carried out, and this is printed of it
+-- the words aren't taken; or a line tells what is refused; or a plan is carried out, or a session run, and this is
+-- printed of it
 pub data Verdict : Type 0 where
   usage : Verdict
   line : List ℕ → Verdict
   carry : Plan → Asked → Verdict
+  session : SessionConf → SessionAsked → Verdict
 
 abbrev pub verdict_on : Words → Judged Input → Verdict
-verdict_on words (Ok input) = carry input.plan (asked_of words input)
+verdict_on words (Ok (inputs.Plan input)) = carry input.plan (asked_of words input)
+verdict_on words (Ok (inputs.Session conf)) = session conf (session_asked_of words)
 verdict_on words (Err text) = line text
 
 abbrev pub verdict_if : Option Words → StoredFiles → Verdict

@@ -6,7 +6,7 @@ ghost use Rattle.tool_words.specs.Command.{most_pods};
 ghost use Rattle.tool_plan.specs.Verdict.{generated_input, generated_plan};
 
 use crate::laws::generated_plans_are_well_formed;
-use crate::plan::Input;
+use crate::plan::PlanInput;
 use cni_addr::{Items, NoMemory, RefCounted};
 use pod_file::{Generated, generate};
 use pod_workers::Plan;
@@ -17,13 +17,13 @@ pub(crate) fn generated_input(
     alloc: Global,
     count: u32,
     stop_at: Option<u32>,
-) -> Result<Input, NoMemory>
+) -> Result<PlanInput, NoMemory>
     requires some { 1 ≤ count }
     requires few { count ≤ most_pods }
     ensures input { IfOk result (λ input. input ≡ generated_input stop_at count) }
     ensures well_formed { IfOk result (λ input. IsWellFormed input.plan) }
 {
-    Ok(Input {
+    Ok(PlanInput {
         plan: generated_plan(alloc, count, stop_at)?,
         requests: None,
         packets: Items::new(alloc),

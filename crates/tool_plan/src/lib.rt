@@ -22,7 +22,8 @@ mod laws;
 pub mod lines;
 pub mod plan;
 mod refusals;
+mod session;
 
-pub use due::{Due, read_due};
+pub use due::{Due, DuePlan, DueSession, read_due};
 pub use lines::USAGE;
 pub use plan::NoPlan;

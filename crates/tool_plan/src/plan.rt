@@ -18,6 +18,7 @@ use packet_probe::{Packet, PacketsError};
 use plugin_requests::RawList;
 use pod_file::{PodError, Pods};
 use pod_workers::Plan;
+use session_file::SessionConf;
 use sha2::{Digest, Sha256};
 use std::alloc::Global;
 use tool_words::Named;
@@ -25,9 +26,18 @@ use tool_words::Named;
 /// The most bytes that a file may have.
 const MOST_BYTES: u64 = 16_777_216;
 
+/// What the source gives.
+#[derive(Drop)]
+pub enum Input {
+    /// Of files or of the generator.
+    Plan(PlanInput),
+    /// Of a session file.
+    Session(SessionConf),
+}
+
 /// A plan, and what is to be printed of it that words alone don't say.
 #[derive(Drop)]
-pub struct Input {
+pub struct PlanInput {
     pub plan: Plan,
     /// The plan's lists with their plugins' objects, where requests are asked for.
     pub requests: Option<Items<RawList>>,
@@ -64,7 +74,7 @@ pub(crate) fn read_input<F: Files>(
     files: &mut F,
     named: &Named,
     seen: &mut Sha256,
-) -> Result<Input, NoPlan>
+) -> Result<PlanInput, NoPlan>
     requires { length named.now.lists ≤ most_lists }
     ensures gives { GivesStored (λ input. input) (F.files files.old)
         (F.failure_count files.old) (F.failure_count files.new)
@@ -80,7 +90,7 @@ pub(crate) fn read_input<F: Files>(
     let packets = read_packets(alloc, files, &named.packets, seen)?;
     let lists = shared_lists(alloc, raws.as_slice())?;
     let plan = join(alloc, named, pods, lists)?;
-    Ok(Input {
+    Ok(PlanInput {
         plan,
         requests: named.requests.then_some(raws),
         packets,
@@ -256,7 +266,7 @@ fn packets_of_bytes(alloc: Global, bytes: &[u8], file: &str) -> Result<Items<Pac
 }
 
 #[tactic(auto, using(crate::proofs::Stopping::stopping))]
-fn read_bytes<F: Files>(alloc: Global, files: &mut F, file: &str) -> Result<Vec<u8>, NoPlan>
+pub(crate) fn read_bytes<F: Files>(alloc: Global, files: &mut F, file: &str) -> Result<Vec<u8>, NoPlan>
     ensures gives { GivesStored (λ bytes. bytes.items) (F.files files.old)
         (F.failure_count files.old) (F.failure_count files.new)
         (λ name. name ≡ file.now) (λ stored. stored_bytes stored file.now) result }

@@ -1,12 +1,16 @@
-//! Where the pods come from.
+//! Where the pods come from, or the tasks.
 
-ghost use Rattle.std.specs.Prelude.{◌≡◌};
-ghost use Rattle.tool_words.specs.Source.{begins_plainly, count_of, files_of, generated_of, is_alone, source_of};
+ghost use Rattle.std.specs.Prelude.{◌≡◌, IfOk};
+ghost use Rattle.tool_words.specs.Source.{begins_plainly, count_of, files_of, generated_of, is_alone, session_of, source_of};
 
-use cni_addr::{Items, Text};
+use cni_addr::{Items, NoMemory, Text};
+use std::alloc::Global;
 
 /// What stands before the number of pods that are to be generated.
 const GENERATED: &str = "gen:";
+
+/// What stands before the name of a session file.
+const SESSION: &str = "reg:";
 
 /// The most pods that may be generated.
 const MOST_PODS: u32 = 10_000;
@@ -14,7 +18,7 @@ const MOST_PODS: u32 = 10_000;
 /// The most lists that may be named.
 const MOST_LISTS: usize = 64;
 
-/// Where the pods and their networks come from, with what this source alone takes.
+/// Where what is to be done comes from, with what this source alone takes.
 #[derive(Drop)]
 pub enum Source {
     /// A pod file and network lists.
@@ -26,6 +30,8 @@ pub enum Source {
         /// As in [`Named`].
         stop_at: Option<u32>,
     },
+    /// The session file of this name, with the tasks of plugins that a caller brings.
+    Session { file: Text },
 }
 
 /// The files that are named, and what is asked of them.
@@ -44,13 +50,16 @@ pub struct Named {
 }
 
 /// What the words name, as a source.
-pub(crate) fn source_of(named: Named) -> Option<Source>
-    ensures { result ≡ source_of named }
+pub(crate) fn source_of(alloc: Global, named: Named) -> Result<Option<Source>, NoMemory>
+    ensures { IfOk result (λ source. source ≡ source_of named) }
 {
     if let Some(number) = named.pods.as_str().strip_prefix(GENERATED) {
-        return generated(number, &named);
+        return Ok(generated(number, &named));
     }
-    files(named)
+    if let Some(file) = named.pods.as_str().strip_prefix(SESSION) {
+        return session(alloc, file, &named);
+    }
+    Ok(files(named))
 }
 
 fn generated(number: &str, named: &Named) -> Option<Source>
@@ -63,6 +72,17 @@ fn generated(number: &str, named: &Named) -> Option<Source>
         }),
         _ => None,
     }
+}
+
+fn session(alloc: Global, file: &str, named: &Named) -> Result<Option<Source>, NoMemory>
+    ensures { IfOk result (λ source. source ≡ session_of file.now named.now) }
+{
+    if !is_alone(named) || named.stop_at.is_some() {
+        return Ok(None);
+    }
+    Ok(Some(Source::Session {
+        file: Text::of(alloc, file)?,
+    }))
 }
 
 fn is_alone(named: &Named) -> bool
