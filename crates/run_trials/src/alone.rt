@@ -2,6 +2,7 @@
 
 use cni_addr::{Items, NoMemory, Text};
 use cni_io::{MemFiles, MemSink};
+use plugin_registry::{Promise, Registry};
 use std::alloc::Global;
 use std::mem::forget;
 use std::test::Fail;
@@ -43,14 +44,24 @@ fn files(alloc: Global) -> Result<MemFiles, Fail> {
     with_file(alloc, pods, "net.json", LIST)
 }
 
-/// The status of a run, and its sink.
+/// The suite of no plugin.
+struct NoPlugins;
+
+impl Promise for NoPlugins {
+    ghost may_call = { λ name ask calls. ⊥ };
+
+    ghost may_result = { λ name ask result. ⊥ };
+}
+
+/// The status of a run without plugins, and its sink.
 fn ended(
     alloc: Global,
     words: Items<Text>,
     mut files: MemFiles,
     mut sink: MemSink,
 ) -> (u8, MemSink) {
-    let outcome = run_alone(alloc, words.as_slice(), &mut files, &mut sink);
+    let registry: Registry<NoPlugins> = Registry::new(alloc);
+    let outcome = run_alone(alloc, words.as_slice(), &mut files, &mut sink, &registry);
     let status = outcome.status;
     forget(outcome);
     (status, sink)

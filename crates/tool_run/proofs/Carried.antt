@@ -4,12 +4,15 @@ use Rattle.std.proofs.lemmas.Option.{same_Some}
 use Rattle.pod_text.specs.Lines.{text_of}
 use Rattle.pod_workers.specs.{Legal.Legal, Order.IsInFileOrder, World.World, declared.plan.Plan.Plan}
 use Rattle.tool_words.specs.declared.words.Words.{Words}
-use Rattle.tool_plan.specs.{Dues.IsDueOf, Seen.FilesSeen, Verdict.{IsAskedBy, carry}, declared.due.Due.Due}
-use Rattle.tool_run.specs.{Reports.{CarriesOut, Settles}, Runs.AskForOneThread, declared.carry.CarriedOut.CarriedOut}
+use Rattle.tool_plan.specs.{Dues.{IsDueOf, IsSessionDueOf}, Seen.FilesSeen, Verdict.{IsAskedBy, carry, session}, declared.due.{DuePlan.DuePlan, DueSession.DueSession}}
+use Rattle.tool_run.specs.{Reports.{CarriesOut, RunsSession, Settles}, Runs.AskForOneThread}
+use Rattle.tool_run.specs.declared.{carry.CarriedOut.CarriedOut, session.RanSession.RanSession}
+use Rattle.tool_run.specs.declared.settle.Settled.TheVariants as settled
+use Rattle.session_file.specs.declared.session.SessionConf.{SessionConf}
 
 -- what was due is what is to be reported
-pub settles_made : {K : Type 0} (words : List (List ℕ)) (files : FilesSeen) (due : Due) (made : CarriedOut K)
-    → IsDueOf words files due → CarriesOut due made → Settles words files (Ok made)
+pub settles_made : {K : Type 0} (words : List (List ℕ)) (files : FilesSeen) (due : DuePlan) (made : CarriedOut K)
+    → IsDueOf words files due → CarriesOut due made → Settles words files (Ok (settled.Plan made))
 settles_made words files due made is carries = (
   due.asked,
   record {
@@ -23,13 +26,28 @@ settles_made words files due made is carries = (
   carries.text,
 )
 
-pub one_thread : (words : List (List ℕ)) (files : FilesSeen) (due : Due) → IsDueOf words files due
+-- the session that was due is what is to be reported
+pub settles_session : {K : Type 0} (words : List (List ℕ)) (files : FilesSeen) (due : DueSession) (ran : RanSession K)
+    → IsSessionDueOf words files due → RunsSession due ran → Settles words files (Ok (settled.Session ran))
+settles_session words files due ran is runs = (
+  due.asked,
+  record {
+    by = is.by;
+    words_are = is.words_are;
+    comes = λ stored at. is.comes stored at ∙ ap (λ (conf : SessionConf). session conf due.asked) (sym runs.conf);
+    asked_is = is.asked_is;
+    answered = runs.answered;
+  },
+  runs.text,
+)
+
+pub one_thread : (words : List (List ℕ)) (files : FilesSeen) (due : DuePlan) → IsDueOf words files due
     → AskForOneThread words → due.threads ≡ 1
 one_thread words files due is asked = is.threads_are ∙ ap (λ (w : Words). w.threads) (same_Some is.by asked.0 (sym is.words_are ∙ asked.1)) ∙ asked.2
 
 -- ---- the text of a book
 
-pub carries_out : {K E : Type 0} (due : Due) (book : World) (r : Result (CarriedOut K) E) → book.plan ≡ due.plan
+pub carries_out : {K E : Type 0} (due : DuePlan) (book : World) (r : Result (CarriedOut K) E) → book.plan ≡ due.plan
     → length book.plan.pods.rounds ≤ book.round → Legal book
     → IfOk r (λ (made : CarriedOut K). made.book ≡ book) → IfOk r (λ (made : CarriedOut K). made.text.items ≡ text_of book due.asked) → IfOk r (CarriesOut due)
 carries_out due book (Ok made) plan over legal is text = record {

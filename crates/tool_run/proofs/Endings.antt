@@ -14,38 +14,59 @@ use Rattle.pod_text.specs.{Statuses.{is_failure, is_out_of_memory, status_of}, S
 use Rattle.pod_text.specs.declared.asked.{Asked.Asked, CommandPart.{CommandPart, TheVariants.{Lines, Summary}}}
 use Rattle.pod_workers.specs.{Order.{IsDoneInFileOrder, IsInFileOrder, OneOutcome}, World.{World, host_of}}
 use Rattle.pod_workers.specs.declared.plan.{Entry.Entry, Plan.Plan}
-use Rattle.tool_words.specs.declared.source.Source.{Source, TheVariants.{Files, Generated}}
+use Rattle.tool_words.specs.declared.source.Source.{Source, TheVariants.{Files, Generated, Session}}
 use Rattle.tool_plan.specs.{Causes.{ReachesFile, files_named}, Dues.{AreFiles, IsUnreadOf}, Lines.usage_line}
 use Rattle.tool_plan.specs.{Seen.FilesSeen, Verdict.{Verdict, carry, verdict_of}, declared.plan.NoPlan.NoPlan}
 use Rattle.tool_plan.specs.declared.plan.NoPlan.TheVariants as no_plan
-use Rattle.tool_run.specs.{Reports.{Reported, Reports, Settles}, Runs.IsRunOf, Seen.SinkSeen, Statuses.Ends}
+use Rattle.tool_run.specs.{Reports.{HoldsBySuite, IsSettledInOrder, Reported, Reports, Settles, left_in}, Runs.IsRunOf, Seen.SinkSeen, Statuses.Ends}
+use Rattle.tool_run.specs.Statuses.{Left, book_left, nothing_left, of_session, session_left}
+use Rattle.plugin_session.specs.{EachTask.EachTaskHolds, Holds.Suite}
+use Rattle.pod_workers.specs.Legal.{Legal}
+use Rattle.session_text.specs.SessionText.{status_of_session}
+use Rattle.tool_run.specs.declared.settle.Settled.TheVariants as settled
 use Rattle.tool_run.specs.Statuses.{HasReadAll, IsCarriedOut, IsDetermined, IsReport, IsUndisturbed, ReportsWorld}
 use Rattle.tool_run.specs.Statuses.{Wrote, cut_short, of_book, of_failed_read, of_refusal, of_usage, out_of_memory}
-use Rattle.tool_run.specs.{Statuses.reported, declared.{carry.CarriedOut.CarriedOut, top.Ended.Ended}}
+use Rattle.tool_run.specs.{Statuses.reported, declared.{settle.Settled.Settled, top.Ended.Ended}}
 
 -- ---- from what was to be reported to how it ends
 
 -- the report was written, or the sink gave up
-written : (words : List (List ℕ)) (files : FilesSeen) (sink : SinkSeen) (status meant : ℕ) (book : Option World) (bytes : List ℕ)
-    → ((s : ℕ) → s ≡ meant → IsReport words files s book bytes) → Reports sink bytes meant status → Ends words files sink status book
-written words files sink status meant book bytes report how = elim how [
+written : (words : List (List ℕ)) (files : FilesSeen) (sink : SinkSeen) (status meant : ℕ) (left : Left) (bytes : List ℕ)
+    → ((s : ℕ) → s ≡ meant → IsReport words files s left bytes) → Reports sink bytes meant status → Ends words files sink status left
+written words files sink status meant left bytes report how = elim how [
   | inl w ↦ reported bytes (report status w.0) w.1
   | inr g ↦ cut_short bytes meant (report meant refl) g.0 g.1 g.2
 ]
 
-pub ends : {K : Type 0} (words : List (List ℕ)) (files : FilesSeen) (sink : SinkSeen) (settled : Result (CarriedOut K) NoPlan) (o : Ended K)
-    → Settles words files settled → Reported sink settled o → Ends words files sink o.status o.book
-ends words files sink (Ok made) o settles rep = written words files sink o.status (status_of made.book.answers) o.book made.text.items (λ s is. of_book made.book settles.0 is rep.0 settles.1 settles.2) rep.1
-ends words files sink (Err no_plan.Usage) o settles rep = written words files sink o.status 2 o.book usage_line (λ s is. of_usage is rep.0 (record { not_taken = settles; says = refl })) rep.1
-ends words files sink (Err (no_plan.Line text)) o settles rep = written words files sink o.status 3 o.book text.items (λ s is. of_refusal is rep.0 settles) rep.1
-ends words files sink (Err (no_plan.Unread text)) o settles rep = written words files sink o.status 4 o.book text.items (λ s is. of_failed_read is rep.0 settles) rep.1
+pub ends : {K : Type 0} (words : List (List ℕ)) (files : FilesSeen) (sink : SinkSeen) (r : Result (Settled K) NoPlan) (o : Ended K)
+    → Settles words files r → Reported sink r o → Ends words files sink o.status (left_in o)
+ends words files sink (Ok (settled.Plan made)) o settles rep = written words files sink o.status (status_of made.book.answers) (left_in o) made.text.items (λ s is. of_book made.book settles.0 is rep.0 settles.1 settles.2) rep.1
+ends words files sink (Ok (settled.Session ran)) o settles rep = written words files sink o.status (status_of_session ran.session) (left_in o) ran.text.items (λ s is. of_session ran.session settles.0 is rep.0 settles.1 settles.2) rep.1
+ends words files sink (Err no_plan.Usage) o settles rep = written words files sink o.status 2 (left_in o) usage_line (λ s is. of_usage is rep.0 (record { not_taken = settles; says = refl })) rep.1
+ends words files sink (Err (no_plan.Line text)) o settles rep = written words files sink o.status 3 (left_in o) text.items (λ s is. of_refusal is rep.0 settles) rep.1
+ends words files sink (Err (no_plan.Unread text)) o settles rep = written words files sink o.status 4 (left_in o) text.items (λ s is. of_failed_read is rep.0 settles) rep.1
 ends words files sink (Err no_plan.NoMemory) o settles rep = out_of_memory rep.1.0 rep.0 rep.1.1
 
-pub ordered : {K : Type 0} (sink : SinkSeen) (settled : Result (CarriedOut K) NoPlan) (o : Ended K)
-    → Reported sink settled o → IfOk settled (λ (made : CarriedOut K). IsInFileOrder made.book)
-    → IfSome o.book IsInFileOrder
-ordered sink (Ok made) o rep kept = subst (λ (b : Option World). IfSome b IsInFileOrder) (sym rep.0) kept
-ordered sink (Err none) o rep kept = subst (λ (b : Option World). IfSome b IsInFileOrder) (sym rep.0) tt
+-- what is left has its commands in the order of the file, where it is a book
+ordered-left : (left also : Left) → left ≡ also → IfSome also.book IsInFileOrder → IfSome left.book IsInFileOrder
+ordered-left left also same kept = subst (λ (l : Left). IfSome l.book IsInFileOrder) (sym same) kept
+
+pub ordered : {K : Type 0} (sink : SinkSeen) (r : Result (Settled K) NoPlan) (o : Ended K)
+    → Reported sink r o → IfOk r (IsSettledInOrder {K = K}) → IfSome o.book IsInFileOrder
+ordered sink (Ok (settled.Plan made)) o rep kept = ordered-left (left_in o) (book_left made.book) rep.0 kept
+ordered sink (Ok (settled.Session ran)) o rep kept = ordered-left (left_in o) (session_left ran.session) rep.0 tt
+ordered sink (Err none) o rep kept = ordered-left (left_in o) nothing_left rep.0 tt
+
+held-left : (suite : Suite) (left also : Left) → left ≡ also → IfSome also.session (EachTaskHolds suite)
+    → IfSome left.session (EachTaskHolds suite)
+held-left suite left also same kept = subst (λ (l : Left). IfSome l.session (EachTaskHolds suite)) (sym same) kept
+
+-- of what is left each task holds what the law says, where it is a session
+pub held : {K : Type 0} (suite : Suite) (sink : SinkSeen) (r : Result (Settled K) NoPlan) (o : Ended K)
+    → Reported sink r o → IfOk r (HoldsBySuite {K = K} suite) → IfSome o.session (EachTaskHolds suite)
+held suite sink (Ok (settled.Plan made)) o rep kept = held-left suite (left_in o) (book_left made.book) rep.0 tt
+held suite sink (Ok (settled.Session ran)) o rep kept = held-left suite (left_in o) (session_left ran.session) rep.0 kept
+held suite sink (Err none) o rep kept = held-left suite (left_in o) nothing_left rep.0 tt
 
 -- ---- the book
 
@@ -53,28 +74,32 @@ ordered sink (Err none) o rep kept = subst (λ (b : Option World). IfSome b IsIn
 abbrev IsMade : List (List ℕ) → FilesSeen → World → Type 0
 IsMade words files book = (asked : Asked) × IsCarriedOut words files book asked
 
-if_book : (words : List (List ℕ)) (files : FilesSeen) (status : ℕ) (book : Option World) (bytes : List ℕ)
-    → IsReport words files status book bytes → IfSome book (IsMade words files)
-if_book words files status book bytes (of_usage st none given) = subst (λ (b : Option World). IfSome b (IsMade words files)) (sym none) tt
-if_book words files status book bytes (of_refusal st none refusal) = subst (λ (b : Option World). IfSome b (IsMade words files)) (sym none) tt
-if_book words files status book bytes (of_failed_read st none unread) = subst (λ (b : Option World). IfSome b (IsMade words files)) (sym none) tt
-if_book words files status book bytes (of_book b asked st some carried text) = subst (λ (x : Option World). IfSome x (IsMade words files)) (sym some) (asked, carried)
+if_book : (words : List (List ℕ)) (files : FilesSeen) (status : ℕ) (left : Left) (bytes : List ℕ)
+    → IsReport words files status left bytes → IfSome left.book (IsMade words files)
+if_book words files status left bytes (of_usage st none given) = subst (λ (l : Left). IfSome l.book (IsMade words files)) (sym none) tt
+if_book words files status left bytes (of_refusal st none refusal) = subst (λ (l : Left). IfSome l.book (IsMade words files)) (sym none) tt
+if_book words files status left bytes (of_failed_read st none unread) = subst (λ (l : Left). IfSome l.book (IsMade words files)) (sym none) tt
+if_book words files status left bytes (of_book b asked st some carried text) = subst (λ (l : Left). IfSome l.book (IsMade words files)) (sym some) (asked, carried)
+if_book words files status left bytes (of_session s asked st some ran text) = subst (λ (l : Left). IfSome l.book (IsMade words files)) (sym some) tt
 
-if_made : (words : List (List ℕ)) (files : FilesSeen) (sink : SinkSeen) (status : ℕ) (book : Option World)
-    → Ends words files sink status book → IfSome book (IsMade words files)
-if_made words files sink status book (reported bytes report wrote) = if_book words files status book bytes report
-if_made words files sink status book (cut_short bytes meant report st fault front) = if_book words files meant book bytes report
-if_made words files sink status book (out_of_memory st none nothing) = subst (λ (b : Option World). IfSome b (IsMade words files)) (sym none) tt
+if_made : (words : List (List ℕ)) (files : FilesSeen) (sink : SinkSeen) (status : ℕ) (left : Left)
+    → Ends words files sink status left → IfSome left.book (IsMade words files)
+if_made words files sink status left (reported bytes report wrote) = if_book words files status left bytes report
+if_made words files sink status left (cut_short bytes meant report st fault front) = if_book words files meant left bytes report
+if_made words files sink status left (out_of_memory st none nothing) = subst (λ (l : Left). IfSome l.book (IsMade words files)) (sym none) tt
 
-guaranteed : (words : List (List ℕ)) (files : FilesSeen) (sink : SinkSeen) (status : ℕ) (book : Option World)
-    → EveryLegalHistoryIsGuaranteed → Ends words files sink status book → IfSome book IsGuaranteed
-guaranteed words files sink status None law how = tt
-guaranteed words files sink status (Some b) law how = law b (if_made words files sink status (Some b) how).1.legal
+legal-made : (words : List (List ℕ)) (files : FilesSeen) (P : World → Type 0) (book : Option World)
+    → ((w : World) → Legal w → P w) → IfSome book (IsMade words files) → IfSome book P
+legal-made words files P None law made = tt
+legal-made words files P (Some b) law made = law b made.1.legal
 
-packets_go : (words : List (List ℕ)) (files : FilesSeen) (sink : SinkSeen) (status : ℕ) (book : Option World)
-    → EveryPacketGoesAsCached → Ends words files sink status book → IfSome book PacketsGoAsCached
-packets_go words files sink status None law how = tt
-packets_go words files sink status (Some b) law how = law b (if_made words files sink status (Some b) how).1.legal
+guaranteed : (words : List (List ℕ)) (files : FilesSeen) (sink : SinkSeen) (status : ℕ) (left : Left)
+    → EveryLegalHistoryIsGuaranteed → Ends words files sink status left → IfSome left.book IsGuaranteed
+guaranteed words files sink status left law how = legal-made words files IsGuaranteed left.book law (if_made words files sink status left how)
+
+packets_go : (words : List (List ℕ)) (files : FilesSeen) (sink : SinkSeen) (status : ℕ) (left : Left)
+    → EveryPacketGoesAsCached → Ends words files sink status left → IfSome left.book PacketsGoAsCached
+packets_go words files sink status left law how = legal-made words files PacketsGoAsCached left.book law (if_made words files sink status left how)
 
 -- ---- a read that failed
 
@@ -83,6 +108,7 @@ reaches_none : (files : Option StoredFiles) (source : Source) (file : List ℕ) 
     → ReachesFile files source file → ⊥
 reaches_none files (Files named) file none at = cc
 reaches_none files (Generated count stop_at) file none at = at
+reaches_none files (Session named) file none at = cc
 
 pub has_not_read : (words : List (List ℕ)) (files : FilesSeen) (bytes : List ℕ) → IsUnreadOf words files bytes
     → HasReadAll words files → ⊥
@@ -166,30 +192,33 @@ of-world law words files sink status stored told calm b w asks asked bytes st ca
     }
 
 of-report : OneOutcome
-    → (words : List (List ℕ)) (files : FilesSeen) (sink : SinkSeen) (status : ℕ) (book : Option World) (bytes : List ℕ) (stored : StoredFiles)
+    → (words : List (List ℕ)) (files : FilesSeen) (sink : SinkSeen) (status : ℕ) (left : Left) (bytes : List ℕ) (stored : StoredFiles)
     → AreFiles words files stored → IsUndisturbed words files sink status
-    → IfSome book IsInFileOrder → IsReport words files status book bytes → Wrote sink bytes → (w : World) (asked : Asked) → IsCarriedOut words files w asked → IsDoneInFileOrder w → ReportsWorld sink status w asked
-of-report law words files sink status book bytes stored told calm order (of_usage st none given) wrote w asked comes done = absurd (none-some comes.by (sym given.not_taken ∙ comes.words_are))
-of-report law words files sink status book bytes stored told calm order (of_refusal st none refusal) wrote w asked comes done = let is = sym (refusal.comes stored told) ∙ comes.comes stored told in cc
-of-report law words files sink status book bytes stored told calm order (of_failed_read st none unread) wrote w asked comes done = absurd (has_not_read words files bytes unread calm.reads)
-of-report law words files sink status book bytes stored told calm order (of_book b asks st some carried text) wrote w asked comes done =
-    of-world law words files sink status stored told calm b w asks asked bytes st carried (subst (λ (x : Option World). IfSome x IsInFileOrder) some order) text wrote comes done
+    → IfSome left.book IsInFileOrder → IsReport words files status left bytes → Wrote sink bytes → (w : World) (asked : Asked) → IsCarriedOut words files w asked → IsDoneInFileOrder w → ReportsWorld sink status w asked
+of-report law words files sink status left bytes stored told calm order (of_usage st none given) wrote w asked comes done = absurd (none-some comes.by (sym given.not_taken ∙ comes.words_are))
+of-report law words files sink status left bytes stored told calm order (of_refusal st none refusal) wrote w asked comes done = let is = sym (refusal.comes stored told) ∙ comes.comes stored told in cc
+of-report law words files sink status left bytes stored told calm order (of_failed_read st none unread) wrote w asked comes done = absurd (has_not_read words files bytes unread calm.reads)
+of-report law words files sink status left bytes stored told calm order (of_book b asks st some carried text) wrote w asked comes done =
+    of-world law words files sink status stored told calm b w asks asked bytes st carried (subst (λ (l : Left). IfSome l.book IsInFileOrder) some order) text wrote comes done
+of-report law words files sink status left bytes stored told calm order (of_session s asks st some ran text) wrote w asked comes done = let is = sym (ran.comes stored told) ∙ comes.comes stored told in cc
 
-determined : (words : List (List ℕ)) (files : FilesSeen) (sink : SinkSeen) (status : ℕ) (book : Option World)
-    → OneOutcome → IfSome book IsInFileOrder → Ends words files sink status book → IsDetermined words files sink status
-determined words files sink status book law order (reported bytes report wrote) = λ stored told calm. of-report law words files sink status book bytes stored told calm order report wrote
-determined words files sink status book law order (cut_short bytes meant report st fault front) = λ stored told calm. absurd (calm.writes fault)
-determined words files sink status book law order (out_of_memory st none nothing) = λ stored told calm. absurd (calm.memory st)
+determined : (words : List (List ℕ)) (files : FilesSeen) (sink : SinkSeen) (status : ℕ) (left : Left)
+    → OneOutcome → IfSome left.book IsInFileOrder → Ends words files sink status left → IsDetermined words files sink status
+determined words files sink status left law order (reported bytes report wrote) = λ stored told calm. of-report law words files sink status left bytes stored told calm order report wrote
+determined words files sink status left law order (cut_short bytes meant report st fault front) = λ stored told calm. absurd (calm.writes fault)
+determined words files sink status left law order (out_of_memory st none nothing) = λ stored told calm. absurd (calm.memory st)
 
 -- ---- the run
 
-pub is_run : (words : List (List ℕ)) (files : FilesSeen) (sink : SinkSeen) (OneThread : Type 0) (status : ℕ) (book : Option World)
+pub is_run : (words : List (List ℕ)) (files : FilesSeen) (sink : SinkSeen) (OneThread : Type 0) (suite : Suite) (status : ℕ) (left : Left)
     → EveryLegalHistoryIsGuaranteed → EveryPacketGoesAsCached → OneOutcome
-    → (OneThread → IfSome book IsInFileOrder) → Ends words files sink status book → IsRunOf words files sink OneThread status book
-is_run words files sink OneThread status book law of_packets one order how = record {
+    → (OneThread → IfSome left.book IsInFileOrder) → IfSome left.session (EachTaskHolds suite) → Ends words files sink status left
+    → IsRunOf words files sink OneThread suite status left
+is_run words files sink OneThread suite status left law of_packets one order tasks how = record {
   ends = how;
-  guaranteed = guaranteed words files sink status book law how;
-  packets = packets_go words files sink status book of_packets how;
+  guaranteed = guaranteed words files sink status left law how;
+  packets = packets_go words files sink status left of_packets how;
   order = order;
-  determined = λ alone. determined words files sink status book one (order alone) how;
+  tasks = tasks;
+  determined = λ alone. determined words files sink status left one (order alone) how;
 }

@@ -1,7 +1,8 @@
 -- The status and the book of a run, by what its words and files come to; and the answers of a book that is over.
 use Rattle.std.proofs.Common.{◌≡◌, ◌≢◌, ◌∙◌, ◌≤◌, ◌<◌, ℕ, List, [], ◌∷◌, length, refl, sym, ap, subst, arith, inl, inr}
 use Rattle.std.proofs.{Common.{Bool, true, false, cond, Option, Some, None, slice_get}, lemmas.Option.none-some}
-use Rattle.std.specs.List.{list_any}
+use Rattle.std.specs.{List.list_any, Prelude.map}
+use Rattle.session_text.specs.SessionText.{answer_as}
 use Rattle.cni_addr.specs.Lists.{IsAmong}
 use Rattle.cni_io.specs.Files.{StoredFiles}
 use Rattle.cni_errors.specs.declared.answer.Answer.{Answer}
@@ -11,8 +12,8 @@ use Rattle.pod_workers.specs.declared.plan.Plan.{Plan}
 use Rattle.pod_workers.proofs.Rounds.{round-of}
 use Rattle.tool_words.specs.{Words.words_given, declared.words.Words.Words}
 use Rattle.tool_plan.specs.{Dues.AreFiles, Seen.FilesSeen, Verdict.{Verdict, verdict_if, verdict_of}}
-use Rattle.tool_run.specs.Laws.{EachBookIsOfItsVerdict, EachCommandIsAnsweredAtTheEnd, EachStatusIsOfItsVerdict}
-use Rattle.tool_run.specs.{Laws.{IsBookOf, IsStatusOf, RefusedWordsAreReported}, Statuses.{HasReadAll, IsReport}}
+use Rattle.tool_run.specs.Laws.{EachOutcomeIsOfItsVerdict, EachCommandIsAnsweredAtTheEnd, EachStatusIsOfItsVerdict}
+use Rattle.tool_run.specs.{Laws.{IsLeftOf, IsStatusOf, RefusedWordsAreReported}, Statuses.{HasReadAll, IsReport, Left, of_session}}
 use Rattle.tool_run.specs.Statuses.{IsUsage, cut_short, of_book, of_failed_read, of_refusal, of_usage, out_of_memory}
 use Rattle.tool_run.specs.Statuses.{reported}
 use Rattle.tool_run.proofs.Endings.{has_not_read}
@@ -30,44 +31,49 @@ of_no_words : (words : List (List ℕ)) (bytes : List ℕ) (stored : StoredFiles
     → IsUsage words bytes → P (verdict_if None stored) → P (verdict_of words stored)
 of_no_words words bytes stored P given holds = subst P (sym (ap (λ (o : Option Words). verdict_if o stored) given.not_taken)) holds
 
-report_status : (words : List (List ℕ)) (files : FilesSeen) (status : ℕ) (book : Option World) (bytes : List ℕ) (stored : StoredFiles)
-    → AreFiles words files stored → HasReadAll words files → IsReport words files status book bytes
+report_status : (words : List (List ℕ)) (files : FilesSeen) (status : ℕ) (left : Left) (bytes : List ℕ) (stored : StoredFiles)
+    → AreFiles words files stored → HasReadAll words files → IsReport words files status left bytes
     → IsStatusOf (verdict_of words stored) status
-report_status words files status book bytes stored told reads (of_usage st none given) = of_no_words words bytes stored (λ (v : Verdict). IsStatusOf v status) given st
-report_status words files status book bytes stored told reads (of_refusal st none refusal) = subst (λ (v : Verdict). IsStatusOf v status) (sym (refusal.comes stored told)) st
-report_status words files status book bytes stored told reads (of_failed_read st none unread) = absurd (has_not_read words files bytes unread reads)
-report_status words files status book bytes stored told reads (of_book b asked st some carried text) =
+report_status words files status left bytes stored told reads (of_usage st none given) = of_no_words words bytes stored (λ (v : Verdict). IsStatusOf v status) given st
+report_status words files status left bytes stored told reads (of_refusal st none refusal) = subst (λ (v : Verdict). IsStatusOf v status) (sym (refusal.comes stored told)) st
+report_status words files status left bytes stored told reads (of_failed_read st none unread) = absurd (has_not_read words files bytes unread reads)
+report_status words files status left bytes stored told reads (of_session s asked st some ran text) =
+    subst (λ (v : Verdict). IsStatusOf v status) (sym (ran.comes stored told)) (subst (λ (n : ℕ). IsAmong n (0 ∷ 1 ∷ 8 ∷ [])) (sym st) (status_is (map (λ a. Some (answer_as a)) s.answers)))
+report_status words files status left bytes stored told reads (of_book b asked st some carried text) =
     subst (λ (v : Verdict). IsStatusOf v status) (sym (carried.comes stored told)) (subst (λ (s : ℕ). IsAmong s (0 ∷ 1 ∷ 8 ∷ [])) (sym st) (status_is b.answers))
 
 pub each_status_is_of_its_verdict : EachStatusIsOfItsVerdict
-each_status_is_of_its_verdict words files sink status book (reported bytes report wrote) stored told reads writes = inl (report_status words files status book bytes stored told reads report)
-each_status_is_of_its_verdict words files sink status book (cut_short bytes meant report st fault front) stored told reads writes = absurd (writes fault)
-each_status_is_of_its_verdict words files sink status book (out_of_memory st none nothing) stored told reads writes = inr st
+each_status_is_of_its_verdict words files sink status left (reported bytes report wrote) stored told reads writes = inl (report_status words files status left bytes stored told reads report)
+each_status_is_of_its_verdict words files sink status left (cut_short bytes meant report st fault front) stored told reads writes = absurd (writes fault)
+each_status_is_of_its_verdict words files sink status left (out_of_memory st none nothing) stored told reads writes = inr st
 
-report_book : (words : List (List ℕ)) (files : FilesSeen) (status : ℕ) (book : Option World) (bytes : List ℕ) (stored : StoredFiles)
-    → AreFiles words files stored → HasReadAll words files → IsReport words files status book bytes
-    → IsBookOf (verdict_of words stored) book
-report_book words files status book bytes stored told reads (of_usage st none given) = of_no_words words bytes stored (λ (v : Verdict). IsBookOf v book) given none
-report_book words files status book bytes stored told reads (of_refusal st none refusal) = subst (λ (v : Verdict). IsBookOf v book) (sym (refusal.comes stored told)) none
-report_book words files status book bytes stored told reads (of_failed_read st none unread) = absurd (has_not_read words files bytes unread reads)
-report_book words files status book bytes stored told reads (of_book b asked st some carried text) =
-    subst (λ (v : Verdict). IsBookOf v book) (sym (carried.comes stored told)) (b, some, refl)
+report_left : (words : List (List ℕ)) (files : FilesSeen) (status : ℕ) (left : Left) (bytes : List ℕ) (stored : StoredFiles)
+    → AreFiles words files stored → HasReadAll words files → IsReport words files status left bytes
+    → IsLeftOf (verdict_of words stored) left
+report_left words files status left bytes stored told reads (of_usage st none given) = of_no_words words bytes stored (λ (v : Verdict). IsLeftOf v left) given none
+report_left words files status left bytes stored told reads (of_refusal st none refusal) = subst (λ (v : Verdict). IsLeftOf v left) (sym (refusal.comes stored told)) none
+report_left words files status left bytes stored told reads (of_failed_read st none unread) = absurd (has_not_read words files bytes unread reads)
+report_left words files status left bytes stored told reads (of_session s asked st some ran text) =
+    subst (λ (v : Verdict). IsLeftOf v left) (sym (ran.comes stored told)) (s, some, refl)
+report_left words files status left bytes stored told reads (of_book b asked st some carried text) =
+    subst (λ (v : Verdict). IsLeftOf v left) (sym (carried.comes stored told)) (b, some, refl)
 
-pub each_book_is_of_its_verdict : EachBookIsOfItsVerdict
-each_book_is_of_its_verdict words files sink status book (reported bytes report wrote) stored told reads memory = report_book words files status book bytes stored told reads report
-each_book_is_of_its_verdict words files sink status book (cut_short bytes meant report st fault front) stored told reads memory = report_book words files meant book bytes stored told reads report
-each_book_is_of_its_verdict words files sink status book (out_of_memory st none nothing) stored told reads memory = absurd (memory st)
+pub each_outcome_is_of_its_verdict : EachOutcomeIsOfItsVerdict
+each_outcome_is_of_its_verdict words files sink status left (reported bytes report wrote) stored told reads memory = report_left words files status left bytes stored told reads report
+each_outcome_is_of_its_verdict words files sink status left (cut_short bytes meant report st fault front) stored told reads memory = report_left words files meant left bytes stored told reads report
+each_outcome_is_of_its_verdict words files sink status left (out_of_memory st none nothing) stored told reads memory = absurd (memory st)
 
 taken : (words : List (List ℕ)) (by : Words) → words_given words ≡ Some by → words_given words ≡ None → ⊥
 taken words by is none = none-some by (sym none ∙ is)
 
 pub refused_words_are_reported : RefusedWordsAreReported
-refused_words_are_reported words files sink status book (reported bytes (of_usage st none given) wrote) refused = inl st
-refused_words_are_reported words files sink status book (reported bytes (of_refusal st none refusal) wrote) refused = absurd (taken words refusal.by refusal.words_are refused)
-refused_words_are_reported words files sink status book (reported bytes (of_failed_read st none unread) wrote) refused = absurd (taken words unread.by unread.words_are refused)
-refused_words_are_reported words files sink status book (reported bytes (of_book b asked st some carried text) wrote) refused = absurd (taken words carried.by carried.words_are refused)
-refused_words_are_reported words files sink status book (cut_short bytes meant report st fault front) refused = inr (inl st)
-refused_words_are_reported words files sink status book (out_of_memory st none nothing) refused = inr (inr (inl st))
+refused_words_are_reported words files sink status left (reported bytes (of_usage st none given) wrote) refused = inl st
+refused_words_are_reported words files sink status left (reported bytes (of_refusal st none refusal) wrote) refused = absurd (taken words refusal.by refusal.words_are refused)
+refused_words_are_reported words files sink status left (reported bytes (of_failed_read st none unread) wrote) refused = absurd (taken words unread.by unread.words_are refused)
+refused_words_are_reported words files sink status left (reported bytes (of_session s asked st some ran text) wrote) refused = absurd (taken words ran.by ran.words_are refused)
+refused_words_are_reported words files sink status left (reported bytes (of_book b asked st some carried text) wrote) refused = absurd (taken words carried.by carried.words_are refused)
+refused_words_are_reported words files sink status left (cut_short bytes meant report st fault front) refused = inr (inl st)
+refused_words_are_reported words files sink status left (out_of_memory st none nothing) refused = inr (inr (inl st))
 
 -- ---- a book that is over
 

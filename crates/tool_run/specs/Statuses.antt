@@ -6,7 +6,10 @@ use Rattle.pod_text.specs.{Lines.text_of, Statuses.status_of, declared.asked.Ask
 use Rattle.pod_workers.specs.{Legal.Legal, Order.IsDoneInFileOrder, World.World}
 use Rattle.tool_words.specs.{Words.words_given, declared.words.Words.Words}
 use Rattle.tool_plan.specs.{Dues.{AreFiles, ComesTo, IsRefusal, IsUnreadOf, NameNoFile}, Lines.usage_line}
-use Rattle.tool_plan.specs.{Seen.{FilesSeen, HasReadFailure}, Verdict.{IsAskedBy, carry}}
+use Rattle.tool_plan.specs.{Seen.{FilesSeen, HasReadFailure}, Verdict.{IsAskedBy, carry, session, session_asked_of}}
+use Rattle.pod_text.specs.declared.asked.SessionAsked.{SessionAsked}
+use Rattle.plugin_session.specs.Views.{SessionView}
+use Rattle.session_text.specs.SessionText.{status_of_session, text_of_session}
 use Rattle.tool_run.specs.Seen.{HasWriteFailure, SinkSeen}
 
 -- ---- what is written
@@ -23,6 +26,22 @@ Wrote sink bytes = sink.bytes_now ≡ append_known sink.bytes_before bytes
 -- a prefix of these bytes was appended, where the sink tells what it has
 abbrev pub WrotePrefix : SinkSeen → List ℕ → Type 0
 WrotePrefix sink bytes = (n : ℕ) × Wrote sink (take n bytes)
+
+-- ---- what is left
+
+-- what a run hands out: the book of a plan that was carried out, or a session that was run
+pub record Left : Type 0 where
+  pub book : Option World
+  pub session : Option SessionView
+
+abbrev pub nothing_left : Left
+nothing_left = record { book = None; session = None }
+
+abbrev pub book_left : World → Left
+book_left b = record { book = Some b; session = None }
+
+abbrev pub session_left : SessionView → Left
+session_left s = record { book = None; session = Some s }
 
 -- ---- what is reported
 
@@ -41,26 +60,37 @@ pub record IsCarriedOut (words : List (List ℕ)) (files : FilesSeen) (book : Wo
   pub over : length book.plan.pods.rounds ≤ book.round
   pub legal : Legal book
 
--- what a run reports: these bytes with this status, of this book if there is one
-pub data IsReport (words : List (List ℕ)) (files : FilesSeen) (status : ℕ) (book : Option World)
+-- The session that the words and the file come to, with every task answered, and what is printed of it.
+pub record IsSessionRun (words : List (List ℕ)) (files : FilesSeen) (s : SessionView) (asked : SessionAsked)
+    : Type 0 where
+  pub by : Words
+  pub words_are : words_given words ≡ Some by
+  pub comes : ComesTo words files (session s.conf asked)
+  pub asked_is : asked ≡ session_asked_of by
+  pub answered : length s.answers ≡ length s.conf.tasks
+
+-- what a run reports: these bytes with this status, of the book or the session that is left, if one is
+pub data IsReport (words : List (List ℕ)) (files : FilesSeen) (status : ℕ) (left : Left)
     (bytes : List ℕ) : Type 0 where
-  of_usage : status ≡ 2 → book ≡ None → IsUsage words bytes → IsReport words files status book bytes
-  of_refusal : status ≡ 3 → book ≡ None → IsRefusal words files bytes → IsReport words files status book bytes
-  of_failed_read : status ≡ 4 → book ≡ None → IsUnreadOf words files bytes → IsReport words files status book bytes
-  of_book : (b : World) (asked : Asked) → status ≡ status_of b.answers → book ≡ Some b
-      → IsCarriedOut words files b asked → bytes ≡ text_of b asked → IsReport words files status book bytes
+  of_usage : status ≡ 2 → left ≡ nothing_left → IsUsage words bytes → IsReport words files status left bytes
+  of_refusal : status ≡ 3 → left ≡ nothing_left → IsRefusal words files bytes → IsReport words files status left bytes
+  of_failed_read : status ≡ 4 → left ≡ nothing_left → IsUnreadOf words files bytes
+      → IsReport words files status left bytes
+  of_book : (b : World) (asked : Asked) → status ≡ status_of b.answers → left ≡ book_left b
+      → IsCarriedOut words files b asked → bytes ≡ text_of b asked → IsReport words files status left bytes
+  of_session : (s : SessionView) (asked : SessionAsked) → status ≡ status_of_session s → left ≡ session_left s
+      → IsSessionRun words files s asked → bytes ≡ text_of_session s asked → IsReport words files status left bytes
 
 -- ---- how a run ends
 
 -- The report was written; or the sink gave up while it was written, which is status 5; or memory ran out outside the
--- commands, which is status 6, with no book and nothing written.
-pub data Ends (words : List (List ℕ)) (files : FilesSeen) (sink : SinkSeen) (status : ℕ)
-    (book : Option World) : Type 0 where
-  reported : (bytes : List ℕ) → IsReport words files status book bytes → Wrote sink bytes
-      → Ends words files sink status book
-  cut_short : (bytes : List ℕ) (meant : ℕ) → IsReport words files meant book bytes → status ≡ 5 → HasWriteFailure sink
-      → WrotePrefix sink bytes → Ends words files sink status book
-  out_of_memory : status ≡ 6 → book ≡ None → WroteNothing sink → Ends words files sink status book
+-- commands, which is status 6, with nothing left and nothing written.
+pub data Ends (words : List (List ℕ)) (files : FilesSeen) (sink : SinkSeen) (status : ℕ) (left : Left) : Type 0 where
+  reported : (bytes : List ℕ) → IsReport words files status left bytes → Wrote sink bytes
+      → Ends words files sink status left
+  cut_short : (bytes : List ℕ) (meant : ℕ) → IsReport words files meant left bytes → status ≡ 5 → HasWriteFailure sink
+      → WrotePrefix sink bytes → Ends words files sink status left
+  out_of_memory : status ≡ 6 → left ≡ nothing_left → WroteNothing sink → Ends words files sink status left
 
 -- ---- a function of words and files
 

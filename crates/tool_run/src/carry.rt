@@ -18,7 +18,7 @@ use pod_workers::Book;
 use std::alloc::Global;
 use std::sync::Wait;
 use std::thread::Threads;
-use tool_plan::Due;
+use tool_plan::DuePlan;
 
 /// A plan that was carried out: its book, and the whole text of it.
 #[derive(Drop)]
@@ -32,7 +32,7 @@ pub(crate) struct CarriedOut<K: Kernel + Drop> {
 pub(crate) fn carry_out<K: FromHost + Send + Drop, R: Threads + Wait + Sync, G: Gate>(
     rt: &R,
     alloc: Global,
-    due: Due,
+    due: DuePlan,
     gate: &G,
 ) -> Result<CarriedOut<K>, NoMemory>
     requires well_formed { IsWellFormed due.plan }
@@ -40,7 +40,7 @@ pub(crate) fn carry_out<K: FromHost + Send + Drop, R: Threads + Wait + Sync, G: 
     ensures made { IfOk result (CarriesOut due) }
     ensures order { due.threads ≡ 1 → IfOk result (λ made. IsInFileOrder made.book) }
 {
-    let Due {
+    let DuePlan {
         threads,
         plan,
         asked,
@@ -57,13 +57,13 @@ pub(crate) fn carry_out<K: FromHost + Send + Drop, R: Threads + Wait + Sync, G: 
 #[tactic(auto, using(crate::proofs::Carried::carries_out, crate::proofs::Carried::in_order))]
 pub(crate) fn carry_out_alone<K: FromHost + Drop>(
     alloc: Global,
-    due: Due,
+    due: DuePlan,
 ) -> Result<CarriedOut<K>, NoMemory>
     requires well_formed { IsWellFormed due.plan }
     ensures made { IfOk result (CarriesOut due) }
     ensures order { IfOk result (λ made. IsInFileOrder made.book) }
 {
-    let Due {
+    let DuePlan {
         threads: _,
         plan,
         asked,

@@ -1,15 +1,19 @@
-//! The kernel that plans are carried out on. To use another one, name it here.
+//! The kernel that plans are carried out on, and sessions run. To use another one, name it here.
 
 ghost use Rattle.std.specs.Prelude.{◌≡◌, IfOk};
 ghost use Rattle.kernel_types.specs.Sound.{IsSound};
 ghost use Rattle.pod_workers.specs.Order.{IsInFileOrder};
 ghost use Rattle.pod_workers.specs.Plans.{IsWellFormed};
+ghost use Rattle.plugin_session.specs.Views as views;
 ghost use Rattle.pod_workers.specs.World.{begun};
+ghost use Rattle.session_file.specs.WellFormed.{IsSessionConf};
 
 use cni_addr::{Duplicate, NoMemory};
 use kernel_model::{Host, Kernel};
 use kernel_tables::{TableKernel, TableKey};
+use plugin_session::Session;
 use pod_workers::{Book, Plan};
+use session_file::SessionConf;
 use std::alloc::Global;
 
 /// The kernel of a node.
@@ -27,6 +31,19 @@ impl FromHost for TableKernel {
     fn from_host(alloc: Global, key: &TableKey, host: Host) -> Result<TableKernel, NoMemory> {
         TableKernel::keyed(alloc, key, host)
     }
+}
+
+/// A session before its first task, over a kernel that begins with a copy of the opening.
+pub(crate) fn begin_session<K: FromHost + Drop>(
+    alloc: Global,
+    key: &TableKey,
+    conf: SessionConf,
+) -> Result<Session<K>, NoMemory>
+    requires { IsSessionConf conf }
+    ensures { IfOk result (λ session. session ≡ views.begun conf) }
+{
+    let kernel = K::from_host(alloc, key, conf.opening.copy()?)?;
+    Session::begin(alloc, conf, kernel)
 }
 
 /// A book of the plan, with nothing done yet, over a kernel that begins with a copy of the opening.

@@ -1,7 +1,7 @@
 //! Laws on how a run ends, and on a book that is over. A law is a function that does nothing: a caller gets it by
 //! calling it.
 
-ghost use Rattle.tool_run.specs.Laws.{EachBookIsOfItsVerdict, EachCommandIsAnsweredAtTheEnd, EachStatusIsOfItsVerdict, RefusedWordsAreReported};
+ghost use Rattle.tool_run.specs.Laws.{EachOutcomeIsOfItsVerdict, EachCommandIsAnsweredAtTheEnd, EachStatusIsOfItsVerdict, RefusedWordsAreReported};
 
 use pod_workers::legal_worlds_meet_each_clause;
 
@@ -17,9 +17,10 @@ pub fn refused_words_are_reported()
 {}
 
 /// Where the files are told or none is named, no read failed and memory didn't run out (6), a run leaves a book of the
-/// plan that its words and files come to, and none where they come to none. So it is also where the sink gave up (5).
-pub fn each_book_is_of_its_verdict()
-    ensures { EachBookIsOfItsVerdict }
+/// plan that its words and files come to, or the session, and nothing where they come to neither. So it is also where
+/// the sink gave up (5).
+pub fn each_outcome_is_of_its_verdict()
+    ensures { EachOutcomeIsOfItsVerdict }
 {}
 
 /// In a book with every round over each command has an answer, so the text has a line for each.

@@ -26,13 +26,14 @@ pub mod kernel;
 pub mod laws;
 mod report;
 mod rounds;
+mod session;
 mod settle;
 pub mod top;
 
 pub use kernel::{FromHost, NodeKernel};
 pub use laws::{
-    an_undisturbed_status_is_of_its_verdict, each_book_is_of_its_verdict,
-    each_command_is_answered_at_the_end, refused_words_are_reported,
+    an_undisturbed_status_is_of_its_verdict, each_command_is_answered_at_the_end,
+    each_outcome_is_of_its_verdict, refused_words_are_reported,
 };
 pub use pod_text::{MEMORY_STATUS, NO_WORDS_STATUS};
 pub use top::{Ended, Outcome, run, run_alone, run_alone_over, run_over};
