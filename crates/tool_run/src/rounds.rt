@@ -9,6 +9,7 @@ use pod_file::Command;
 use pod_threads::{Gate, Rounded, round_threads};
 use pod_workers::Book;
 use std::alloc::Global;
+use std::collections::BTreeSet;
 use std::sync::Wait;
 use std::thread::Threads;
 
@@ -26,7 +27,7 @@ pub(crate) fn make_round<K: Kernel + Send + Drop, R: Threads + Wait + Sync, G: G
     ensures rounds { Rounds book result }
     ensures order { threads ≡ 1 → IsInFileOrder book → IsInFileOrder result }
 {
-    let workers = worker_count(book.current_round(), threads);
+    let workers = worker_count(alloc, book.current_round(), threads);
     if workers == 1 {
         return make_round_alone(book);
     }
@@ -36,17 +37,23 @@ pub(crate) fn make_round<K: Kernel + Send + Drop, R: Threads + Wait + Sync, G: G
     }
 }
 
-/// One thread for each command of the round, but no more than so many.
-fn worker_count(commands: &[Command], threads: u8) -> u8
+/// One thread for each container of the round, whose commands all go to one, but no more than so many. No container is
+/// looked at once there are so many; where memory is refused, it is so many.
+fn worker_count(alloc: Global, commands: &[Command], threads: u8) -> u8
     requires { 1 ≤ threads }
     ensures some { 1 ≤ result }
     ensures most { result ≤ threads }
 {
-    if commands.len() < threads as usize {
-        (commands.len() as u8).max(1)
-    } else {
-        threads
+    let mut containers: BTreeSet<&str> = BTreeSet::new(alloc);
+    for command in commands {
+        if containers.len() >= threads as usize {
+            return threads;
+        }
+        if containers.insert(command.container.as_str()).is_err() {
+            return threads;
+        }
     }
+    (containers.len().min(threads as usize) as u8).max(1)
 }
 
 /// The book with its current round made by the calling thread.
