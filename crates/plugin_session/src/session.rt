@@ -152,6 +152,13 @@ impl<K: Kernel + Drop> Session<K> {
         self.rows.as_slice()
     }
 
+    /// The answers of the tasks that were run, in order.
+    pub fn answers(&self) -> &[TaskAnswer]
+        ensures { result.now ≡ self.now.answers }
+    {
+        self.answers.as_slice()
+    }
+
     /// The answer of the task of this number, from 1, where it has one.
     pub fn answer(&self, task: u32) -> Option<&TaskAnswer>
         ensures { option_copied result ≡ answer_of self.now task }
