@@ -1,1 +1,3 @@
+pub mod SessionFile
+pub mod Tasks
 pub mod WellFormed

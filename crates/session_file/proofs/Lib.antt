@@ -1,0 +1,3 @@
+mod NeverOfRound
+mod SessionFacts
+mod Steps
