@@ -193,7 +193,7 @@ of_task place d =
 of_tasks : (d : Data) → Never (tasks_at d)
 unfolding tasks_at
 of_tasks d =
-    by_field (Ok []) (wrong (codes "tasks")) few_tasks (list_field (codes "tasks") d) tt refl (λ ds.
+    by_field (wrong (codes "tasks")) (wrong (codes "tasks")) few_tasks (list_field (codes "tasks") d) refl refl (λ ds.
     by_if (nat_le (items_len ds) most_tasks) _ _ (of_each_from task_in (λ index e. of_task (InTasks index) e) 0 ds) refl)
 
 -- ---- the file

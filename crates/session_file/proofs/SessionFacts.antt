@@ -4,7 +4,7 @@ use Rattle.std.proofs.{Common.{ap, subst, arith}, lemmas.Bool.Decides.nat_tests}
 use Rattle.std.specs.{List.list_all, Prelude.{IfOk, nat_le, unwrap_or}, Result.result_map_both}
 use Rattle.serde_json.specs.{Data.{Data, null, Items, no_items, item}, Events.items_len}
 use Rattle.cni_json.proofs.Endings.{goes, ok_same, passed, went_on}
-use Rattle.cni_json.specs.{Each.each_from, Fields.{list_field, member_at, member_or, object_or}, Json.json_of}
+use Rattle.cni_json.specs.{Each.each_from, Fields.{list_field, member_at, needed, object_or}, Json.json_of}
 use Rattle.cni_json.specs.{Outcome.Gives, declared.fields.Field.{Field, TheVariants.{Absent, Here, WrongKind}}}
 use Rattle.kernel_types.specs.declared.object.Host.{Host}
 use Rattle.net_conf.specs.{Ipam.read_ipam_at, WellFormed.IsWellFormedIpam, declared.error.ConfError.ConfError}
@@ -67,9 +67,6 @@ record AreFewTasks (tasks : List Task) : Type 0 where
   count : length tasks ≤ most_tasks
   verbs : list_all has_its_verb tasks ≡ true
 
-no_tasks : AreFewTasks []
-no_tasks = record { count = omega arith; verbs = refl }
-
 few_tasks-ok : (ds : Items) (tasks : List Task) → few_tasks ds ≡ Ok tasks → AreFewTasks tasks
 few_tasks-ok ds tasks is =
     let read = went_on (nat_le (items_len ds) most_tasks) (each_from task_in 0 ds) tasks _ is in
@@ -77,8 +74,8 @@ few_tasks-ok ds tasks is =
     record { count = grind (arith, nat_tests, read.0, each.count); verbs = each.verbs }
 
 tasks_of-ok : (f : Field Items) (tasks : List Task)
-    → member_or (Ok []) (wrong (codes "tasks")) few_tasks f ≡ Ok tasks → AreFewTasks tasks
-tasks_of-ok Absent tasks is = subst AreFewTasks (ok_same is) no_tasks
+    → needed (wrong (codes "tasks")) few_tasks f ≡ Ok tasks → AreFewTasks tasks
+tasks_of-ok Absent tasks is = cc
 tasks_of-ok WrongKind tasks is = cc
 tasks_of-ok (Here ds) tasks is = few_tasks-ok ds tasks is
 

@@ -1,7 +1,7 @@
 -- The tasks of a session file, each key by key in the order of its refusals.
 use Rattle.std.specs.Prelude.{ℕ, List, [], ◌∷◌, codes, nat_le, if◌then◌else◌, Result, Ok, Option, Some, None}
 use Rattle.serde_json.specs.{Data.{Data, string, object, Items, Members, no_members, member}, Events.items_len}
-use Rattle.cni_json.specs.{Each.each_from, Fields.{list_field, member_at, member_or, object_or, tested}, Outcome.◌>>=◌}
+use Rattle.cni_json.specs.{Each.each_from, Fields.{list_field, member_at, needed, object_or, tested}, Outcome.◌>>=◌}
 use Rattle.net_conf.specs.Members.{is_null}
 use Rattle.plugin_registry.specs.declared.ask.Opt.{Opt}
 use Rattle.pod_file.specs.{Commands.{faults_at, stop_at, verb_at, wrong_verb}, Members.{text_at, valid_at}}
@@ -74,6 +74,6 @@ task_in index d = task_at (InTasks index) d
 abbrev pub few_tasks : Items → Result (List Task) PodError
 few_tasks ds = if nat_le (items_len ds) most_tasks then each_from task_in 0 ds else wrong (codes "tasks")
 
--- the tasks, none where there is no list
+-- the tasks, a list that must be there
 unfoldable pub tasks_at : Data → Result (List Task) PodError
-tasks_at d = member_or (Ok []) (wrong (codes "tasks")) few_tasks (list_field (codes "tasks") d)
+tasks_at d = needed (wrong (codes "tasks")) few_tasks (list_field (codes "tasks") d)

@@ -20,14 +20,13 @@ use std::alloc::Global;
 /// The most tasks that a file may have.
 const MOST_TASKS: usize = 65_536;
 
-/// The tasks of a file, none where there is no list of them.
+/// The tasks of a file, whose list must be there.
 #[tactic(auto, using(cni_json::proofs::Steps::steps), unfolding(crate::specs::Tasks::tasks_at))]
 pub(crate) fn tasks(alloc: Global, top: &Value) -> Result<Items<Task>, PodError>
     ensures { Gives is_out_of_memory result (defined.tasks_at (view top.now)) }
 {
     match field_list(top, "tasks") {
-        Field::Absent => Ok(Items::new(alloc)),
-        Field::WrongKind => Err(wrong(alloc, "tasks")),
+        Field::Absent | Field::WrongKind => Err(wrong(alloc, "tasks")),
         Field::Here(list) => few_tasks(alloc, list),
     }
 }

@@ -4,10 +4,11 @@ use Rattle.cni_io.specs.Files.{StoredFiles}
 use Rattle.pod_workers.specs.Plans.{IsWellFormed}
 use Rattle.tool_words.specs.{Words.words_given, declared.words.Words.Words}
 use Rattle.tool_plan.specs.{Causes.{IsUnread, ReachesFile, files_named}, Seen.FilesSeen, Verdict.{IsAskedBy, Verdict}}
-use Rattle.tool_plan.specs.{Verdict.{carry, line, session, session_asked_of, verdict_of}, declared.{due.{Due.Due, DuePlan.DuePlan, DueSession.DueSession}, plan.NoPlan.NoPlan}}
+use Rattle.tool_plan.specs.{Verdict.{carry, line, session, session_asked_of, verdict_of}, declared.due.Due.Due}
+use Rattle.tool_plan.specs.declared.{due.{DuePlan.DuePlan, DueSession.DueSession}, plan.NoPlan.NoPlan}
+use Rattle.tool_plan.specs.declared.plan.NoPlan.TheVariants.{Usage, Line, Unread, NoMemory}
 use Rattle.session_file.specs.WellFormed.{IsSessionConf}
 use Rattle.tool_plan.specs.declared.due.Due.TheVariants as dues
-use Rattle.tool_plan.specs.declared.plan.NoPlan.TheVariants.{Usage, Line, Unread, NoMemory}
 
 -- the words name no file: they aren't taken, or they ask for generated pods
 abbrev pub NameNoFile : List (List ℕ) → Type 0

@@ -10,15 +10,15 @@ use Rattle.net_conf.specs.declared.list.NetList.{NetList}
 use Rattle.packet_probe.specs.{PacketFile.packets_of, declared.packet.Packet.Packet}
 use Rattle.pod_file.specs.{Generator.generated, PodFile.pods_of, declared.pods.Pods.Pods}
 use Rattle.pod_text.specs.declared.asked.{Asked.Asked, CommandPart.{CommandPart, TheVariants.{Lines, Summary}}}
+use Rattle.pod_text.specs.declared.asked.SessionAsked.{SessionAsked}
 use Rattle.pod_workers.specs.{Join.joined, declared.plan.Plan.Plan}
 use Rattle.tool_words.specs.{Words.words_given, declared.source.{Named.Named, Source.{Source, TheVariants.Files}}}
 use Rattle.tool_words.specs.declared.{source.Source.TheVariants.{Generated, Session}, words.Words.Words}
 use Rattle.session_file.specs.{SessionFile.session_of, declared.session.SessionConf.SessionConf}
-use Rattle.pod_text.specs.declared.asked.SessionAsked.{SessionAsked}
-use Rattle.tool_plan.specs.declared.plan.PlanInput.{PlanInput}
-use Rattle.tool_plan.specs.declared.plan.Input.TheVariants as inputs
 use Rattle.tool_plan.specs.{Lines.{reason_line, unread_line, error_line}, Refusals.{list_error, packets_error}}
 use Rattle.tool_plan.specs.{Refusals.{pods_error, plan_error, blamed_file}, declared.plan.Input.Input}
+use Rattle.tool_plan.specs.declared.plan.PlanInput.{PlanInput}
+use Rattle.tool_plan.specs.declared.plan.Input.TheVariants as inputs
 
 -- a value, or the line that tells why there is none
 abbrev pub Judged : Type 0 → Type 0

@@ -4,7 +4,8 @@ use Rattle.std.proofs.lemmas.Option.{same_Some}
 use Rattle.pod_text.specs.Lines.{text_of}
 use Rattle.pod_workers.specs.{Legal.Legal, Order.IsInFileOrder, World.World, declared.plan.Plan.Plan}
 use Rattle.tool_words.specs.declared.words.Words.{Words}
-use Rattle.tool_plan.specs.{Dues.{IsDueOf, IsSessionDueOf}, Seen.FilesSeen, Verdict.{IsAskedBy, carry, session}, declared.due.{DuePlan.DuePlan, DueSession.DueSession}}
+use Rattle.tool_plan.specs.{Dues.{IsDueOf, IsSessionDueOf}, Seen.FilesSeen, Verdict.{IsAskedBy, carry, session}}
+use Rattle.tool_plan.specs.declared.due.{DuePlan.DuePlan, DueSession.DueSession}
 use Rattle.tool_run.specs.{Reports.{CarriesOut, RunsSession, Settles}, Runs.AskForOneThread}
 use Rattle.tool_run.specs.declared.{carry.CarriedOut.CarriedOut, session.RanSession.RanSession}
 use Rattle.tool_run.specs.declared.settle.Settled.TheVariants as settled

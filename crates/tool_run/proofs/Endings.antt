@@ -12,21 +12,20 @@ use Rattle.kernel_text.specs.Dump.{dump_of}
 use Rattle.pod_text.specs.{Fates.fates_from, Lines.{command_part, requests_asked, text_of, trace_lines, where_asked}}
 use Rattle.pod_text.specs.{Statuses.{is_failure, is_out_of_memory, status_of}, Summary.summary_data}
 use Rattle.pod_text.specs.declared.asked.{Asked.Asked, CommandPart.{CommandPart, TheVariants.{Lines, Summary}}}
-use Rattle.pod_workers.specs.{Order.{IsDoneInFileOrder, IsInFileOrder, OneOutcome}, World.{World, host_of}}
+use Rattle.pod_workers.specs.{Legal.Legal, Order.{IsDoneInFileOrder, IsInFileOrder, OneOutcome}, World.{World, host_of}}
 use Rattle.pod_workers.specs.declared.plan.{Entry.Entry, Plan.Plan}
 use Rattle.tool_words.specs.declared.source.Source.{Source, TheVariants.{Files, Generated, Session}}
 use Rattle.tool_plan.specs.{Causes.{ReachesFile, files_named}, Dues.{AreFiles, IsUnreadOf}, Lines.usage_line}
 use Rattle.tool_plan.specs.{Seen.FilesSeen, Verdict.{Verdict, carry, verdict_of}, declared.plan.NoPlan.NoPlan}
 use Rattle.tool_plan.specs.declared.plan.NoPlan.TheVariants as no_plan
-use Rattle.tool_run.specs.{Reports.{HoldsBySuite, IsSettledInOrder, Reported, Reports, Settles, left_in}, Runs.IsRunOf, Seen.SinkSeen, Statuses.Ends}
-use Rattle.tool_run.specs.Statuses.{Left, book_left, nothing_left, of_session, session_left}
-use Rattle.plugin_session.specs.{EachTask.EachTaskHolds, Holds.Suite}
-use Rattle.pod_workers.specs.Legal.{Legal}
-use Rattle.session_text.specs.SessionText.{status_of_session}
-use Rattle.tool_run.specs.declared.settle.Settled.TheVariants as settled
+use Rattle.tool_run.specs.{Reports.{HoldsBySuite, IsSettledInOrder, Reported, Reports, Settles, left_in}, Runs.IsRunOf}
+use Rattle.tool_run.specs.{Seen.SinkSeen, Statuses.{Ends, Left, book_left, nothing_left, of_session, session_left}}
 use Rattle.tool_run.specs.Statuses.{HasReadAll, IsCarriedOut, IsDetermined, IsReport, IsUndisturbed, ReportsWorld}
 use Rattle.tool_run.specs.Statuses.{Wrote, cut_short, of_book, of_failed_read, of_refusal, of_usage, out_of_memory}
 use Rattle.tool_run.specs.{Statuses.reported, declared.{settle.Settled.Settled, top.Ended.Ended}}
+use Rattle.plugin_session.specs.{EachTask.EachTaskHolds, Holds.Suite}
+use Rattle.session_text.specs.SessionText.{status_of_session}
+use Rattle.tool_run.specs.declared.settle.Settled.TheVariants as settled
 
 -- ---- from what was to be reported to how it ends
 

@@ -13,9 +13,9 @@ use Rattle.pod_workers.proofs.Rounds.{round-of}
 use Rattle.tool_words.specs.{Words.words_given, declared.words.Words.Words}
 use Rattle.tool_plan.specs.{Dues.AreFiles, Seen.FilesSeen, Verdict.{Verdict, verdict_if, verdict_of}}
 use Rattle.tool_run.specs.Laws.{EachOutcomeIsOfItsVerdict, EachCommandIsAnsweredAtTheEnd, EachStatusIsOfItsVerdict}
-use Rattle.tool_run.specs.{Laws.{IsLeftOf, IsStatusOf, RefusedWordsAreReported}, Statuses.{HasReadAll, IsReport, Left, of_session}}
-use Rattle.tool_run.specs.Statuses.{IsUsage, cut_short, of_book, of_failed_read, of_refusal, of_usage, out_of_memory}
-use Rattle.tool_run.specs.Statuses.{reported}
+use Rattle.tool_run.specs.{Laws.{IsLeftOf, IsStatusOf, RefusedWordsAreReported}, Statuses.{HasReadAll, IsReport, Left}}
+use Rattle.tool_run.specs.Statuses.{of_session, IsUsage, cut_short, of_book, of_failed_read, of_refusal, of_usage}
+use Rattle.tool_run.specs.Statuses.{out_of_memory, reported}
 use Rattle.tool_run.proofs.Endings.{has_not_read}
 
 status_is : (answers : List (Option Answer)) → IsAmong {X = ℕ} (status_of answers) (0 ∷ 1 ∷ 8 ∷ [])

@@ -6,7 +6,8 @@ use Rattle.cni_io.specs.Files.{StoredFiles}
 use Rattle.pod_workers.specs.{Legal.Legal, World.{EachCommand, IsAnswered, World}}
 use Rattle.tool_words.specs.Words.{words_given}
 use Rattle.tool_plan.specs.{Dues.AreFiles, Seen.FilesSeen, Verdict.{Verdict, usage, line, carry, session, verdict_of}}
-use Rattle.tool_run.specs.{Seen.{HasWriteFailure, SinkSeen}, Statuses.{Ends, HasReadAll, Left, book_left, nothing_left, session_left}}
+use Rattle.tool_run.specs.{Seen.{HasWriteFailure, SinkSeen}, Statuses.{Ends, HasReadAll, Left, book_left, nothing_left}}
+use Rattle.tool_run.specs.Statuses.{session_left}
 
 -- a status that a run may have where words and files come to this
 abbrev pub IsStatusOf : Verdict → ℕ → Type 0

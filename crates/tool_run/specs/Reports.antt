@@ -4,11 +4,13 @@ use Rattle.pod_text.specs.{Lines.text_of, Statuses.status_of, declared.asked.{As
 use Rattle.plugin_session.specs.{EachTask.EachTaskHolds, Holds.Suite}
 use Rattle.session_text.specs.SessionText.{status_of_session, text_of_session}
 use Rattle.pod_workers.specs.{Legal.Legal, Order.IsInFileOrder}
-use Rattle.tool_plan.specs.{Dues.ComesToNoPlan, Lines.usage_line, Seen.FilesSeen, declared.due.{DuePlan.DuePlan, DueSession.DueSession}}
-use Rattle.tool_plan.specs.declared.plan.NoPlan.{NoPlan, TheVariants.{Usage, Line, Unread, NoMemory}}
-use Rattle.tool_run.specs.{Seen.{HasWriteFailure, SinkSeen}, Statuses.{IsCarriedOut, IsSessionRun, Left, Wrote, WrotePrefix, WroteNothing}}
-use Rattle.tool_run.specs.Statuses.{book_left, nothing_left, session_left}
-use Rattle.tool_run.specs.declared.{carry.CarriedOut.CarriedOut, session.RanSession.RanSession, settle.Settled.Settled, top.Ended.Ended}
+use Rattle.tool_plan.specs.{Dues.ComesToNoPlan, Lines.usage_line, Seen.FilesSeen, declared.due.DuePlan.DuePlan}
+use Rattle.tool_plan.specs.declared.{due.DueSession.DueSession, plan.NoPlan.{NoPlan, TheVariants.{Usage, Line, Unread}}}
+use Rattle.tool_plan.specs.declared.plan.NoPlan.TheVariants.{NoMemory}
+use Rattle.tool_run.specs.{Seen.{HasWriteFailure, SinkSeen}, Statuses.{IsCarriedOut, IsSessionRun, Left, Wrote}}
+use Rattle.tool_run.specs.Statuses.{WrotePrefix, WroteNothing, book_left, nothing_left, session_left}
+use Rattle.tool_run.specs.declared.{carry.CarriedOut.CarriedOut, session.RanSession.RanSession, settle.Settled.Settled}
+use Rattle.tool_run.specs.declared.top.Ended.{Ended}
 use Rattle.tool_run.specs.declared.settle.Settled.TheVariants as settled
 
 -- ---- before it is reported
