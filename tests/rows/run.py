@@ -1,6 +1,7 @@
 #!/usr/bin/env python3
-"""Runs a built program on the rows of rows.json, requests.json, packets.json and of ../readers, and on a list and a pod
-file that are cut off behind each of their bytes, and compares what it writes and its status.
+"""Runs a built program on the rows of rows.json, requests.json, packets.json, sessions.json and of ../readers, and on a
+list, a pod file and a session file that are cut off behind each of their bytes, and compares what it writes and its
+status.
 
     run.py [PROGRAM [WORD]]    the rows whose names hold WORD; without one, all; fails where there is none
 
@@ -57,6 +58,16 @@ from program import (
 )
 
 LATER = re.compile(r"invalid pod file: no network for command \d+")
+# the words by which each table's files are read, which the last one names
+READ_BY = {
+    "network_lists": ["pods.json", "net.json"],
+    "pod_files": ["pods.json"],
+    "session_files": ["reg:session.json"],
+}
+# the rows whose files are cut off: a list of four plugins with a pod file, and a session file
+CUT = ("podman_list", "vlan_added_checked_and_deleted")
+# the `ipam` of a list that has one plugin
+IPAM = re.compile(r'"ipam":(.*)}\]}')
 LEASED = re.compile(r'(?<="ips":\[{"address":")([^"]*)')
 
 
@@ -121,6 +132,13 @@ def each_of(row):
         yield {**filled(row, of_place), "name": f"{row['name']} {told}"}
 
 
+def worked_rows():
+    """The rows that were worked out by hand, and the lists that their files may be."""
+    table = read_json(TOP / "tests/rows/rows.json")
+    more = [row for file in ("requests", "packets", "sessions") for row in read_json(TOP / f"tests/rows/{file}.json")]
+    return [each for row in [*table["rows"], *more] for each in each_of(row)], table["lists"]
+
+
 def by_command(lines, key):
     """What the trace's lines have under that key, in order, by command number."""
     found = {}
@@ -129,31 +147,47 @@ def by_command(lines, key):
     return found
 
 
+def session_files(tables):
+    """Session files with the `ipam` of each list whose row tells of one, and with the opening of each pod file without
+    rounds whose row tells of one."""
+    for row in tables["network_lists"]:
+        if row["about"].startswith("ipam"):
+            refused = {"code": 7, "msg": "invalid pod file: ipam"} if "code" in row else {}
+            pools = IPAM.search(row["input"])[1]
+            yield {"about": row["about"], "input": f'{{"network":"s","ipam":{pools},"tasks":[]}}', **refused}
+    for row in tables["pod_files"]:
+        if row["about"].startswith("opening") and '"rounds":[]' in row["input"]:
+            yield {**row, "input": row["input"].replace('"rounds":[]', '"network":"s","tasks":[]')}
+
+
 def reader_rows():
     """The tables of what readers take and refuse, each row as a run."""
-    for table, file in (("network_lists", "net.json"), ("pod_files", "pods.json")):
-        for number, row in enumerate(read_json(TOP / f"tests/readers/{table}.json"), 1):
+    tables = {table: read_json(TOP / f"tests/readers/{table}.json") for table in READ_BY}
+    tables["session_files"] += session_files(tables)
+    for table, words in READ_BY.items():
+        file = words[-1].removeprefix("reg:")
+        for number, row in enumerate(tables[table], 1):
             files = {"pods.json": NO_PODS, file: {"text": row["input"]}}
-            run_row = {"name": f"{table} {number}, {row['about']}", "files": files, "words": list(files)}
+            run_row = {"name": f"{table} {number}, {row['about']}", "files": files, "words": words}
             if "code" in row:
                 error = {"cniVersion": "1.1.0", "code": row["code"], "details": "", "msg": row["msg"]}
                 line = compact({"error": error, "file": file}, ensure_ascii=False)
                 yield {**run_row, "status": REFUSED, "stdout": [line]}
-            elif file == "net.json":
+            elif table == "network_lists":
                 yield {**run_row, "status": SUCCESS, "stdout": []}
             else:
                 yield {**run_row, "later": True}
 
 
-def cut_rows(table):
-    """A list of four plugins and its pod file, cut off behind each of their bytes but the last, each as a run."""
-    row = next(it for it in table["rows"] if it["name"] == "podman_list")
-    whole = {name: compact(content_of(it, table["lists"])) for name, it in row["files"].items()}
+def cut_rows(row, lists):
+    """The files of a row, cut off behind each of their bytes but the last, each as a run."""
+    whole = {name: compact(content_of(it, lists)) for name, it in row["files"].items()}
+    words = [it for it in row["words"] if not it.startswith("--")]
     error = {"cniVersion": "1.1.0", "code": 6, "details": "", "msg": "decoding failed"}
     for file, text in whole.items():
         for length in range(len(text)):
             files = {name: {"text": text[:length] if name == file else it} for name, it in whole.items()}
-            run_row = {"name": f"{file} cut off behind {length} bytes", "files": files, "words": list(files)}
+            run_row = {"name": f"{file} cut off behind {length} bytes", "files": files, "words": words}
             yield {**run_row, "status": REFUSED, "stdout": [compact({"error": error, "file": file})]}
 
 
@@ -232,11 +266,10 @@ def wrong_in(program, row, lists):
 def main():
     program = program_of(sys.argv[1:])
     word = sys.argv[2] if len(sys.argv) > 2 else ""
-    table = read_json(TOP / "tests/rows/rows.json")
-    more = [row for file in ("requests", "packets") for row in read_json(TOP / f"tests/rows/{file}.json")]
-    told = (each for row in [*table["rows"], *more] for each in each_of(row))
-    rows = [row for row in [*told, *reader_rows(), *cut_rows(table)] if word in row["name"]]
-    failed = count_failed((row["name"], wrong_in(program, row, table["lists"])) for row in rows)
+    told, lists = worked_rows()
+    cut = [it for row in told if row["name"] in CUT for it in cut_rows(row, lists)]
+    rows = [row for row in [*told, *reader_rows(), *cut] if word in row["name"]]
+    failed = count_failed((row["name"], wrong_in(program, row, lists)) for row in rows)
     print(f"rows: {len(rows) - failed} passed, {failed} failed")
     return 1 if failed or not rows else 0
 
