@@ -103,3 +103,13 @@ NO_PODS = {"rounds": []}
 def command(verb, network, container, netns):
     """A command of a pod file."""
     return {"verb": verb, "network": network, "container": container, "netns": netns}
+
+
+def task(verb, kind, container, netns, options=None):
+    """A task of a session."""
+    return {"verb": verb, "type": kind, "container": container, "netns": netns, "options": options or {}}
+
+
+def session(*tasks, **more):
+    """A session file of these tasks on the network `s`."""
+    return {"network": "s", **more, "tasks": [*tasks]}

@@ -6,7 +6,7 @@
 The k-th `malloc` of a run answers that there is none, for k from 1, in steps of EVERY where that is given, until a run
 ends without having been refused any. A library that is loaded before the C library does that; the kit's clang compiles
 it. Each run prints the whole text (status 0 or 1), an answer that says out of memory (8), or nothing (6). Where
-commands were answered the kernel's objects are sound, and two deletions or collections, of which at least one has
+commands or tasks were answered the kernel's objects are sound, and two deletions or collections, of which at least one has
 memory, leave nothing that is owned.
 """
 
@@ -37,6 +37,8 @@ from program import (
     program_of,
     read_json,
     run,
+    session,
+    task,
 )
 
 MEMORY = 6
@@ -155,6 +157,27 @@ def rounds_of(*commands):
     return {"opening": {"namespaces": ["/ns/a", "/ns/b", "/ns/c"]}, "rounds": [[it] for it in commands]}
 
 
+def session_runs():
+    """The same of sessions."""
+    words = ["--trace", "--dump", "reg:session.json"]
+    pools = {"type": "host-local", "ranges": [[{"subnet": "10.9.0.0/24"}], [{"subnet": "fd00:9::/64"}]]}
+    opening = {"namespaces": ["/ns/a", "/ns/b"], "links": [{"name": "eth1", "kind": "device"}]}
+    vlan = task("ADD", "vlan", "c1", "/ns/a", {"master": "eth1", "vlanId": "100"})
+    guard = task("ADD", "guard", "c2", "/ns/b", {"from": "192.0.2.7"})
+    delete = task("DEL", "vlan", "c1", "/ns/a")
+    check = task("CHECK", "vlan", "c1", "/ns/a")
+    sweep = {"verb": "GC"}
+    halves = [{**vlan, "stop": 4}, {**guard, "stop": 3}]
+
+    def of(*tasks):
+        return {"session.json": session(*tasks, ipam=pools, opening=opening)}
+
+    yield "an ADD of vlan, a CHECK and deletions", words, of(vlan, check, delete, delete), True
+    yield "collections after half-made ADDs of a session", words, of(*halves, sweep, sweep), True
+    yield "no task", ["reg:session.json"], of(), False
+    yield "ADDs of a session, and all that is printed of them", words, of(vlan, guard, check), False
+
+
 def runs():
     """Each run by its name: its words, its files, and whether its last command takes back all that is owned."""
     lists = read_json(TOP / "tests/rows/rows.json")["lists"]
@@ -176,6 +199,7 @@ def runs():
     yield "collections after half-made ADDs", words, swept, True
     yield "no command", ["pods.json"], {"pods.json": NO_PODS}, False
     yield "an ADD, and all that is printed of it", ["--probe", "packets.json", *words], added, False
+    yield from session_runs()
 
 
 def main():

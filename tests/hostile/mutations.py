@@ -1,5 +1,5 @@
 #!/usr/bin/env python3
-"""Runs the program on lists, pod files and packet files with something changed in them, and looks how each run ends.
+"""Runs the program on lists, pod, packet and session files with something changed in them, and looks how each run ends.
 
     mutations.py [PROGRAM [COUNT [SEED]]]
 
@@ -20,8 +20,8 @@ sys.dont_write_bytecode = True
 sys.path.insert(0, str(pathlib.Path(__file__).resolve().parent.parent))
 sys.path.insert(0, str(pathlib.Path(__file__).resolve().parent.parent / "rows"))
 
-from program import FAILURE, REFUSED, SUCCESS, TOP, compact, in_folder, lines_of, program_of, read_json, run
-from run import content_of, each_of
+from program import FAILURE, REFUSED, SUCCESS, TOP, compact, in_folder, lines_of, program_of, run
+from run import content_of, worked_rows
 
 COUNT = 400
 SEED = 1
@@ -91,10 +91,9 @@ def sources():
     for folder in sorted(it for it in (TOP / "examples").iterdir() if (it / "net.json").exists()):
         files = {it.name: it.read_bytes() for it in folder.glob("*.json")}
         yield files, ["--trace", "--dump", "--requests", "pods.json", "net.json"]
-    table = read_json(TOP / "tests/rows/rows.json")
-    more = [row for file in ("requests", "packets") for row in read_json(TOP / f"tests/rows/{file}.json")]
-    for row in (made for it in [*table["rows"], *more] for made in each_of(it)):
-        given = {name: content_of(it, table["lists"]) for name, it in row.get("files", {}).items()}
+    told, lists = worked_rows()
+    for row in told:
+        given = {name: content_of(it, lists) for name, it in row.get("files", {}).items()}
         if given and all(isinstance(it, (bytes, dict, list)) for it in given.values()):
             files = {name: bytes_of(it) for name, it in given.items()}
             if all(0 < len(it) <= MOST_BYTES for it in files.values()):
