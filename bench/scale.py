@@ -65,23 +65,33 @@ def collected(count):
     )
 
 
-def timed(program, files):
-    return least(RUNS, seconds, program, files)
-
-
-def an_item(program, kind, count):
+def an_item(program, kind, count, of_one):
     """The time for one of so many items; none where a run isn't over in time."""
-    whole, rest = (timed(program, files) for files in kind(count))
+    whole, rest = (least(RUNS, of_one, program, files) for files in kind(count))
     return None if whole is None or rest is None else (whole - rest) / count
+
+
+def tell(program, kind, small, large, of_one=seconds):
+    """Prints the row of what an item takes of so many, by the seconds of one run."""
+    of_small, of_large = (an_item(program, kind, count, of_one) for count in (small, large))
+    name = kind.__name__
+    if of_small is None or of_large is None:
+        print(f"{name:10} not over in time", flush=True)
+    else:
+        print(f"{name:10} {of_large * 1e6:8.2f} us an item, x{of_large / of_small:.2f} of N={small}", flush=True)
 
 
 def opening_over_json(program, count):
     """The time for an opening over that for its JSON."""
+
+    def timed(files):
+        return least(RUNS, seconds, program, files)
+
     links = [{"name": f"ens{i}", "kind": "device"} for i in range(count)]
     pods = {"opening": {"namespaces": [f"/ns/{i}" for i in range(3 * count)], "links": links}, "rounds": []}
-    read = timed(program, {"pods.json": pods, "net.json": NET})
-    alone = timed(program, {"pods.json": f"[{compact(pods)}]".encode(), "net.json": NET})
-    none = timed(program, {"pods.json": NO_PODS, "net.json": NET})
+    read = timed({"pods.json": pods, "net.json": NET})
+    alone = timed({"pods.json": f"[{compact(pods)}]".encode(), "net.json": NET})
+    none = timed({"pods.json": NO_PODS, "net.json": NET})
     return None if read is None or alone is None else (read - none) / (alone - none)
 
 
@@ -89,12 +99,7 @@ def main():
     program = program_of(sys.argv[1:])
     small, large = [int(it) for it in sys.argv[2:]] or [2000, 20000]
     for kind in (mappings, routes, collected):
-        of_small, of_large = an_item(program, kind, small), an_item(program, kind, large)
-        name = kind.__name__
-        if of_small is None or of_large is None:
-            print(f"{name:10} not over in time", flush=True)
-        else:
-            print(f"{name:10} {of_large * 1e6:8.2f} us an item, x{of_large / of_small:.2f} of N={small}", flush=True)
+        tell(program, kind, small, large)
     print(f"opening    x{opening_over_json(program, large):.2f} of its JSON", flush=True)
 
 

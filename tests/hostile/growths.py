@@ -6,8 +6,8 @@
 The k-th `malloc` of a run answers that there is none, for k from 1, in steps of EVERY where that is given, until a run
 ends without having been refused any. A library that is loaded before the C library does that; the kit's clang compiles
 it. Each run prints the whole text (status 0 or 1), an answer that says out of memory (8), or nothing (6). Where
-commands or tasks were answered the kernel's objects are sound, and two deletions or collections, of which at least one has
-memory, leave nothing that is owned.
+commands or tasks were answered the kernel's objects are sound, and two deletions or collections, of which at least one
+has memory, leave nothing that is owned.
 """
 
 import collections
