@@ -42,7 +42,7 @@ def changes(calls, pods, program, lists):
 
 
 def main():
-    if len(sys.argv) < 3 or sys.argv[2].startswith(("-", "gen:")):
+    if len(sys.argv) < 3 or sys.argv[2].startswith(("-", "gen:", "reg:")):
         sys.exit(__doc__)
     program, file, *lists = sys.argv[1:]
     whole = run([program, "--trace", file, *lists])

@@ -1,7 +1,9 @@
 #!/usr/bin/env python3
-"""Crashes the last command of a pod file after each of its calls, and prints what survives.
+"""Crashes the last command of a pod file, or the last task of a session file, after each of its calls, and prints what
+survives.
 
     tools/crashes.py [--svg] PROGRAM PODS [LIST ..]
+    tools/crashes.py [--svg] PROGRAM reg:FILE
 
 A line a call: how many objects of each kind belong to the command's attachment, or of a GC to its network, when the
 command is stopped behind that call, and how it ends when it is tried again. `--svg` draws the same. The program runs
@@ -10,7 +12,6 @@ twice for each line. Ends with 0, or with the status of a run that wasn't carrie
 
 import collections
 import json
-import pathlib
 import signal
 import sys
 import tempfile
@@ -18,7 +19,7 @@ import tempfile
 sys.dont_write_bytecode = True
 
 from diagram import COLOURS, FAINT, LINE_HEIGHT, PAD, PLAIN, SVG, escape, width_of
-from runs import CARRIED_OUT, run, values_with
+from runs import CARRIED_OUT, SESSION, pods_of, run, values_with
 from show import about, outcome
 from table import table
 
@@ -28,10 +29,12 @@ LEFT, *_ = COLOURS
 
 
 def run_of(rounds, pods, program, lists):
+    """The run of these rounds, or of their commands as the tasks of a session."""
+    tasks = {"tasks": [it for a_round in rounds for it in a_round]} if "tasks" in pods else {}
     with tempfile.NamedTemporaryFile("w", suffix=".json") as file:
-        json.dump({**pods, "rounds": rounds}, file)
+        json.dump({**pods, "rounds": rounds, **tasks}, file)
         file.flush()
-        return run([program, "--trace", "--dump", file.name, *lists])
+        return run([program, "--trace", "--dump", (SESSION if tasks else "") + file.name, *lists])
 
 
 def survivors(printed, owner):
@@ -82,7 +85,7 @@ def main():
     if len(words) < 2 or words[1].startswith(("-", "gen:")):
         sys.exit(__doc__)
     program, file, *lists = words
-    pods = json.loads(pathlib.Path(file).read_text(encoding="utf-8"))
+    pods = pods_of(file)
     whole = run_of(pods.get("rounds"), pods, program, lists)
     if whole.returncode not in CARRIED_OUT:
         print(whole.stdout, end="")

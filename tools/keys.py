@@ -1,4 +1,5 @@
-"""The keys of network lists and pod files that no page of docs/ names where they stand: the program ignores them."""
+"""The keys of network lists, pod files and session files that no page of docs/ names where they stand: the program
+ignores them."""
 
 import difflib
 import pathlib
@@ -11,7 +12,7 @@ NAME = re.compile(r"`([a-z]\w*)`")
 # a row of a table that begins with keys, and an item of a list that begins with one
 ROW = re.compile(r"^\| ((?:`\w+`(?:, )?)+) \|(.*)", re.MULTILINE)
 ITEM = re.compile(r"^- (`\w+`)(.*\n(?:  .*\n)*)", re.MULTILINE)
-# what tells a list, or a plugin alone, from a pod file
+# what tells a list, or a plugin alone, from a pod file or a session file
 LIST_KEYS = {"cniVersion", "name", "plugins", "type"}
 # keys that CNI, its runtimes and the reference plugins know, and that have no effect here
 KNOWN = {
@@ -46,6 +47,14 @@ def opening_keys(text):
 def pod_keys():
     text = section("FORMATS.md", "Pod files")
     return {"opening": opening_keys(text), "rounds": keys_of(text)}
+
+
+def session_keys():
+    pods, text = section("FORMATS.md", "Pod files"), section("FORMATS.md", "Session files")
+    of_command = keys_of(pods)
+    of_task = keys_of(text.split("The keys of a task:")[1].split("The program's plugins:")[0])
+    task = {**{key: of_command.get(key, {}) for key in of_task}, "options": None}
+    return {"network": {}, "ipam": ipam_keys(), "opening": opening_keys(pods), "tasks": task}
 
 
 def ipam_keys():
@@ -84,9 +93,10 @@ def is_pod_file(value):
 
 
 def unnamed_in(value):
-    """The places of a list or a pod file, which may be of any form, as those that the program refuses are."""
+    """The places of a list, a pod file or a session file, which may be of any form, as those that the program refuses
+    are."""
     if is_pod_file(value):
-        yield from unnamed(value, pod_keys())
+        yield from unnamed(value, session_keys() if "tasks" in value else pod_keys())
     elif isinstance(value, dict):
         plugins = value.get("plugins")
         yield from unnamed(value, {**keys_of(section("FORMATS.md", "Network lists")), "plugins": None})

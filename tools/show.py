@@ -2,19 +2,18 @@
 """Prints a run as a table: a line a command, with what it is about, how many calls it made and how it ended.
 
     tools/show.py PROGRAM PODS [LIST ..]
+    tools/show.py PROGRAM reg:FILE
 
 Ends with the status of the run.
 """
 
 import collections
-import json
-import pathlib
 import signal
 import sys
 
 sys.dont_write_bytecode = True
 
-from runs import CARRIED_OUT, run, values_with
+from runs import CARRIED_OUT, pods_of, run, values_with
 from table import table
 
 COLUMNS = ("n", "verb", "about", "calls", "outcome")
@@ -65,8 +64,7 @@ def main():
     if ended.returncode not in CARRIED_OUT:
         print(ended.stdout, end="")
         return ended.returncode
-    pods = json.loads(pathlib.Path(file).read_text(encoding="utf-8"))
-    print("\n".join(table(list(rows(ended.stdout, pods)), list(COLUMNS))))
+    print("\n".join(table(list(rows(ended.stdout, pods_of(file))), list(COLUMNS))))
     return ended.returncode
 
 

@@ -3,10 +3,10 @@
 A session is a block of lines that begin with four spaces: a command of bash after `$ `, below it the lines that it
 prints. A line `..` stands for any lines. A command with `jq` is passed over where there is none. A command that ends
 with `>FILE` prints what that file holds; so each picture that a document shows is made. A block of JSON in
-docs/FORMATS.md or docs/plugins/ is a network list, a pod file, a plugin or the `ipam` of one. A pod file is run on the
-document's lists, and all else is read; none is to be refused, and the lines right below one are what it prints. The
-list in examples/plugins of a page of docs/plugins has the page's example. examples/first is the data of crates/cnitool,
-whose output `rt ci` compares.
+docs/FORMATS.md or docs/plugins/ is a network list, a pod file, a session file, a plugin or the `ipam` of one. A pod
+file is run on the document's lists, a session file alone, and all else is read; none is to be refused, and the lines
+right below one are what it prints. The list in examples/plugins of a page of docs/plugins has the page's example.
+examples/first is the data of crates/cnitool, whose output `rt ci` compares.
 """
 
 import json
@@ -77,6 +77,8 @@ def files_of(value, lists):
     if "rounds" in value:
         networks = {command["network"] for a_round in value["rounds"] for command in a_round if "network" in command}
         return [value, *(lists[name] for name in sorted(networks) if name in lists)]
+    if "tasks" in value:
+        return [value]
     if "plugins" in value:
         return [NO_PODS, value]
     if value["type"] == "host-local":
@@ -90,7 +92,7 @@ def wrong_examples(text, program):
     lists = {value["name"]: value for value, _ in examples if "plugins" in value}
     for value, lines in examples:
         files = {f"{number}.json": content for number, content in enumerate(files_of(value, lists))}
-        done = run_on(program, [*files], files)
+        done = run_on(program, ["reg:0.json"] if "tasks" in value else [*files], files)
         printed = done.stdout.decode("utf-8")
         if done.returncode == REFUSED:
             yield f"an example is refused: {printed.strip()}"
