@@ -19,7 +19,7 @@ import tempfile
 sys.dont_write_bytecode = True
 
 from diagram import COLOURS, FAINT, LINE_HEIGHT, PAD, PLAIN, SVG, escape, width_of
-from runs import CARRIED_OUT, SESSION, pods_of, run, values_with
+from runs import CARRIED_OUT, SESSION, commands_of, read, run, values_with
 from show import about, outcome
 from table import table
 
@@ -28,13 +28,21 @@ COLUMNS = ("calls", "last call", *KINDS, "tried again")
 LEFT, *_ = COLOURS
 
 
-def run_of(rounds, pods, program, lists):
-    """The run of these rounds, or of their commands as the tasks of a session."""
-    tasks = {"tasks": [it for a_round in rounds for it in a_round]} if "tasks" in pods else {}
+def run_of(pods, word, program, lists):
+    """The run of what is as the file that the word names."""
     with tempfile.NamedTemporaryFile("w", suffix=".json") as file:
-        json.dump({**pods, "rounds": rounds, **tasks}, file)
+        json.dump(pods, file)
         file.flush()
-        return run([program, "--trace", "--dump", (SESSION if tasks else "") + file.name, *lists])
+        prefix = SESSION if word.startswith(SESSION) else ""
+        return run([program, "--trace", "--dump", prefix + file.name, *lists])
+
+
+def in_last_place(pods, word, first, *rest):
+    """The same with these, one after another, in the place of the last command or task."""
+    if word.startswith(SESSION):
+        return {**pods, "tasks": [*pods["tasks"][:-1], first, *rest]}
+    *before, last = filter(None, pods["rounds"])
+    return {**pods, "rounds": [*before, [*last[:-1], first], *([it] for it in rest)]}
 
 
 def survivors(printed, owner):
@@ -43,14 +51,14 @@ def survivors(printed, owner):
     return collections.Counter(owned)
 
 
-def crashes(calls, pods, program, lists):
-    """A row for each call of the last command, which is in the last of the rounds."""
-    *before, last = pods["rounds"]
-    *others, command = last
+def crashes(calls, commands, pods, word, program, lists):
+    """A row for each call of the last command or task."""
     for number, call in enumerate(calls, 1):
-        crashed = [*before, [*others, {**command, "stop": number}]]
-        printed = run_of([*crashed, [command]], pods, program, lists).stdout
-        left = survivors(run_of(crashed, pods, program, lists).stdout, about(command))
+        command = commands[-1]
+        crashed = {**command, "stop": number}
+        printed = run_of(in_last_place(pods, word, crashed, command), word, program, lists).stdout
+        stopped = run_of(in_last_place(pods, word, crashed), word, program, lists).stdout
+        left = survivors(stopped, about(command))
         again = outcome(values_with("verb", printed)[-1])
         yield dict(zip(COLUMNS, (number, call["call"], *(left[it] or None for it in KINDS), again)))
 
@@ -85,14 +93,14 @@ def main():
     if len(words) < 2 or words[1].startswith(("-", "gen:")):
         sys.exit(__doc__)
     program, file, *lists = words
-    pods = pods_of(file)
-    whole = run_of(pods.get("rounds"), pods, program, lists)
+    pods = read(file)
+    whole = run_of(pods, file, program, lists)
     if whole.returncode not in CARRIED_OUT:
         print(whole.stdout, end="")
         return whole.returncode
-    number = sum(map(len, pods["rounds"]))
-    calls = [it for it in values_with("call", whole.stdout) if it["n"] == number]
-    rows = list(crashes(calls, pods, program, lists))
+    commands = commands_of(pods, file)
+    calls = [it for it in values_with("call", whole.stdout) if it["n"] == len(commands)]
+    rows = list(crashes(calls, commands, pods, file, program, lists))
     print(picture(rows) if "--svg" in sys.argv else "\n".join(table(rows, list(COLUMNS))))
     return 0
 

@@ -15,12 +15,16 @@ def run(words):
     return subprocess.run(words, stdout=subprocess.PIPE, encoding="utf-8", check=False)
 
 
-def pods_of(word):
-    """The pod file that a word names; of a session file the same value with each task in a round of its own."""
-    value = json.loads(pathlib.Path(word.removeprefix(SESSION)).read_text(encoding="utf-8"))
-    if not word.startswith(SESSION):
-        return value
-    return {**value, "rounds": [[{**task, "network": value["network"]}] for task in value["tasks"]]}
+def read(word):
+    """The pod file or session file that a word names."""
+    return json.loads(pathlib.Path(word.removeprefix(SESSION)).read_text(encoding="utf-8"))
+
+
+def commands_of(value, word):
+    """The commands of the pod file that a word names, or the tasks of a session file, each with its network."""
+    if word.startswith(SESSION):
+        return [{**task, "network": value["network"]} for task in value["tasks"]]
+    return [command for a_round in value["rounds"] for command in a_round]
 
 
 def lines_with(key, text):

@@ -13,7 +13,7 @@ import sys
 
 sys.dont_write_bytecode = True
 
-from runs import CARRIED_OUT, pods_of, run, values_with
+from runs import CARRIED_OUT, commands_of, read, run, values_with
 from table import table
 
 COLUMNS = ("n", "verb", "about", "calls", "outcome")
@@ -47,9 +47,8 @@ def outcome(answer):
     return answer["versions"]["cniVersion"] if "versions" in answer else "ok"
 
 
-def rows(printed, pods):
+def rows(printed, commands):
     """A row for each answer of a run with a trace."""
-    commands = [command for a_round in pods["rounds"] for command in a_round]
     calls = collections.Counter(it["n"] for it in values_with("call", printed))
     for answer in values_with("verb", printed):
         number, command = answer["n"], commands[answer["n"] - 1]
@@ -64,7 +63,7 @@ def main():
     if ended.returncode not in CARRIED_OUT:
         print(ended.stdout, end="")
         return ended.returncode
-    print("\n".join(table(list(rows(ended.stdout, pods_of(file))), list(COLUMNS))))
+    print("\n".join(table(list(rows(ended.stdout, commands_of(read(file), file))), list(COLUMNS))))
     return ended.returncode
 
 

@@ -8,7 +8,7 @@
 - alike:   of COUNT lists, 300 where it isn't given, each changed at random, the first refusal is the program's;
 - mend:    each list of engine_lists.json is mended as is written there, the program carries it out, and
            docs/COMPATIBILITY.md tells of the change; other lists aren't mended;
-- files:   a folder, keys that are known, pod files, SARIF, and files that can't be read.
+- files:   a folder, keys that are known, pod files and a session file, SARIF, and files that can't be read.
 """
 
 import json
@@ -26,7 +26,19 @@ import lists
 import mending
 import mutations
 import places
-from program import NO_PODS, REFUSED, TOP, bridge, count_failed, in_folder, network_list, program_of, read_json, run
+from program import (
+    NO_PODS,
+    REFUSED,
+    TOP,
+    bridge,
+    count_failed,
+    in_folder,
+    network_list,
+    program_of,
+    read_json,
+    run,
+    session,
+)
 
 COUNT = 300
 SEED = 1
@@ -53,6 +65,7 @@ FILES = {
     "d.txt": b"no list",
     "latin.json": b'{"name":\n"\xe4"}',
     "pods.json": PODS,
+    "session.json": session({"verb": "GC", "vaild": [], "options": {"any": "x"}}),
 }
 TOLD = """\
 latin.json:2:2: refused: this isn't UTF-8; save it as UTF-8
@@ -61,6 +74,7 @@ pods.json:1:74: warning: opening.links[0].mut: this key is ignored; the nearest 
 pods.json:1:84: warning: opening.links[0].netns: this key is ignored; the nearest name is ns
 pods.json:1:144: warning: rounds[0][0].vaild: this key is ignored; the nearest name is valid
 pods.json:1:228: warning: rounds[1][0].portMappings[0].hostport: this key is ignored; the nearest name is hostPort
+session.json:1:46: warning: tasks[0].vaild: this key is ignored; the nearest name is valid
 c.json:1:30: warning: name: b.conf has this name too; the program takes one of them
 b.conf:1:71: warning: plugins[0].ipam: one of a.conflist leases these addresses too
 """
