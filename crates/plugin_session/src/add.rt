@@ -26,7 +26,6 @@ use crate::lease::lease_by;
 use crate::part::PartEnd;
 use crate::row::Row;
 use crate::step::{StepEnd, make_call, make_row};
-use session_file::{SessionConf, Task};
 use cni_addr::{Addr, Duplicate, Items, NoMemory};
 use cni_errors::{Cause, Ending};
 use cni_result::AddResult;
@@ -34,6 +33,7 @@ use kernel_model::Kernel;
 use kernel_types::{Call, Kind};
 use net_conf::HostLocalConf;
 use plugin_registry::{Ask, Calls, Plugin, Promise, Results};
+use session_file::{SessionConf, Task};
 use std::alloc::Global;
 
 /// The kinds that a deletion deletes, in order, by the row of its attachment.

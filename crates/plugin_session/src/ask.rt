@@ -12,13 +12,13 @@ ghost use Rattle.plugin_session.specs.Adds as adds;
 ghost use Rattle.plugin_session.specs.Pools.{sets_by};
 
 use crate::row::Row;
-use session_file::{SessionConf, Task};
 use cni_addr::{Addr, Duplicate, Items, NoMemory, RefCounted, Text};
 use cni_result::{AddResult, Cached};
 use host_local::given_of;
 use kernel_types::{Att, Call, Given};
 use net_conf::HostLocalConf;
 use plugin_registry::{Ask, Calls, Plugin, Promise, Results};
+use session_file::{SessionConf, Task};
 use std::alloc::Global;
 
 /// What the leased addresses mean by the ranges of their sets.

@@ -4,8 +4,8 @@ ghost use Rattle.std.specs.Prelude.{◌≡◌, ◌≤◌, ◌<◌, ℕ, List, Op
 ghost use Rattle.plugin_session.specs.Kept.{AreNumbered};
 ghost use Rattle.session_file.specs.WellFormed.{most_tasks};
 
-use session_file::Task;
 use cni_addr::NoMemory;
+use session_file::Task;
 use std::alloc::Global;
 use std::collections::BTreeMap;
 

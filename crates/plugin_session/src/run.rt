@@ -24,7 +24,6 @@ use crate::journal::Journal;
 use crate::part::PartEnd;
 use crate::row::Row;
 use crate::run_add::run_add;
-use session_file::{SessionConf, Task};
 use crate::words::command_of;
 use cni_addr::{Addr, Items, NoMemory};
 use cni_errors::fields::{att_of, del_refusal};
@@ -34,6 +33,7 @@ use kernel_model::Kernel;
 use kernel_types::Call;
 use plugin_registry::{Ask, Calls, Promise, Registry, Results};
 use pod_file::{Command, Verb};
+use session_file::{SessionConf, Task};
 use std::alloc::Global;
 
 /// What a task goes by besides its host: its session's network and pools, and the row of its attachment with what that

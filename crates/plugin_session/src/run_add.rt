@@ -26,7 +26,6 @@ use crate::journal::Journal;
 use crate::part::PartEnd;
 use crate::row::Row;
 use crate::run::{Hand, TaskRun, answer_end, answered, without_row};
-use session_file::SessionConf;
 use cni_addr::{Duplicate, Items, NoMemory, RefCounted};
 use cni_errors::Ending;
 use cni_errors::fields::{add_refusal, att_of};
@@ -35,6 +34,7 @@ use kernel_model::Kernel;
 use kernel_types::Call;
 use plugin_registry::{Ask, Calls, Plugin, Promise, Registry, Results, first_unmet};
 use pod_file::Command;
+use session_file::SessionConf;
 use std::alloc::Global;
 
 /// The answer to an ADD that made its attachment: a copy of the result that its plugin gave.

@@ -16,12 +16,12 @@ use crate::entry::Entry;
 use crate::journal::Journal;
 use crate::row::Row;
 use crate::run::{Hand, TaskRun, run_task};
-use session_file::SessionConf;
 use cni_addr::{Addr, Items, NoMemory};
 use cni_result::AddResult;
 use kernel_model::Kernel;
 use kernel_types::{Call, Host};
 use plugin_registry::{Ask, Calls, Promise, Registry, Results};
+use session_file::SessionConf;
 use std::alloc::Global;
 use std::marker::Model;
 

@@ -3,9 +3,9 @@
 ghost use Rattle.std.specs.Prelude.{IfOk, ◌≡◌};
 ghost use Rattle.plugin_session.specs.Tasks as tasks;
 
-use session_file::Task;
 use cni_addr::{Duplicate, Items, NoMemory, Text};
 use pod_file::Command;
+use session_file::Task;
 use std::alloc::Global;
 
 /// The task as a command of the network, whose words are tested as a pod file's are. Its stop and its faults are the

@@ -266,7 +266,11 @@ fn packets_of_bytes(alloc: Global, bytes: &[u8], file: &str) -> Result<Items<Pac
 }
 
 #[tactic(auto, using(crate::proofs::Stopping::stopping))]
-pub(crate) fn read_bytes<F: Files>(alloc: Global, files: &mut F, file: &str) -> Result<Vec<u8>, NoPlan>
+pub(crate) fn read_bytes<F: Files>(
+    alloc: Global,
+    files: &mut F,
+    file: &str,
+) -> Result<Vec<u8>, NoPlan>
     ensures gives { GivesStored (λ bytes. bytes.items) (F.files files.old)
         (F.failure_count files.old) (F.failure_count files.new)
         (λ name. name ≡ file.now) (λ stored. stored_bytes stored file.now) result }

@@ -31,7 +31,9 @@ pub enum Source {
         stop_at: Option<u32>,
     },
     /// The session file of this name, with the tasks of plugins that a caller brings.
-    Session { file: Text },
+    Session {
+        file: Text,
+    },
 }
 
 /// The files that are named, and what is asked of them.
