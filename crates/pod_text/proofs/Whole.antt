@@ -7,7 +7,7 @@ use Rattle.cni_result.proofs.{ResultLemmas.{result_is_whole, error_is_whole}, Wh
 use Rattle.cni_result.specs.declared.version.Version.{Version}
 use Rattle.cni_errors.specs.{ErrorKinds.memory_error, declared.answer.Answer.{Answer, TheVariants.{Added, Yes}}}
 use Rattle.cni_errors.specs.declared.answer.Answer.TheVariants.{Skipped, Versions, Refused, OutOfMemory, Stopped}
-use Rattle.pod_file.specs.declared.command.Command.{Command}
+use Rattle.pod_file.specs.declared.command.{Command.Command, Verb.Verb}
 use Rattle.packet_probe.specs.declared.packet.Fate.{Fate}
 use Rattle.pod_text.specs.{Fates.fate_data, Lines.{versions_data, put_answer, answer_data}, Requests.env_data}
 use Rattle.pod_text.specs.{Requests.{network_env_data, request_line}, Summary.summary_data}
@@ -27,9 +27,9 @@ put_answer_is_whole (Refused error) ms rest = members_have_float-put _ _ ms (err
 put_answer_is_whole OutOfMemory ms rest = members_have_float-put _ _ ms (error_is_whole memory_error) rest
 put_answer_is_whole (Stopped calls) ms rest = members_have_float-put _ _ ms refl rest
 
-pub answer_is_whole : (command : Command) (answer : Answer) → has_float (answer_data command answer) ≡ false
+pub answer_is_whole : (number : ℕ) (verb : Verb) (answer : Answer) → has_float (answer_data number verb answer) ≡ false
 unfolding answer_data
-answer_is_whole command answer = search (puts_are_whole, put_answer_is_whole) depth 6
+answer_is_whole number verb answer = search (puts_are_whole, put_answer_is_whole) depth 6
 
 pub summary_is_whole : (w : World) → has_float (summary_data w) ≡ false
 unfolding summary_data

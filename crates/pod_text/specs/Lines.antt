@@ -13,7 +13,7 @@ use Rattle.cni_errors.specs.declared.answer.Skip.TheVariants as skips
 use Rattle.plugin_requests.specs.Raw.{RawView}
 use Rattle.kernel_text.specs.{Dump.dump_of, Replies.trace_data}
 use Rattle.net_conf.specs.List.{disable_check_key, disable_gc_key}
-use Rattle.pod_file.specs.{Commands.verb_text, declared.command.Command.Command}
+use Rattle.pod_file.specs.{Commands.verb_text, declared.command.{Command.Command, Verb.Verb}}
 use Rattle.pod_text.specs.{Fates.fates_from, Requests.all_requests, Summary.summary_line, declared.asked.Asked.Asked}
 use Rattle.pod_text.specs.declared.asked.CommandPart.{CommandPart, TheVariants.{Lines, Summary}}
 use Rattle.pod_workers.specs.{Plans.commands_of, World.{World, answer_for, host_of}, declared.plan.Entry.Entry}
@@ -41,23 +41,23 @@ put_answer (Refused error) ms = put (codes "error") (error_data error) ms
 put_answer OutOfMemory ms = put (codes "error") (error_data memory_error) ms
 put_answer (Stopped calls) ms = put (codes "stopped") (number_data calls) ms
 
--- a command with its answer
-unfoldable pub answer_data : Command → Answer → Data
-answer_data command answer = object (no_members
+-- the command of this number and verb with its answer
+unfoldable pub answer_data : ℕ → Verb → Answer → Data
+answer_data number verb answer = object (no_members
     ▷ put_answer answer
-    ▷ put (codes "n") (number_data command.number)
-    ▷ put (codes "verb") (text_data (verb_text command.verb)))
+    ▷ put (codes "n") (number_data number)
+    ▷ put (codes "verb") (text_data (verb_text verb)))
 
 -- ---- the parts of the text
 
 -- a command without an answer has no line
-abbrev pub answer_line : Command → Option Answer → List ℕ
-answer_line command None = []
-answer_line command (Some answer) = line_of (answer_data command answer)
+abbrev pub answer_line : ℕ → Verb → Option Answer → List ℕ
+answer_line number verb None = []
+answer_line number verb (Some answer) = line_of (answer_data number verb answer)
 
 -- the line of a command by the answer that it has in the world
 abbrev pub command_line : World → Command → List ℕ
-command_line w command = answer_line command (answer_for w command.number)
+command_line w command = answer_line command.number command.verb (answer_for w command.number)
 
 -- the lines of all commands, in file order
 abbrev pub command_lines : World → List ℕ

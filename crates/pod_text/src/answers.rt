@@ -11,7 +11,7 @@ use cni_errors::{Answer, Skip, memory_error};
 use cni_json::JsonObject;
 use cni_result::{Version, error_value, to_value};
 use net_conf::{DISABLE_CHECK_KEY, DISABLE_GC_KEY};
-use pod_file::{Command, verb_text};
+use pod_file::{Verb, verb_text};
 use serde_json::Value;
 use std::alloc::Global;
 
@@ -54,19 +54,21 @@ fn put_answer(alloc: Global, answer: &Answer, object: &mut JsonObject) -> Result
     }
 }
 
-/// The command's number and verb with its answer, as JSON. It takes time and memory in proportion to the answer.
+/// An answer with the number of what it answers, from 1, and its verb, as JSON. It takes time and memory in proportion
+/// to the answer.
 #[tactic(auto, using(crate::proofs::Whole::answer_is_whole), unfolding(crate::specs::Lines::answer_data))]
-pub(crate) fn answer_value(
+pub fn answer_value(
     alloc: Global,
-    command: &Command,
+    number: u64,
+    verb: Verb,
     answer: &Answer,
 ) -> Result<Value, NoMemory>
-    ensures json { IfOk result (λ v. view v ≡ answer_data command.now answer.now) }
+    ensures json { IfOk result (λ v. view v ≡ answer_data number verb answer.now) }
     ensures numbers { IfOk result (λ v. has_float (view v) ≡ false) }
 {
     let mut object = JsonObject::new(alloc);
     put_answer(alloc, answer, &mut object)?;
-    object.put("n", &command.number)?;
-    object.put_text("verb", verb_text(command.verb))?;
+    object.put("n", &number)?;
+    object.put_text("verb", verb_text(verb))?;
     Ok(object.into_value())
 }

@@ -27,3 +27,12 @@ pub struct Asked {
     /// A line for each of these: what becomes of it by the host's rules.
     pub packets: Items<Packet>,
 }
+
+/// The parts that the text of a session is to have after its answers. They come in this order.
+#[derive(Clone, Copy, Debug, PartialEq, Eq)]
+pub struct SessionAsked {
+    /// A line for each call of the history.
+    pub trace: bool,
+    /// A line for each object of the host.
+    pub dump: bool,
+}

@@ -17,7 +17,7 @@
 //! ```
 #![tactic(auto)]
 
-mod answers;
+pub mod answers;
 pub mod asked;
 mod fates;
 pub mod parts;
@@ -28,7 +28,8 @@ pub mod statuses;
 mod summary;
 mod told;
 
-pub use asked::{Asked, CommandPart};
+pub use answers::answer_value;
+pub use asked::{Asked, CommandPart, SessionAsked};
 pub use parts::text;
 pub use statuses::{
     COMMAND_MEMORY_STATUS, FAILURE_STATUS, MEMORY_STATUS, NO_WORDS_STATUS, READ_STATUS,

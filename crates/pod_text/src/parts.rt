@@ -28,7 +28,7 @@ fn push_command<K: Kernel + Drop>(
 {
     match book.answer(command.number) {
         Some(answer) => {
-            let value = answer_value(alloc, command, answer)?;
+            let value = answer_value(alloc, command.number as u64, command.verb, answer)?;
             push_line(alloc, &value, lines)
         }
         None => Ok(()),
