@@ -1,15 +1,17 @@
 -- The number of pods that a text spells, and what `parse` makes of the text.
-use Rattle.std.proofs.Common.{◌≡◌, ◌≢◌, ◌∙◌, ℕ, ◌<◌, ◌≤◌, ◌^◌, Bool, true, false, codes, if◌then◌else◌, List, drop}
-use Rattle.std.proofs.Common.{length, nat_le, get_or, Option, Some, None, option_map, decimal, refl, sym, ap, subst}
-use Rattle.std.proofs.{Common.{inl, inr, arith}, NetLemmas.Options.cond_some, lemmas.Bool.{and_parts, cases_order}}
-use Rattle.std.proofs.lemmas.{Bool.Decides.nat_tests, Fmt.{decimal-digits_value, decimal_digit, decimal_is_IsNumeral}}
-use Rattle.std.proofs.lemmas.{Fmt.first_decimal, Option.{none-some, same_Some}, Slice.Eq.bytes_eq-Decides}
-use Rattle.std.proofs.lemmas.Str.Parse.{digit_at, numerals_by_value, tells_digits, without_leading_plus_none}
+use Rattle.std.proofs.Common.{◌≡◌, ◌≢◌, ◌∙◌, ℕ, ◌<◌, ◌≤◌, ◌^◌, ◌&&◌, Bool, true, false, codes, if◌then◌else◌, List}
+use Rattle.std.proofs.Common.{drop, length, nat_le, get_or, Option, Some, None, is_none, option_map, decimal, refl, sym}
+use Rattle.std.proofs.{Common.{ap, subst, inl, inr, arith}, NetLemmas.Options.cond_some, lemmas.Bool.and_parts}
+use Rattle.std.proofs.lemmas.{Bool.{cases_order, Decides.nat_tests}, Fmt.{decimal-digits_value, decimal_digit}}
+use Rattle.std.proofs.lemmas.{Fmt.{decimal_is_IsNumeral, first_decimal}, Option.{none-some, same_Some}}
+use Rattle.std.proofs.lemmas.{Slice.Eq.bytes_eq-Decides, Str.Parse.{digit_at, numerals_by_value, tells_digits}}
+use Rattle.std.proofs.lemmas.Str.Parse.{without_leading_plus_none}
 use Rattle.std.specs.Str.Parse.{IsNumeral, digits_value, without_leading_plus}
 use Rattle.clap.specs.Walk.{Text}
 use Rattle.tool_words.specs.{Command.{most_lists, most_pods}, Source.{IsSourceWithin, IsStopWithin, asks_generator}}
-use Rattle.tool_words.specs.Source.{begins_plainly, count_of, files_of, generated_of, is_alone, is_count, source_of}
-use Rattle.tool_words.specs.declared.source.{Named.Named, Source.{Source, TheVariants.{Files, Generated}}}
+use Rattle.tool_words.specs.Source.{asks_session, begins_plainly, count_of, files_of, generated_of, is_alone, is_count}
+use Rattle.tool_words.specs.{Source.{session_of, source_of}, declared.source.{Named.Named, Source.Source}}
+use Rattle.tool_words.specs.declared.source.Source.TheVariants.{Files, Generated, Session}
 
 none_of : {A : Type 0} (o : Option A) → ((x : A) → o ≡ Some x → ⊥) → None ≡ o
 none_of None apart = refl
@@ -123,10 +125,21 @@ of_files : (named : Named) (b : Bool) (s : Source) → IsStopWithin named.stop_a
 of_files named true s stop is h = subst IsSourceWithin (same_Some (Files named) s h) (few named.lists is, stop)
 of_files named false s stop is h = absurd (none-some s h)
 
+of_session : (file : Text) (named : Named) (b : Bool) (s : Source) → (if b then Some (Session file) else None) ≡ Some s → IsSourceWithin s
+of_session file named true s h = subst IsSourceWithin (same_Some (Session file) s h) tt
+of_session file named false s h = absurd (none-some s h)
+
+of_others : (named : Named) (b : Bool) (s : Source) → IsStopWithin named.stop_at
+    → (if b then session_of (drop (length (codes "reg:")) named.pods) named else files_of named) ≡ Some s → IsSourceWithin s
+of_others named true s stop h = of_session (drop (length (codes "reg:")) named.pods) named (is_alone named && is_none named.stop_at) s h
+of_others named false s stop h = of_files named (nat_le (length named.lists) most_lists) s stop refl h
+
 of_source : (named : Named) (b : Bool) (s : Source) → IsStopWithin named.stop_at
-    → (if b then generated_of (drop (length (codes "gen:")) named.pods) named else files_of named) ≡ Some s → IsSourceWithin s
+    → (if b then generated_of (drop (length (codes "gen:")) named.pods) named
+    else if asks_session named.pods then session_of (drop (length (codes "reg:")) named.pods) named
+    else files_of named) ≡ Some s → IsSourceWithin s
 of_source named true s stop h = of_generated (drop (length (codes "gen:")) named.pods) named (is_alone named) s stop h
-of_source named false s stop h = of_files named (nat_le (length named.lists) most_lists) s stop refl h
+of_source named false s stop h = of_others named (asks_session named.pods) s stop h
 
 pub source-within : (named : Named) (s : Source) → IsStopWithin named.stop_at → source_of named ≡ Some s → IsSourceWithin s
 source-within named s stop h = of_source named (asks_generator named.pods) s stop h

@@ -1,7 +1,7 @@
 -- Where the pods come from, or the tasks.
 use Rattle.std.specs.{List.starts_with, Prelude.{ℕ, ◌≤◌, ◌&&◌, Bool, nat_eq, nat_le, not, codes, decimal, drop, length}}
-use Rattle.std.specs.{Prelude.{option_map, is_none, slice_index, if◌then◌else◌, Option, Some, None, IfSome}, Str.byte}
-use Rattle.std.specs.Str.{bytes_eq, Parse.digits_value}
+use Rattle.std.specs.Prelude.{option_map, is_none, slice_index, if◌then◌else◌, Option, Some, None, IfSome, ⊤}
+use Rattle.std.specs.Str.{byte, bytes_eq, Parse.digits_value}
 use Rattle.clap.specs.Walk.{Text, is_empty}
 use Rattle.tool_words.specs.{Command.{greatest_entry, most_lists, most_pods}, declared.source.Named.Named}
 use Rattle.tool_words.specs.declared.source.Source.{Source, TheVariants.{Files, Generated, Session}}

@@ -1,4 +1,4 @@
-use Rattle.std.proofs.{Common.{rules, sym, None, Some}, lemmas.Result.err_from_is_err_and}
+use Rattle.std.proofs.{Common.{◌∙◌, rules, sym, None, Some}, lemmas.Result.err_from_is_err_and}
 use Rattle.tool_words.proofs.{Counts.source-within, Saying.{by_source, refused, says}}
 use Rattle.tool_words.proofs.words.read_words.Goals as goal
 
@@ -10,20 +10,20 @@ returns-in_err-matches-clause-exact c =
 pub returns-in_default-clause-exact : goal.returns-in_default-clause-exact
 returns-in_default-clause-exact c = says c.args.words.now c.in_ok-matches.matches None c.in_ok-matches.ensures c.in_default.ensures
 
-pub returns-in_default-source_of-clause-exact : goal.returns-in_default-source_of-clause-exact
-returns-in_default-source_of-clause-exact c =
+pub returns-in_default-2-clause-exact : goal.returns-in_default-2-clause-exact
+returns-in_default-2-clause-exact c =
     by_source c.args.words.now c.in_ok-matches.matches c.in-Some.pods.now c.in_ok-named.named None c.in_ok-matches.ensures c.in-Some.ensures c.in_ok-named.ensures.named
-    c.in_default-source_of.ensures
+    (sym c.in_default-2.is ∙ c.in_ok-source.ensures)
 
 pub returns-clause-exact : goal.returns-clause-exact
 returns-clause-exact c =
     rw (c.unwrap_or.ensures, c.threads.ensures.value, c.flag.ensures, c.flag-2.ensures)
-    (by_source c.args.words.now c.in_ok-matches.matches c.in-Some.pods.now c.in_ok-named.named (Some c.in-Some-source_of.source) c.in_ok-matches.ensures c.in-Some.ensures c.in_ok-named.ensures.named
-    c.in-Some-source_of.ensures)
+    (by_source c.args.words.now c.in_ok-matches.matches c.in-Some.pods.now c.in_ok-named.named (Some c.in-Some-2.source) c.in_ok-matches.ensures c.in-Some.ensures c.in_ok-named.ensures.named
+    (sym c.in-Some-2.is ∙ c.in_ok-source.ensures))
 
 pub returns-clause-limits : goal.returns-clause-limits
 returns-clause-limits c = record {
   threads_least = search rules;
   threads_most = search rules;
-  source = source-within c.in_ok-named.named c.in-Some-source_of.source c.in_ok-named.ensures.stop (sym c.in-Some-source_of.ensures);
+  source = source-within c.in_ok-named.named c.in-Some-2.source c.in_ok-named.ensures.stop (sym c.in_ok-source.ensures ∙ c.in-Some-2.is);
 }
