@@ -12,22 +12,22 @@ use Rattle.pod_workers.specs.declared.plan.Plan.{Plan}
 use Rattle.tool_words.specs.declared.source.{Named.Named, Source.TheVariants.Files}
 use Rattle.tool_plan.specs.Causes.{GivesJudged, GivesStored, ReachesFile, ReachesList, WhereTold}
 use Rattle.tool_plan.specs.Verdict.{AreRequestsOf, Judged, input_of_files, judged_plan, lists_of, stored_lists}
-use Rattle.tool_plan.specs.{Verdict.{stored_packets, stored_pods}, declared.plan.{Input.Input, NoPlan.NoPlan}}
-use Rattle.tool_plan.specs.declared.plan.NoPlan.TheVariants.{Usage, Line, Unread, NoMemory}
+use Rattle.tool_plan.specs.{Verdict.{stored_packets, stored_pods}, declared.plan.NoPlan.{NoPlan, TheVariants.Usage}}
+use Rattle.tool_plan.specs.declared.plan.{NoPlan.TheVariants.{Line, Unread, NoMemory}, PlanInput.PlanInput}
 use Rattle.tool_plan.proofs.Steps.{stops}
 
 -- ---- the steps, each with those behind it
 
-abbrev input_from : Named → List RawView → List Packet → Plan → Input
+abbrev input_from : Named → List RawView → List Packet → Plan → PlanInput
 input_from named raws packets plan = record { plan = plan; requests = then_some named.requests raws; packets = packets }
 
-abbrev behind_packets : Named → Pods → List RawView → List Packet → Judged Input
+abbrev behind_packets : Named → Pods → List RawView → List Packet → Judged PlanInput
 behind_packets named pods raws packets = judged_plan named pods (lists_of raws) >>= (λ (plan : Plan). Ok (input_from named raws packets plan))
 
-abbrev behind_lists : StoredFiles → Named → Pods → List RawView → Judged Input
+abbrev behind_lists : StoredFiles → Named → Pods → List RawView → Judged PlanInput
 behind_lists files named pods raws = stored_packets files named.packets >>= behind_packets named pods raws
 
-abbrev behind_pods : StoredFiles → Named → Pods → Judged Input
+abbrev behind_pods : StoredFiles → Named → Pods → Judged PlanInput
 behind_pods files named pods = stored_lists files named.lists >>= behind_lists files named pods
 
 -- what the files come to, where the pod file is taken
@@ -79,13 +79,13 @@ taken_packets files later named packets same read = λ stored told. read stored 
 
 abbrev GivesInputOf : Option StoredFiles → ℕ → ℕ → Named → NoPlan → Type 0
 GivesInputOf files start now named none =
-    GivesStored {X = Input} (λ input. input) files start now (ReachesFile files (Files named)) (λ stored. input_of_files stored named) (Err none)
+    GivesStored {X = PlanInput} (λ input. input) files start now (ReachesFile files (Files named)) (λ stored. input_of_files stored named) (Err none)
 
 pub pods-stop : (files : Option StoredFiles) (start now : ℕ) (named : Named) (file : List ℕ) (none : NoPlan)
     → file ≡ named.pods
     → GivesStored {X = Pods} (λ pods. pods) files start now (λ name. name ≡ file) (λ stored. stored_pods stored file) (Err none) → GivesInputOf files start now named none
 pods-stop files start now named file none is gives =
-    stops {X = Pods} {Y = Input} (λ pods. pods) (λ input. input) files files start start now (λ name. name ≡ file) (ReachesFile files (Files named)) (λ stored. stored_pods stored file)
+    stops {X = Pods} {Y = PlanInput} (λ pods. pods) (λ input. input) files files start start now (λ name. name ≡ file) (ReachesFile files (Files named)) (λ stored. stored_pods stored file)
     (λ stored. input_of_files stored named) none refl (omega arith) (λ name at. inl (at ∙ is))
     (λ stored told line e. by_pods stored named (Err line) (ap (stored_pods stored) (sym is) ∙ e)) gives
 
@@ -94,7 +94,7 @@ pub lists-stop : (files later : Option StoredFiles) (start before now : ℕ) (na
     → WhereTold files (λ stored. stored_pods stored named.pods ≡ Ok pods)
     → GivesStored {X = List RawView} (λ raws. raws) later before now (ReachesList later names) (λ stored. stored_lists stored names) (Err none) → GivesInputOf files start now named none
 lists-stop files later start before now named names pods none is same up taken gives =
-    stops {X = List RawView} {Y = Input} (λ raws. raws) (λ input. input) files later start before now (ReachesList later names) (ReachesFile files (Files named)) (λ stored. stored_lists stored names)
+    stops {X = List RawView} {Y = PlanInput} (λ raws. raws) (λ input. input) files later start before now (ReachesList later names) (ReachesFile files (Files named)) (λ stored. stored_lists stored names)
     (λ stored. input_of_files stored named) none same up
     (λ name at. inr (
       λ stored told. is_ok (stored_pods stored named.pods) pods (taken stored told),
@@ -107,7 +107,7 @@ pub packets-stop : (files later : Option StoredFiles) (start before now : ℕ) (
     → WhereTold files (λ stored. stored_pods stored named.pods ≡ Ok pods) → WhereTold files (λ stored. stored_lists stored named.lists ≡ Ok raws)
     → GivesStored {X = List Packet} (λ packets. packets) later before now (λ name. named.packets ≡ Some name) (λ stored. stored_packets stored named.packets) (Err none) → GivesInputOf files start now named none
 packets-stop files later start before now named pods raws none same up taken lists gives =
-    stops {X = List Packet} {Y = Input} (λ packets. packets) (λ input. input) files later start before now (λ name. named.packets ≡ Some name) (ReachesFile files (Files named))
+    stops {X = List Packet} {Y = PlanInput} (λ packets. packets) (λ input. input) files later start before now (λ name. named.packets ≡ Some name) (ReachesFile files (Files named))
     (λ stored. stored_packets stored named.packets) (λ stored. input_of_files stored named) none same up
     (λ name at. inr (
       λ stored told. is_ok (stored_pods stored named.pods) pods (taken stored told),

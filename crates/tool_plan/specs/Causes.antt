@@ -3,8 +3,8 @@ use Rattle.std.specs.Prelude.{◌≡◌, ◌⊎◌, ℕ, List, [], ◌∷◌, �
 use Rattle.cni_io.specs.{Failures.Rose, Files.StoredFiles}
 use Rattle.pod_file.specs.{PodFile.pods_of, declared.pods.Pods.Pods}
 use Rattle.tool_words.specs.declared.source.{Named.Named, Source.{Source, TheVariants.{Files, Generated, Session}}}
-use Rattle.tool_plan.specs.{Lines.unread_line, Seen.FilesSeen, Verdict.{Judged, input_of, stored_lists, stored_pods}}
-use Rattle.tool_plan.specs.declared.plan.{Input.Input, NoPlan.{NoPlan, TheVariants.{Usage, Line, Unread, NoMemory}}}
+use Rattle.tool_plan.specs.{Lines.unread_line, Verdict.{Judged, stored_lists, stored_pods}, declared.plan.NoPlan.NoPlan}
+use Rattle.tool_plan.specs.declared.plan.NoPlan.TheVariants.{Usage, Line, Unread, NoMemory}
 
 -- this holds of the files, where they are told
 abbrev pub WhereTold : Option StoredFiles → (StoredFiles → Type 0) → Type 0
@@ -65,22 +65,6 @@ abbrev pub files_named : Source → List (List ℕ)
 files_named (Files named) = named.pods ∷ named.lists ++ option_to_list named.packets
 files_named (Generated count stop_at) = []
 files_named (Session file) = file ∷ []
-
--- these are the files, as far as any is named: they are told, or none is named
-abbrev pub AreFilesFor : Source → FilesSeen → StoredFiles → Type 0
-AreFilesFor source files stored = (files.stored ≡ Some stored) ⊎ (files_named source ≡ [])
-
--- with any such files the source has this input, or this line that tells why there is none; or a read failed, of a
--- named file that reading gets to; or memory ran out
-abbrev pub GivesInput : Source → FilesSeen → Result Input NoPlan → Type 0
-GivesInput source files (Ok input) =
-    (stored : StoredFiles) → AreFilesFor source files stored → input_of stored source ≡ Ok input
-GivesInput source files (Err Usage) = ⊥
-GivesInput source files (Err (Line line)) =
-    (stored : StoredFiles) → AreFilesFor source files stored → input_of stored source ≡ Err line.items
-GivesInput source files (Err (Unread line)) =
-    IsUnread (ReachesFile files.stored source) files.failures_before files.failures_now line.items
-GivesInput source files (Err NoMemory) = ⊤
 
 -- the pods were read from some bytes
 abbrev pub IsReadPods : Pods → Type 0

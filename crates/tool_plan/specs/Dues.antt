@@ -1,4 +1,4 @@
--- What words and files come to: a plan that is due, or why there is none.
+-- What words and files come to: a plan or a session that is due, or why there is nothing to carry out.
 use Rattle.std.specs.Prelude.{◌≡◌, ◌≤◌, ◌⊎◌, ℕ, List, [], Some, None, Result, Ok, Err, ⊤}
 use Rattle.cni_io.specs.Files.{StoredFiles}
 use Rattle.pod_workers.specs.Plans.{IsWellFormed}

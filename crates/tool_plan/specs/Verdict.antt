@@ -16,9 +16,7 @@ use Rattle.tool_words.specs.{Words.words_given, declared.source.{Named.Named, So
 use Rattle.tool_words.specs.declared.{source.Source.TheVariants.{Generated, Session}, words.Words.Words}
 use Rattle.session_file.specs.{SessionFile.session_of, declared.session.SessionConf.SessionConf}
 use Rattle.tool_plan.specs.{Lines.{reason_line, unread_line, error_line}, Refusals.{list_error, packets_error}}
-use Rattle.tool_plan.specs.{Refusals.{pods_error, plan_error, blamed_file}, declared.plan.Input.Input}
-use Rattle.tool_plan.specs.declared.plan.PlanInput.{PlanInput}
-use Rattle.tool_plan.specs.declared.plan.Input.TheVariants as inputs
+use Rattle.tool_plan.specs.{Refusals.{pods_error, plan_error, blamed_file}, declared.plan.PlanInput.PlanInput}
 
 -- a value, or the line that tells why there is none
 abbrev pub Judged : Type 0 → Type 0
@@ -115,11 +113,20 @@ generated_plan stop_at count = let made = generated count in record {
 abbrev pub generated_input : Option ℕ → ℕ → PlanInput
 generated_input stop_at count = record { plan = generated_plan stop_at count; requests = None; packets = [] }
 
--- the input of files, of a session file, or of generated pods, on which no file has a say
+-- what a source comes to: a plan with what is printed of it, or a session
+pub data Input : Type 0 where
+  of_plan : PlanInput → Input
+  of_session : SessionConf → Input
+
+-- the input of files, of generated pods, on which no file has a say, or of a session file
 abbrev pub input_of : StoredFiles → Source → Judged Input
-input_of files (Files named) = result_map inputs.Plan (input_of_files files named)
-input_of files (Generated count stop_at) = Ok (inputs.Plan (generated_input stop_at count))
-input_of files (Session file) = result_map inputs.Session (stored_session files file)
+input_of files (Files named) = do
+  input ← input_of_files files named
+  Ok (of_plan input)
+input_of files (Generated count stop_at) = Ok (of_plan (generated_input stop_at count))
+input_of files (Session file) = do
+  conf ← stored_session files file
+  Ok (of_session conf)
 
 -- what is printed of the commands: generated ones are many, and have one line of numbers
 abbrev pub command_part_of : Source → CommandPart
@@ -183,8 +190,8 @@ pub data Verdict : Type 0 where
   session : SessionConf → SessionAsked → Verdict
 
 abbrev pub verdict_on : Words → Judged Input → Verdict
-verdict_on words (Ok (inputs.Plan input)) = carry input.plan (asked_of words input)
-verdict_on words (Ok (inputs.Session conf)) = session conf (session_asked_of words)
+verdict_on words (Ok (of_plan input)) = carry input.plan (asked_of words input)
+verdict_on words (Ok (of_session conf)) = session conf (session_asked_of words)
 verdict_on words (Err text) = line text
 
 abbrev pub verdict_if : Option Words → StoredFiles → Verdict

@@ -1,16 +1,13 @@
 //! What the words and the files come to, before anything runs.
 
-ghost use Rattle.std.specs.Prelude.{◌≡◌, [], IfOk};
-ghost use Rattle.pod_workers.specs.Plans.{IsWellFormed};
+ghost use Rattle.std.specs.Prelude.{◌≡◌, Some};
 ghost use Rattle.tool_words.specs.Words.{IsWithinLimits, words_given};
-ghost use Rattle.tool_plan.specs.Causes.{GivesInput, files_named};
 ghost use Rattle.tool_plan.specs.Dues.{ComesToDue, NameNoFile};
 ghost use Rattle.tool_plan.specs.Seen.{files_seen};
-ghost use Rattle.tool_plan.specs.Verdict.{IsInputBy, asked_of, command_part_of};
-ghost use Rattle.tool_words.specs.Source.{IsSourceWithin};
+ghost use Rattle.tool_plan.specs.Verdict.{asked_of, command_part_of, session_asked_of};
 
 use crate::generated::generated_input;
-use crate::plan::{Input, NoPlan, PlanInput, read_input};
+use crate::plan::{NoPlan, PlanInput, read_input};
 use crate::session::read_session_file;
 use cni_addr::Text;
 use cni_io::Files;
@@ -58,7 +55,7 @@ pub fn read_due<F: Files>(alloc: Global, words: &[Text], files: &mut F) -> Resul
     ensures untouched { NameNoFile words.now → files.new ≡ files.old }
 {
     match read_words(alloc, words) {
-        Ok(taken) => read_due_of(alloc, words, taken, files, words_taken_in(words)),
+        Ok(taken) => read_due_of(alloc, words, &taken, files, words_taken_in(words)),
         Err(WordsEnd::Usage) => Err(NoPlan::Usage),
         Err(WordsEnd::NoMemory) => Err(NoPlan::NoMemory),
     }
@@ -77,62 +74,34 @@ fn words_taken_in(words: &[Text]) -> Sha256 {
 fn read_due_of<F: Files>(
     alloc: Global,
     given: &[Text],
-    words: Words,
+    words: &Words,
     files: &mut F,
     mut seen: Sha256,
 ) -> Result<Due, NoPlan>
-    requires taken { words_given given.now ≡ Some words }
-    requires limits { IsWithinLimits words }
+    requires taken { words_given given.now ≡ Some words.now }
+    requires limits { IsWithinLimits words.now }
     ensures comes { ComesToDue given.now (files_seen F.files F.failure_count files.old files.new) result }
     ensures keeps { F.files files.new ≡ F.files files.old }
     ensures untouched { NameNoFile given.now → files.new ≡ files.old }
 {
-    let input = input_for(alloc, files, &words.source, &mut seen)?;
-    Ok(due_of(&words, input, seen.finalize()))
-}
-
-/// The input that the source asks for, from files, from a session file or of generated pods.
-#[tactic(auto, using(crate::proofs::Dues::inputs))]
-fn input_for<F: Files>(
-    alloc: Global,
-    files: &mut F,
-    source: &Source,
-    seen: &mut Sha256,
-) -> Result<Input, NoPlan>
-    requires { IsSourceWithin source.now }
-    ensures gives { GivesInput source.now (files_seen F.files F.failure_count files.old files.new) result }
-    ensures by { IfOk result (IsInputBy source.now) }
-    ensures well_formed { IfOk result (λ input. IsWellFormed input.plan) }
-    ensures keeps { F.files files.new ≡ F.files files.old }
-    ensures untouched { files_named source.now ≡ [] → files.new ≡ files.old }
-{
-    match source {
-        Source::Files(named) => Ok(Input::Plan(read_input(alloc, files, named, seen)?)),
+    match &words.source {
+        Source::Files(named) => {
+            let input = read_input(alloc, files, named, &mut seen)?;
+            Ok(Due::Plan(due_plan(words, input, seen.finalize())))
+        }
         Source::Generated { count, stop_at } => {
-            Ok(Input::Plan(generated_input(alloc, *count, *stop_at)?))
+            let made = generated_input(alloc, *count, *stop_at)?;
+            Ok(Due::Plan(due_plan(words, made, seen.finalize())))
         }
         Source::Session { file } => {
-            Ok(Input::Session(read_session_file(alloc, files, file.as_str(), seen)?))
+            let conf = read_session_file(alloc, files, file.as_str(), &mut seen)?;
+            Ok(Due::Session(due_session(words, conf, seen.finalize())))
         }
     }
 }
 
 /// What the words ask for of this input.
-fn due_of(words: &Words, input: Input, digest: [u8; 32]) -> Due {
-    match input {
-        Input::Plan(input) => Due::Plan(due_plan_of(words, input, digest)),
-        Input::Session(conf) => Due::Session(DueSession {
-            conf,
-            asked: SessionAsked {
-                trace: words.trace,
-                dump: words.dump,
-            },
-            digest,
-        }),
-    }
-}
-
-fn due_plan_of(words: &Words, input: PlanInput, digest: [u8; 32]) -> DuePlan
+fn due_plan(words: &Words, input: PlanInput, digest: [u8; 32]) -> DuePlan
     ensures threads { result.threads ≡ words.now.threads }
     ensures plan { result.plan ≡ input.plan }
     ensures asked { result.asked ≡ asked_of words.now input }
@@ -151,6 +120,21 @@ fn due_plan_of(words: &Words, input: PlanInput, digest: [u8; 32]) -> DuePlan
             trace: words.trace,
             dump: words.dump,
             packets,
+        },
+        digest,
+    }
+}
+
+/// What the words ask for of this session.
+fn due_session(words: &Words, conf: SessionConf, digest: [u8; 32]) -> DueSession
+    ensures conf { result.conf ≡ conf }
+    ensures asked { result.asked ≡ session_asked_of words.now }
+{
+    DueSession {
+        conf,
+        asked: SessionAsked {
+            trace: words.trace,
+            dump: words.dump,
         },
         digest,
     }

@@ -18,22 +18,12 @@ use packet_probe::{Packet, PacketsError};
 use plugin_requests::RawList;
 use pod_file::{PodError, Pods};
 use pod_workers::Plan;
-use session_file::SessionConf;
 use sha2::{Digest, Sha256};
 use std::alloc::Global;
 use tool_words::Named;
 
 /// The most bytes that a file may have.
 const MOST_BYTES: u64 = 16_777_216;
-
-/// What the source gives.
-#[derive(Drop)]
-pub enum Input {
-    /// Of files or of the generator.
-    Plan(PlanInput),
-    /// Of a session file.
-    Session(SessionConf),
-}
 
 /// A plan, and what is to be printed of it that words alone don't say.
 #[derive(Drop)]

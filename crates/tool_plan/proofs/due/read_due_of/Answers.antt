@@ -1,34 +1,67 @@
-use Rattle.std.proofs.{Common.{◌≤◌, ℕ, subst, sym}, lemmas.Result.err_from_is_err_and}
-use Rattle.pod_workers.specs.Plans.{IsWellFormed}
+use Rattle.std.proofs.lemmas.Result.{err_from_is_err_and}
 use Rattle.tool_plan.specs.Seen.{files_seen}
-use Rattle.tool_plan.proofs.Dues.{asked_by, comes_to_no_plan, comes_to_plan, names_none}
+use Rattle.tool_words.specs.declared.source.Source.TheVariants.{Files, Session}
+use Rattle.tool_plan.proofs.Dues.{IsBy, files_are_named, files_come, files_stop, plan_is_due, session_comes}
+use Rattle.tool_plan.proofs.Dues.{session_is_due, session_is_named, session_stops, some_named, within}
 use Rattle.tool_plan.proofs.due.read_due_of.Goals as goal
 
-pub returns-in_err-input-clause-comes : goal.returns-in_err-input-clause-comes
-returns-in_err-input-clause-comes g c =
+pub read_input-requires : goal.read_input-requires
+read_input-requires g c =
+    (within c.args.given.now c.args.words.now _ (record { words_are = c.requires.taken; source_is = c.in-Files.is }) c.requires.limits).0
+
+pub generated_input-requires : goal.generated_input-requires
+generated_input-requires g c =
+    let limits = within c.args.given.now c.args.words.now _ (record { words_are = c.requires.taken; source_is = c.in-Generated.is }) c.requires.limits in
+    record { some = limits.0; few = limits.1 }
+
+pub returns-in_err-input-in-Files-clause-comes : goal.returns-in_err-input-in-Files-clause-comes
+returns-in_err-input-in-Files-clause-comes g c =
     let p = err_from_is_err_and c.from_residual.result c.from_residual.ensures.1 in
-    let files = files_seen g.F.Files.files g.F.Files.failure_count c.args.files.now c.input_for.new.files in
-    rw (p.1, p.2) (comes_to_no_plan c.args.given.now c.args.words files c.in_err-input.field-0.0 c.requires.taken c.in_err-input.ensures.gives)
+    let files = files_seen g.F.Files.files g.F.Files.failure_count c.args.files.now c.read_input.new.files in
+    rw (p.1, p.2) (files_stop c.args.given.now c.args.words.now files c.in-Files.named c.in_err-input-in-Files.field-0.0 (record { words_are = c.requires.taken; source_is = c.in-Files.is })
+    c.in_err-input-in-Files.ensures.gives)
 
-pub returns-in_err-input-clause-untouched : goal.returns-in_err-input-clause-untouched
-returns-in_err-input-clause-untouched g c = λ none. c.input_for.ensures.untouched (names_none c.args.given.now c.args.words c.requires.taken none)
+pub returns-in_err-input-in-Files-clause-untouched : goal.returns-in_err-input-in-Files-clause-untouched
+returns-in_err-input-in-Files-clause-untouched g c = λ none.
+    absurd (some_named c.args.given.now c.args.words.now _ (record { words_are = c.requires.taken; source_is = c.in-Files.is }) (files_are_named c.in-Files.named) none)
 
-pub returns-clause-comes : goal.returns-clause-comes
-returns-clause-comes g c =
-    let files = files_seen g.F.Files.files g.F.Files.failure_count c.args.files.now c.input_for.new.files in
-    let words = c.args.words in
-    let input = c.in_ok-input.input in
-    let due = c.due_of.result in
-    let is = c.due_of.ensures in
-    record {
-      by = words;
-      words_are = c.requires.taken;
-      threads_are = is.threads;
-      comes = comes_to_plan c.args.given.now words files input due.plan due.asked c.requires.taken is.plan is.asked c.in_ok-input.ensures.gives;
-      asked_is = asked_by words input due.plan due.asked is.plan is.asked c.in_ok-input.ensures.by;
-      well_formed = subst IsWellFormed (sym is.plan) c.in_ok-input.ensures.well_formed;
-      some_threads = subst (λ (n : ℕ). 1 ≤ n) (sym is.threads) c.requires.limits.threads_least;
-    }
+pub returns-in_ok-input-in-Files-clause-comes : goal.returns-in_ok-input-in-Files-clause-comes
+returns-in_ok-input-in-Files-clause-comes g c =
+    let files = files_seen g.F.Files.files g.F.Files.failure_count c.args.files.now c.read_input.new.files in
+    let given = c.args.given.now in
+    let words = c.args.words.now in
+    let input = c.in_ok-input-in-Files.input in
+    let named = c.in-Files.named in
+    let is : IsBy given words (Files named) = record { words_are = c.requires.taken; source_is = c.in-Files.is } in
+    let comes = files_come given words files named input is c.in_ok-input-in-Files.ensures.gives in
+    plan_is_due given words _ files input c.due_plan.result is c.due_plan.ensures.threads c.due_plan.ensures.plan c.due_plan.ensures.asked c.in_ok-input-in-Files.ensures.by c.in_ok-input-in-Files.ensures.well_formed c.requires.limits.threads_least comes
 
-pub returns-clause-untouched : goal.returns-clause-untouched
-returns-clause-untouched g c = λ none. c.input_for.ensures.untouched (names_none c.args.given.now c.args.words c.requires.taken none)
+pub returns-in_ok-input-in-Files-clause-untouched : goal.returns-in_ok-input-in-Files-clause-untouched
+returns-in_ok-input-in-Files-clause-untouched g c = λ none.
+    absurd (some_named c.args.given.now c.args.words.now _ (record { words_are = c.requires.taken; source_is = c.in-Files.is }) (files_are_named c.in-Files.named) none)
+
+pub returns-in_err-conf-in-Session-clause-comes : goal.returns-in_err-conf-in-Session-clause-comes
+returns-in_err-conf-in-Session-clause-comes g c =
+    let p = err_from_is_err_and c.from_residual-in_err-conf-in-Session.result c.from_residual-in_err-conf-in-Session.ensures.1 in
+    let files = files_seen g.F.Files.files g.F.Files.failure_count c.args.files.now c.read_session_file.new.files in
+    rw (p.1, p.2) (session_stops c.args.given.now c.args.words.now files c.in-Session.file c.as_str.result.now c.in_err-conf-in-Session.field-0.0 (record { words_are = c.requires.taken; source_is = c.in-Session.is })
+    c.as_str.ensures c.in_err-conf-in-Session.ensures.gives)
+
+pub returns-in_err-conf-in-Session-clause-untouched : goal.returns-in_err-conf-in-Session-clause-untouched
+returns-in_err-conf-in-Session-clause-untouched g c = λ none.
+    absurd (some_named c.args.given.now c.args.words.now _ (record { words_are = c.requires.taken; source_is = c.in-Session.is }) (session_is_named c.in-Session.file) none)
+
+pub returns-in_ok-conf-in-Session-clause-comes : goal.returns-in_ok-conf-in-Session-clause-comes
+returns-in_ok-conf-in-Session-clause-comes g c =
+    let files = files_seen g.F.Files.files g.F.Files.failure_count c.args.files.now c.read_session_file.new.files in
+    let given = c.args.given.now in
+    let words = c.args.words.now in
+    let conf = c.in_ok-conf-in-Session.conf in
+    let file = c.in-Session.file in
+    let is : IsBy given words (Session file) = record { words_are = c.requires.taken; source_is = c.in-Session.is } in
+    let comes = session_comes given words files file c.as_str.result.now conf is c.as_str.ensures c.in_ok-conf-in-Session.ensures.gives in
+    session_is_due given words _ files conf c.due_session.result is c.due_session.ensures.conf c.due_session.ensures.asked c.in_ok-conf-in-Session.ensures.well_formed comes
+
+pub returns-in_ok-conf-in-Session-clause-untouched : goal.returns-in_ok-conf-in-Session-clause-untouched
+returns-in_ok-conf-in-Session-clause-untouched g c = λ none.
+    absurd (some_named c.args.given.now c.args.words.now _ (record { words_are = c.requires.taken; source_is = c.in-Session.is }) (session_is_named c.in-Session.file) none)
