@@ -12,7 +12,13 @@ use Rattle.host_local.specs.Results.{ipam_result_of}
 use Rattle.plugin_registry.specs.{Needs.{is_number, value_of}, declared.ask.{Ask.Ask, Form.TheVariants.IfName}}
 use Rattle.plugin_registry.specs.declared.ask.{Form.TheVariants.Number, Need.Need, Opt.Opt}
 
--- ---- what they need
+-- ---- what they are called and need
+
+abbrev pub dummy_name : List ℕ
+dummy_name = codes "dummy"
+
+abbrev pub vlan_name : List ℕ
+vlan_name = codes "vlan"
 
 -- the MTU of the link, in bytes: 68, which RFC 791 asks of every link, or more
 abbrev pub mtu_need : Need
