@@ -64,8 +64,14 @@ where
     ensures untouched { NameNoFile words.now → files.new ≡ files.old }
 {
     match read_due(alloc, words, files)? {
-        Due::Plan(due) => Ok(Settled::Plan(carry_out(rt, alloc, due, gate)?)),
-        Due::Session(due) => Ok(Settled::Session(run_session(alloc, due, registry)?)),
+        Due::Plan(due) => {
+            let made = carry_out(rt, alloc, due, gate)?;
+            Ok(Settled::Plan(made))
+        }
+        Due::Session(due) => {
+            let ran = run_session(alloc, due, registry)?;
+            Ok(Settled::Session(ran))
+        }
     }
 }
 
@@ -94,7 +100,13 @@ pub(crate) fn settle_alone<K: FromHost + Drop, F: Files, P: Promise>(
     ensures untouched { NameNoFile words.now → files.new ≡ files.old }
 {
     match read_due(alloc, words, files)? {
-        Due::Plan(due) => Ok(Settled::Plan(carry_out_alone(alloc, due)?)),
-        Due::Session(due) => Ok(Settled::Session(run_session(alloc, due, registry)?)),
+        Due::Plan(due) => {
+            let made = carry_out_alone(alloc, due)?;
+            Ok(Settled::Plan(made))
+        }
+        Due::Session(due) => {
+            let ran = run_session(alloc, due, registry)?;
+            Ok(Settled::Session(ran))
+        }
     }
 }
