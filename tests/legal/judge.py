@@ -31,10 +31,9 @@ def line_of(value):
 class Command:
     """A command as it is carried out: how many calls it made, and its next call, or its answer where it is over."""
 
-    def __init__(self, number, place, given, lists):
-        self.number, self.round, self.given = number, place, given
+    def __init__(self, number, place, given, script):
+        self.number, self.round, self.given, self.script = number, place, given, script
         self.container = given.get("container", "")
-        self.script = script_of(lists, given)
         self.made, self.call, self.answer = 0, None, None
         self.resume(None)
 
@@ -78,8 +77,11 @@ class Run:
         self.rounds, self.commands, self.entries, self.round = [], [], [], 0
         for place, given in enumerate(pods["rounds"]):
             first = len(self.commands) + 1
-            self.rounds.append([Command(k, place, it, self.lists) for k, it in enumerate(given, first)])
+            self.rounds.append([Command(k, place, it, self.script(it)) for k, it in enumerate(given, first)])
             self.commands += self.rounds[-1]
+
+    def script(self, given):
+        return script_of(self.lists, given)
 
     def close_rounds(self):
         """Each round of which all commands are over."""
@@ -96,29 +98,30 @@ class Run:
             return "an earlier command of its container isn't over"
         return "its command is over" if command.call is None else None
 
+    def make(self, command):
+        """The value of the line of its next call, which is made."""
+        entry = Entry(command, command.call, self.host.copy())
+        name, *given = command.call
+        entry.reply = FAULT if command.is_fault() else getattr(self.host, name)(*given)
+        entry.after = self.host.copy()
+        self.entries.append(entry)
+        command.made += 1
+        command.resume(entry.reply)
+        if len(self.entries) == self.stop_at:
+            for it in self.rounds[command.round]:
+                it.halt()
+        return {"call": name, "i": len(self.entries), "n": command.number, "reply": entry.reply[0]}
+
     def step(self, told):
         """What is wrong with the next entry, told as the value of its line."""
-        number = len(self.entries) + 1
         if not 1 <= told.get("n", 0) <= len(self.commands):
             return "no such command"
         command = self.commands[told["n"] - 1]
         wrong = self.wrong_turn(command)
         if wrong:
             return wrong
-        entry = Entry(command, command.call, self.host.copy())
-        name, *given = command.call
-        entry.reply = FAULT if command.is_fault() else getattr(self.host, name)(*given)
-        entry.after = self.host.copy()
-        due = {"call": name, "i": number, "n": command.number, "reply": entry.reply[0]}
-        if told != due:
-            return f"due is {line_of(due)}"
-        self.entries.append(entry)
-        command.made += 1
-        command.resume(entry.reply)
-        if number == self.stop_at:
-            for it in self.rounds[self.round]:
-                it.halt()
-        return None
+        due = self.make(command)
+        return None if told == due else f"due is {line_of(due)}"
 
     def status(self):
         failed = any("error" in it.answer or "stopped" in it.answer for it in self.commands)

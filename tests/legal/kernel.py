@@ -191,7 +191,9 @@ class Host:
     def MacvlanAdd(self, new):
         if not self.has_ns(new["ns"]):
             return NO_NS
-        return self.add("link", new, "ns", "name") if self.master(new["master"]) else NO_LINK
+        if "master" in new and not self.master(new["master"]):
+            return NO_LINK
+        return self.add("link", new, "ns", "name")
 
     def LinkSet(self, tag, ns, name, values):
         found = self.first("link", ns=ns, name=name, tag=tag)

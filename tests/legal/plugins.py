@@ -56,6 +56,19 @@ def read_range(given):
     return {"subnet": subnet, **{to: address(given[key]) if key in given else it for to, (key, it) in keys.items()}}
 
 
+def read_sets(ipam):
+    listed = ([[ipam]] if "subnet" in ipam else []) + ipam.get("ranges", [])
+    return [[read_range(it) for it in ranges] for ranges in listed]
+
+
+def given_of(sets, addresses):
+    """Each leased address with the range of its set that has it."""
+    return [
+        {"ip": address, **next(it for it in ranges if it["start"] <= address <= it["end"])}
+        for address, ranges in zip(addresses, sets)
+    ]
+
+
 def is_true(value):
     return value in (True, "true")
 
@@ -72,8 +85,7 @@ class NetList:
         self.no_check, self.no_gc = is_true(conf.get("disableCheck")), is_true(conf.get("disableGC"))
         self.first, *self.chained = conf["plugins"]
         ipam = self.first.get("ipam", {})
-        listed = ([[ipam]] if "subnet" in ipam else []) + ipam.get("ranges", [])
-        self.sets = [[read_range(it) for it in ranges] for ranges in listed]
+        self.sets = read_sets(ipam)
         self.routes = [self.read_route(it) for it in ipam.get("routes", [])]
         self.bridge = self.first.get("bridge", "cni0") if self.first["type"] == "bridge" else None
         self.master = self.first["master"] if self.first["type"] == "macvlan" else None
@@ -86,13 +98,6 @@ class NetList:
     def read_route(given):
         dst = network_text(ipaddress.ip_network(given["dst"], strict=False))
         return {"dst": dst, **({"gw": address_text(ipaddress.ip_address(given["gw"]))} if "gw" in given else {})}
-
-    def given(self, addresses):
-        """Each leased address with the range of its set that has it."""
-        return [
-            {"ip": address, **next(it for it in ranges if it["start"] <= address <= it["end"])}
-            for address, ranges in zip(addresses, self.sets)
-        ]
 
     # ---- the result
 
@@ -119,7 +124,7 @@ class NetList:
 
     def result(self, att, addresses, chained=None):
         """The result after so many chained plugins, or after all of them."""
-        given, interfaces = self.given(addresses), self.interfaces(att)
+        given, interfaces = given_of(self.sets, addresses), self.interfaces(att)
         for it in self.chained[:chained]:
             if it["type"] == "tuning":
                 named = {"mac": it["mac"].lower()} if it.get("mac") else {}
@@ -152,7 +157,7 @@ class NetList:
 
     def after(self, att, mappings, addresses):
         """Those after the leases, without the last, CachePut."""
-        given = self.given(addresses)
+        given = given_of(self.sets, addresses)
         calls = self.of_ptp(att, given) if self.first["type"] == "ptp" else self.of_others(att, given)
         if self.first["type"] != "macvlan" and self.first.get("ipMasq"):
             calls += [("RuleAppend", it) for it in once(masquerades(att, given))]

@@ -10,6 +10,8 @@ from plugins import VERSIONS, Att
 
 NAME = re.compile(r"[A-Za-z0-9][A-Za-z0-9_.-]*")
 DELETIONS = {"link": "LinkDel", "rule": "RuleDel", "setting": "SettingDel", "lease": "LeaseDel", "cached": "CacheDel"}
+# the sweeps of a GC that go by one kind: the kind, and what is called for each of its owners, once or until all is gone
+SWEEPS = [(kind, [(call, False)]) for kind, call in DELETIONS.items()]
 NEWEST = "1.1.0"
 OK = {"ok": True}
 
@@ -195,8 +197,12 @@ def questions(net, att, cached):
         first = cached["result"]["interfaces"][0]
         key = {"ns": "", "name": first["name"], "mac": first["mac"], "link": "bridge"}
         yield f"bridge {first['name']}", lambda host: host.first("link", **key) is not None
+    yield from questions_for(wanted_by(net, att, cached))
+
+
+def questions_for(objects):
     rules = 0
-    for it in wanted_by(net, att, cached):
+    for it in objects:
         rules += it["kind"] == "rule"
         yield missed(it, rules), lambda host, it=it: it in host.of[it["kind"]]
 
@@ -255,9 +261,12 @@ def collect(net, c):
     early = too_old(net, c["verb"]) or ({"skipped": "disableGC"} if net.no_gc else None)
     if early:
         return early
-    number, faults = 0, []
     first = [("CacheGet", True), *((DELETIONS[kind], False) for kind in net.kinds())]
-    sweeps = [("cached", first), *((kind, [(call, False)]) for kind, call in DELETIONS.items())]
+    return (yield from swept(net, c, [("cached", first), *SWEEPS]))
+
+
+def swept(net, c, sweeps):
+    number, faults = 0, []
     for kind, steps in sweeps:
         number += 1
         reply, owners = yield "OwnersOf", net.name, kind
