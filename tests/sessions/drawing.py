@@ -1,0 +1,120 @@
+"""Session files drawn at random: the three plugins with options right and wrong, no pools, one range set or two, small
+and large, containers that share namespaces, stops and faults at any call, and what stands in the way."""
+
+SPACES = ["/ns/a", "/ns/b"]
+# a container with its namespace; those of one namespace are in each other's way where they ask for one interface name
+CONTAINERS = [("c1", "/ns/a"), ("c2", "/ns/b"), ("c3", "/ns/a"), ("c-4.x", "/ns/b")]
+LINKS = [{"name": "eth1", "kind": "device"}, {"name": "br0", "kind": "bridge", "mtu": 900}]
+IN_THE_WAY = [{"name": "eth0", "kind": "device", "ns": "/ns/a"}, {"name": "eth9", "kind": "device", "ns": "/ns/b"}]
+TWO = [{"subnet": "10.9.0.0/30"}, {"subnet": "10.9.1.0/29", "rangeStart": "10.9.1.3", "gateway": "10.9.1.4"}]
+SIX = [{"subnet": "fd00::/125", "rangeEnd": "fd00::4"}]
+# one address
+LEAST = [{"subnet": "fd00::/126"}]
+WIDE = {"subnet": "10.9.0.0/16", "rangeStart": "10.9.255.253", "rangeEnd": "10.9.255.255", "gateway": "192.0.2.1"}
+POOLS = [
+    None,
+    {},
+    {"type": "host-local", "subnet": "10.9.0.0/30"},
+    {"type": "host-local", "subnet": "10.9.0.0/29", "ranges": [LEAST], "routes": [{"dst": "0.0.0.0/0"}]},
+    {"type": "host-local", "ranges": [TWO]},
+    {"type": "host-local", "ranges": [TWO, SIX]},
+    {"type": "host-local", "subnet": "fd00:1::/64", "ranges": [[WIDE]]},
+    {"type": "host-local", **WIDE, "ranges": [LEAST]},
+]
+FROM = ["192.0.2.1", "192.0.2.1", "fd00::1", "FD00:0::1", "::ffff:192.0.2.1"]
+MTUS = ["68", "1400", "65535"]
+MASTERS = ["eth1", "eth1", "eth1", "br0", "eth9", "eth0", "none"]
+IDS = ["1", "5", "4094"]
+RIGHT = {
+    "guard": lambda rng: {"from": rng.choice(FROM)},
+    "dummy": lambda rng: {"mtu": rng.choice(MTUS)} if rng.random() < 0.4 else {},
+    "vlan": lambda rng: {"master": rng.choice(MASTERS), "vlanId": rng.choice(IDS), **RIGHT["dummy"](rng)},
+}
+WRONG_OPTIONS = [
+    {"from": "192.0.2.1/32", "master": "a/b", "mtu": "67"},
+    {"from": "", "vlanId": "0", "mtu": "068"},
+    {"from": "fe80::1%1", "vlanId": "4095", "mtu": "65536"},
+    {"from": None, "vlanId": None, "mtu": ""},
+    {"master": None, "vlanId": "+1", "mtu": "-68"},
+    {"master": "abcdefghijklmnop", "mtu": "1500 "},
+]
+UNNAMED = [{}, {"zzz": ""}, {"aaa": "x", "name": None}]
+WRONG_WORDS = [
+    {"container": "-c"},
+    {"container": None},
+    {"netns": ""},
+    {"netns": "/ns/none"},
+    {"ifname": "a/b"},
+    {"ifname": "", "container": "c 1"},
+]
+VERBS = {"ADD": 10, "DEL": 4, "CHECK": 1, "GC": 3}
+# no attachment of the network
+STRANGERS = [{"containerID": "", "ifname": "/"}, {"containerID": "c1", "ifname": "eth7"}]
+
+
+def broken_off(rng, part):
+    """A stop, faults, both or neither."""
+    stop = {"stop": rng.randrange(9)} if rng.random() < part else {}
+    faults = {"faults": rng.choices(range(1, 9), k=rng.randrange(1, 4))} if rng.random() < 2 * part else {}
+    return {**stop, **faults}
+
+
+def configuration(rng):
+    """The `type` and the options of an ADD."""
+    kind = rng.choice(sorted(RIGHT))
+    options = {**RIGHT[kind](rng), **rng.choice(UNNAMED)}
+    if rng.random() < 0.06:
+        options |= rng.choice(WRONG_OPTIONS)
+    return {"type": "none" if rng.random() < 0.02 else kind, "options": options}
+
+
+def attachment(rng, containers):
+    container, netns = rng.choice(containers)
+    return {"container": container, "netns": netns, **rng.choice([{}, {"ifname": "eth0"}, {"ifname": "eth2"}])}
+
+
+def valid_of(rng, attachments):
+    kept = [it for it in attachments if rng.random() < 0.6]
+    named = [{"containerID": it["container"], "ifname": it.get("ifname", "eth0")} for it in kept]
+    return [*named, *(STRANGERS if rng.random() < 0.2 else [])]
+
+
+def task(rng, attachments):
+    verb = rng.choices(list(VERBS), VERBS.values())[0]
+    told = {"verb": verb, **broken_off(rng, 0.08 if verb == "ADD" else 0.25)}
+    if verb == "GC":
+        return {**told, **({"valid": valid_of(rng, attachments)} if rng.random() < 0.9 else {})}
+    told |= rng.choice(attachments)
+    if verb == "ADD":
+        told |= configuration(rng)
+    elif rng.random() < 0.2:
+        told |= {"type": "none", "netns": "/ns/none"}
+    return {**told, **(rng.choice(WRONG_WORDS) if rng.random() < 0.04 else {})}
+
+
+def place(given):
+    return {key: given[key] for key in ("container", "netns", "ifname") if key in given}
+
+
+def tasks_of(rng, attachments):
+    """A task, often behind an ADD of its attachment, and CHECKs of what it may have left (after a GC of all that there
+    is), mostly where it meets faults."""
+    told = task(rng, attachments)
+    if told["verb"] in ("DEL", "CHECK") and rng.random() < 0.6:
+        yield {"verb": "ADD", **place(told), **configuration(rng)}
+    yield told
+    if rng.random() < (0.9 if "faults" in told else 0.3):
+        for it in attachments if told["verb"] == "GC" else [told]:
+            yield {"verb": rng.choice(["CHECK", "CHECK", "CHECK", "DEL"]), **place(it), **broken_off(rng, 0.05)}
+
+
+def drawn(rng):
+    """A session file."""
+    containers = CONTAINERS[: rng.randrange(1, 5)]
+    attachments = [attachment(rng, containers) for _ in range(rng.randrange(2, 5))]
+    spaces = SPACES[: rng.choice([1, 2, 2, 2, 2])]
+    in_the_way = [it for it in IN_THE_WAY if it["ns"] in spaces and rng.random() < 0.15]
+    links = [*(it for it in LINKS if rng.random() < 0.9), *in_the_way]
+    tasks = [each for _ in range(rng.randrange(3, 9)) for each in tasks_of(rng, attachments)]
+    opening = {"namespaces": spaces, "links": links}
+    return {"network": rng.choice(["s", "net-1.x"]), "ipam": rng.choice(POOLS), "opening": opening, "tasks": tasks}
