@@ -179,16 +179,24 @@ def files_in(words):
     return [it for place, it in enumerate(words) if place not in numbers and not it.startswith("--")]
 
 
-def main():
-    words = sys.argv[1:]
-    pods, *lists = (json.loads(pathlib.Path(it).read_text(encoding="utf-8")) for it in files_in(words))
-    run = Run(pods, lists, words)
+def tell(run, words):
+    """Prints what isn't lawful of the run, by the lines that come in; 1 where something isn't."""
     lines = sys.stdin.read().split("\n")[:-1]
     wrong = [*complaints(run, words, None, lines)]
     for it in wrong:
         print(it)
     print(f"judge: {len(run.entries)} calls, {'not lawful' if wrong else 'lawful'}")
     return 1 if wrong else 0
+
+
+def read(file):
+    return json.loads(pathlib.Path(file).read_text(encoding="utf-8"))
+
+
+def main():
+    words = sys.argv[1:]
+    pods, *lists = map(read, files_in(words))
+    return tell(Run(pods, lists, words), words)
 
 
 if __name__ == "__main__":

@@ -23,21 +23,19 @@ POOLS = [
 ]
 FROM = ["192.0.2.1", "192.0.2.1", "fd00::1", "FD00:0::1", "::ffff:192.0.2.1"]
 MTUS = ["68", "1400", "65535"]
-MASTERS = ["eth1", "eth1", "eth1", "br0", "eth9", "eth0", "none"]
+MASTERS = ["eth1", "eth1", "eth1", "br0", "eth9", "eth0", "abcdefghijklmno"]
 IDS = ["1", "5", "4094"]
 RIGHT = {
     "guard": lambda rng: {"from": rng.choice(FROM)},
     "dummy": lambda rng: {"mtu": rng.choice(MTUS)} if rng.random() < 0.4 else {},
     "vlan": lambda rng: {"master": rng.choice(MASTERS), "vlanId": rng.choice(IDS), **RIGHT["dummy"](rng)},
 }
-WRONG_OPTIONS = [
-    {"from": "192.0.2.1/32", "master": "a/b", "mtu": "67"},
-    {"from": "", "vlanId": "0", "mtu": "068"},
-    {"from": "fe80::1%1", "vlanId": "4095", "mtu": "65536"},
-    {"from": None, "vlanId": None, "mtu": ""},
-    {"master": None, "vlanId": "+1", "mtu": "-68"},
-    {"master": "abcdefghijklmnop", "mtu": "1500 "},
-]
+WRONG_OPTIONS = {
+    "from": [None, "", "192.0.2.1/32", "fe80::1%1", "10.0.0.01"],
+    "master": [None, "", "a/b", "abcdefghijklmnop"],
+    "vlanId": [None, "0", "007", "4095", "+1"],
+    "mtu": ["", "67", "068", "65536", "1500 "],
+}
 UNNAMED = [{}, {"zzz": ""}, {"aaa": "x", "name": None}]
 WRONG_WORDS = [
     {"container": "-c"},
@@ -45,17 +43,32 @@ WRONG_WORDS = [
     {"netns": ""},
     {"netns": "/ns/none"},
     {"ifname": "a/b"},
+    {"ifname": "abcdefghijklmno"},
+    {"ifname": "abcdefghijklmnop"},
     {"ifname": "", "container": "c 1"},
 ]
-VERBS = {"ADD": 10, "DEL": 4, "CHECK": 1, "GC": 3}
+# what becomes of an attachment, verb by verb
+SCENES = [
+    ["ADD"],
+    ["ADD", "CHECK"],
+    ["ADD", "DEL", "CHECK"],
+    ["ADD", "DEL", "CHECK", "DEL"],
+    ["ADD", "GC", "CHECK"],
+    ["ADD", "GC", "GC"],
+    ["ADD", "ADD", "CHECK"],
+    ["DEL", "DEL"],
+    ["CHECK", "DEL", "CHECK"],
+]
+# a GC that takes leases, but not the first link, and no cached result
+HALF_SWEPT = {"faults": [2, 9], "stop": 9}
 # no attachment of the network
 STRANGERS = [{"containerID": "", "ifname": "/"}, {"containerID": "c1", "ifname": "eth7"}]
 
 
 def broken_off(rng, part):
     """A stop, faults, both or neither."""
-    stop = {"stop": rng.randrange(9)} if rng.random() < part else {}
-    faults = {"faults": rng.choices(range(1, 9), k=rng.randrange(1, 4))} if rng.random() < 2 * part else {}
+    stop = {"stop": rng.randrange(rng.randrange(1, 10))} if rng.random() < part / 2 else {}
+    faults = {"faults": rng.choices(range(1, 9), k=rng.randrange(1, 4))} if rng.random() < part else {}
     return {**stop, **faults}
 
 
@@ -63,9 +76,9 @@ def configuration(rng):
     """The `type` and the options of an ADD."""
     kind = rng.choice(sorted(RIGHT))
     options = {**RIGHT[kind](rng), **rng.choice(UNNAMED)}
-    if rng.random() < 0.06:
-        options |= rng.choice(WRONG_OPTIONS)
-    return {"type": "none" if rng.random() < 0.02 else kind, "options": options}
+    if rng.random() < 0.1:
+        options |= {key: rng.choice(them) for key, them in WRONG_OPTIONS.items() if rng.random() < 0.5}
+    return {"type": "none" if rng.random() < 0.03 else kind, "options": options}
 
 
 def attachment(rng, containers):
@@ -74,47 +87,36 @@ def attachment(rng, containers):
 
 
 def valid_of(rng, attachments):
-    kept = [it for it in attachments if rng.random() < 0.6]
+    kept = [it for it in attachments if rng.random() < 0.5]
     named = [{"containerID": it["container"], "ifname": it.get("ifname", "eth0")} for it in kept]
     return [*named, *(STRANGERS if rng.random() < 0.2 else [])]
 
 
-def task(rng, attachments):
-    verb = rng.choices(list(VERBS), VERBS.values())[0]
-    told = {"verb": verb, **broken_off(rng, 0.08 if verb == "ADD" else 0.25)}
+def words(rng, verb, attachments, own):
+    """The words of a task of an attachment."""
     if verb == "GC":
-        return {**told, **({"valid": valid_of(rng, attachments)} if rng.random() < 0.9 else {})}
-    told |= rng.choice(attachments)
-    if verb == "ADD":
-        told |= configuration(rng)
-    elif rng.random() < 0.2:
-        told |= {"type": "none", "netns": "/ns/none"}
-    return {**told, **(rng.choice(WRONG_WORDS) if rng.random() < 0.04 else {})}
+        return {"valid": valid_of(rng, attachments)} if rng.random() < 0.9 else {}
+    wrong = rng.choice(WRONG_WORDS) if rng.random() < 0.04 else {}
+    unused = {"type": "none", "netns": "/ns/none"} if rng.random() < 0.2 else {}
+    return {**own, **(configuration(rng) if verb == "ADD" else unused), **wrong}
 
 
-def place(given):
-    return {key: given[key] for key in ("container", "netns", "ifname") if key in given}
-
-
-def tasks_of(rng, attachments):
-    """A task, often behind an ADD of its attachment, and CHECKs of what it may have left (after a GC of all that there
-    is), mostly where it meets faults."""
-    told = task(rng, attachments)
-    if told["verb"] in ("DEL", "CHECK") and rng.random() < 0.6:
-        yield {"verb": "ADD", **place(told), **configuration(rng)}
-    yield told
-    if rng.random() < (0.9 if "faults" in told else 0.3):
-        for it in attachments if told["verb"] == "GC" else [told]:
-            yield {"verb": rng.choice(["CHECK", "CHECK", "CHECK", "DEL"]), **place(it), **broken_off(rng, 0.05)}
+def scene(rng, attachments):
+    """Tasks of one attachment; the last but one is often broken off."""
+    own, verbs = rng.choice(attachments), rng.choice(SCENES)
+    for place, verb in enumerate(verbs, 2):
+        broken = broken_off(rng, 0.5 if place == len(verbs) else 0.15)
+        half = HALF_SWEPT if verb == "GC" and rng.random() < 0.2 else {}
+        yield {"verb": verb, **broken, **half, **words(rng, verb, attachments, own)}
 
 
 def drawn(rng):
     """A session file."""
     containers = CONTAINERS[: rng.randrange(1, 5)]
     attachments = [attachment(rng, containers) for _ in range(rng.randrange(2, 5))]
-    spaces = SPACES[: rng.choice([1, 2, 2, 2, 2])]
+    spaces = SPACES[: 1 if rng.random() < 0.1 else 2]
     in_the_way = [it for it in IN_THE_WAY if it["ns"] in spaces and rng.random() < 0.15]
     links = [*(it for it in LINKS if rng.random() < 0.9), *in_the_way]
-    tasks = [each for _ in range(rng.randrange(3, 9)) for each in tasks_of(rng, attachments)]
+    tasks = [each for _ in range(rng.randrange(2, 7)) for each in scene(rng, attachments)]
     opening = {"namespaces": spaces, "links": links}
     return {"network": rng.choice(["s", "net-1.x"]), "ipam": rng.choice(POOLS), "opening": opening, "tasks": tasks}

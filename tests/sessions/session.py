@@ -1,14 +1,23 @@
-"""A session, carried out again as its trace tells: what its plugins need, call and answer, and what each task calls and
-answers, by docs/REGISTRY.md. The rows by which DEL and CHECK go are kept here.
+#!/usr/bin/env python3
+"""Whether a session is lawful: it is carried out again as its trace tells, by what its plugins need, call and answer,
+and what each task calls and answers (docs/REGISTRY.md). The rows by which DEL and CHECK go are kept here. The model of
+the kernel, and how an entry is held against it, are those of tests/legal.
 
-The model of the kernel, and how an entry is held against it, are those of tests/legal.
+    cnitool --trace WORDS | session.py --trace WORDS
+
+says it of one session, by what that prints, and ends with 1 where it isn't lawful.
 """
 
 import collections
 import ipaddress
+import pathlib
 import re
+import sys
 
-from judge import Run, line_of
+sys.dont_write_bytecode = True
+sys.path.append(str(pathlib.Path(__file__).resolve().parent.parent / "legal"))
+
+from judge import Run, line_of, read, tell
 from kernel import DONE, NO_LINK, address_text, link
 from plugins import Att, address, cidr_text, given_of, read_sets, rule, whole, without_null
 from scripts import FIELDS, NEWEST, SWEEPS, asked, error, fault, is_interface, questions_for, refusal, swept, undo
@@ -185,3 +194,13 @@ class Session(Run):
             while it.call is not None:
                 trace.append(self.make(it))
         return [*(it.line() for it in self.commands), *map(line_of, [*trace, *self.host.dump()])]
+
+
+def main():
+    words = sys.argv[1:]
+    file = next(it.removeprefix("reg:") for it in words if it.startswith("reg:"))
+    return tell(Session(read(file)), words)
+
+
+if __name__ == "__main__":
+    sys.exit(main())
