@@ -96,7 +96,7 @@ def words(rng, verb, attachments, own):
     """The words of a task of an attachment."""
     if verb == "GC":
         return {"valid": valid_of(rng, attachments)} if rng.random() < 0.9 else {}
-    wrong = rng.choice(WRONG_WORDS) if rng.random() < 0.04 else {}
+    wrong = rng.choice(WRONG_WORDS) if rng.random() < 0.06 else {}
     unused = {"type": "none", "netns": "/ns/none"} if rng.random() < 0.2 else {}
     return {**own, **(configuration(rng) if verb == "ADD" else unused), **wrong}
 

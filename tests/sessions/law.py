@@ -1,11 +1,11 @@
 """What docs/REGISTRY.md promises of a session, held against what is seen of it: each function is a sentence, and yields
 what isn't so. None knows how a task comes to its calls."""
 
-import ipaddress
+import itertools
 import types
 
-from kernel import KINDS, Host
-from moments import is_part, moments, within
+from kernel import KINDS, Host, address_text, candidates
+from moments import is_part, moments
 from scripts import error, fault, is_stale, missed
 from session import NEWEST, invalid
 from told import by_owner
@@ -80,20 +80,55 @@ def apart(h):
             yield f"{it.name} makes something"
 
 
+def picked(h, before, number):
+    """What a set leases next: its first free candidate behind the one that it leased last, or None. A set may have more
+    candidates than can be listed."""
+    whole, again = (map(address_text, candidates(h.sets[number])) for _ in range(2))
+    last = [it["address"] for it in before if it["kind"] == "last" and it["set"] == number]
+    behind = itertools.islice(itertools.dropwhile(lambda it: it != last[0], whole), 1, None) if last else whole
+    taken = [it["address"] for it in before if it["kind"] == "lease"]
+    return next((it for it in itertools.chain(behind, again) if it not in taken), None)
+
+
 def pools(h):
-    """An address that is leased is a free candidate of its set, and the one that the set leased last."""
+    """An ADD is leased what each set leases next, and that is then what the set leased last."""
     for it in h.of_verb("ADD"):
+        if it.leased != [picked(h, it.before, number) for number in range(len(it.leased))]:
+            yield f"{it.name} is leased {it.leased}"
         lasts = {each["set"]: each for each in it.before if each["kind"] == "last"}
-        taken = [each["address"] for each in it.before if each["kind"] == "lease"]
-        for number, (text, ranges) in enumerate(zip(it.leased, h.sets)):
-            address = ipaddress.ip_address(text)
-            if text in taken or not any(within(address, each) and address != each["gateway"] for each in ranges):
-                yield f"{it.name} is leased {text}"
-            taken.append(text)
+        for number, text in enumerate(it.leased):
             lasts[number] = {"address": text, "kind": "last", "network": h.network, "set": number}
-        after = {each["set"]: each for each in it.after if each["kind"] == "last"}
-        if after != lasts or len(it.leased) > len(h.sets):
+        if {each["set"]: each for each in it.after if each["kind"] == "last"} != lasts:
             yield f"{it.name} leaves other addresses that were leased last"
+
+
+def grounds_in(h, it):
+    """What the host before an ADD has against it, in the order in which it's met."""
+    links = [each for each in it.before if each["kind"] == "link"]
+    if not any(each["kind"] == "namespace" and each["name"] == it.att.netns for each in it.before):
+        yield error(NEWEST, 100, "namespace missing", it.att.netns)
+    if own(it.before, it.att.tag):
+        yield error(NEWEST, 101, "name taken", it.att.tag)
+    for number in range(len(h.sets)):
+        if picked(h, it.before, number) is None:
+            yield error(NEWEST, 102, "pool empty", f"set {number}")
+    kind, master = it.given["type"], it.given["options"].get("master")
+    if kind == "vlan" and not any((each["ns"], each["name"], each["tag"]) == ("", master, "outside") for each in links):
+        yield invalid("link")
+    for each in links if kind != "guard" else []:
+        if (each["ns"], each["name"]) == (it.att.netns, it.att.ifname):
+            yield error(NEWEST, 101, "name taken", each["tag"])
+
+
+def grounds(h):
+    """An ADD with good words, no fault and no stop is refused for the first that the host has against it, and has a
+    result where there is nothing."""
+    for it in h.of_verb("ADD"):
+        if it.wrong() or it.faults or it.was_stopped():
+            continue
+        due = next(grounds_in(h, it), None)
+        if it.error != (due and due["error"]):
+            yield f"{it.name} is refused with {it.error}, due is {due}"
 
 
 def adds(h):
@@ -240,7 +275,8 @@ def stops(h):
             yield f"{it.name} is answered {it.answer}, due is {due}"
 
 
-LAW = [growth, soundness, faults, tenancy, apart, pools, adds, refusals, deletions, checks, collections, causes, stops]
+OF_ADDS = [pools, grounds, adds, refusals]
+LAW = [growth, soundness, faults, tenancy, apart, *OF_ADDS, deletions, checks, collections, causes, stops]
 
 
 def broken(history):

@@ -88,6 +88,10 @@ def lease_first(host, tag, network, number, ranges):
     return f"Leased {address_text(first)}", first
 
 
+def next_from_start(host, network, ranges, _):
+    return Host.next_free(host, network, ranges, None)
+
+
 def delete_lease_and_last(host, tag):
     host.of["last"] = []
     return Host.LeaseDel(host, tag)
@@ -175,7 +179,14 @@ WRONG = {
         "a deletion takes another's rule": on_kernel(RuleDel=delete_first_rule),
         "a deletion forgets what was leased last": on_kernel(LeaseDel=delete_lease_and_last),
     },
-    "pools": {"a leased address isn't free": on_kernel(LeaseNext=lease_first)},
+    "pools": {
+        "a leased address isn't free": on_kernel(LeaseNext=lease_first),
+        "the address that was leased last comes next": on_kernel(next_free=next_from_start),
+    },
+    "grounds": {
+        "a pool is said to be empty": on_kernel(LeaseNext=lambda *_: ("Empty", None)),
+        "any link is taken for a master": on_kernel(master=lambda *_: True),
+    },
     "adds": {
         "an address isn't added": skipping("ADD", ["AddrAdd"], DONE),
         "addresses stand in another order": on_kernel(AddrAdd=add_in_front),
