@@ -76,7 +76,7 @@ def configuration(rng):
     """The `type` and the options of an ADD."""
     kind = rng.choice(sorted(RIGHT))
     options = {**RIGHT[kind](rng), **rng.choice(UNNAMED)}
-    if rng.random() < 0.1:
+    if rng.random() < 0.15:
         options |= {key: rng.choice(them) for key, them in WRONG_OPTIONS.items() if rng.random() < 0.5}
     return {"type": "none" if rng.random() < 0.03 else kind, "options": options}
 
@@ -117,6 +117,6 @@ def drawn(rng):
     spaces = SPACES[: 1 if rng.random() < 0.1 else 2]
     in_the_way = [it for it in IN_THE_WAY if it["ns"] in spaces and rng.random() < 0.15]
     links = [*(it for it in LINKS if rng.random() < 0.9), *in_the_way]
-    tasks = [each for _ in range(rng.randrange(2, 7)) for each in scene(rng, attachments)]
+    tasks = [each for _ in range(rng.randrange(2, 6)) for each in scene(rng, attachments)]
     opening = {"namespaces": spaces, "links": links}
     return {"network": rng.choice(["s", "net-1.x"]), "ipam": rng.choice(POOLS), "opening": opening, "tasks": tasks}
