@@ -65,11 +65,12 @@ def wrong_in(history_of, conf, met):
     """What isn't as is promised of a session; the sorts of its answers are counted."""
     try:
         history = history_of(conf)
+        unkept = broken(history)
     except Unlawful as why:
         return [*why.args]
     for it in history.seen:
         met.update((it.verb, sort) for sort in (*it.answer, (it.error or {}).get("code")))
-    return [f"{name}: {text}" for name, texts in broken(history).items() for text in texts]
+    return [f"{name}: {text}" for name, texts in unkept.items() for text in texts]
 
 
 def rows():
@@ -104,7 +105,11 @@ def of_draws(history_of, count, seed):
 
 def of_alterations(program):
     """A run that is lawful, and each alteration of it, which is to be found out."""
-    lines = lawful_lines(program, TWO_POOLS)
+    try:
+        lines = lawful_lines(program, TWO_POOLS)
+    except Unlawful as why:
+        yield "sample", why.args
+        return
     runs = [("the status is another", SUCCESS, lines), *((name, FAILURE, it) for name, it in altered(lines))]
     for name, status, it in runs:
         yield name, [] if [*complaints(Session(TWO_POOLS), ASKED, status, it)] else ["isn't found out"]
