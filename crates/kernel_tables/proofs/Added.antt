@@ -22,7 +22,7 @@ use Rattle.kernel_types.specs.contracts.object.SettingPartialEq.TheImpl.{eq-valu
 use Rattle.kernel_types.specs.contracts.keys.AddrKeyPartialEq.TheImpl.{eq-value as addr_key-value}
 use Rattle.kernel_types.specs.contracts.keys.RouteKeyPartialEq.TheImpl.{eq-value as route_key-value}
 use Rattle.kernel_types.specs.contracts.keys.SettingKeyPartialEq.TheImpl.{eq-value as setting_key-value}
-use Rattle.kernel_tables.specs.Table.{has_key}
+use Rattle.object_tables.specs.Table.{has_key}
 use Rattle.kernel_tables.proofs.Owned.{att-same}
 
 some-inj : {K : Type 0} (a b : K) → Some a ≡ Some b → a ≡ b

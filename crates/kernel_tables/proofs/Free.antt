@@ -17,7 +17,7 @@ use Rattle.kernel_types.specs.declared.{keys.SettingKey.SettingKey, object.{Addr
 use Rattle.kernel_types.specs.declared.object.{Link.Link, LinkKey.LinkKey, Setting.Setting, Tag.Tag}
 use Rattle.kernel_types.proofs.{Cases.{host_ns-eq, other_host}, ListLemmas.{list_any-append_none, list_any-find_none}}
 use Rattle.kernel_types.proofs.ListLemmas.{list_any-none}
-use Rattle.kernel_tables.specs.{Rows.host_name, Table.{is_key, has_key}}
+use Rattle.object_tables.specs.{Rows.host_name, Table.{is_key, has_key}}
 
 -- ---- at most one element passes
 

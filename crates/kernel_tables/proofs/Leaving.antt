@@ -20,7 +20,8 @@ use Rattle.kernel_types.proofs.ListLemmas.{list_any-find_none, list_any-weaker, 
 use Rattle.kernel_types.proofs.{Removal.{goes_with-itself, link_del-found, same_place}, SoundHosts.goes_with-sound}
 use Rattle.kernel_types.proofs.{SoundHosts.HasTagsOn-sound, TouchRemoval.{is_at-symm, keeps_or_owns, owned_no_bridge}}
 use Rattle.kernel_tables.specs.Leaving.{has_end_at, is_peer, is_unowned_on, left_by, left_by_owner, left_unowned}
-use Rattle.kernel_tables.specs.{Leaving.left_with, Rows.{owner_named, unowned_on}, Table.is_key}
+use Rattle.kernel_tables.specs.Leaving.{left_with}
+use Rattle.object_tables.specs.{Rows.{owner_named, unowned_on}, Table.is_key}
 use Rattle.kernel_tables.proofs.Owned.{att-same, own-is}
 
 -- ---- lists

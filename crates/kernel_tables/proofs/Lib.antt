@@ -1,13 +1,8 @@
 mod Added
-mod Along
 mod Free
-mod Kept
 mod Leaving
 mod Namespaces
 mod NewLease
-mod Noted
 mod Opening
 mod Owned
-mod Owners
-mod Places
 mod Questions

@@ -11,7 +11,8 @@ use Rattle.kernel_types.specs.declared.object.{Host.Host, Link.Link, LinkKey.Lin
 use Rattle.kernel_types.specs.declared.object.Setting.{Setting}
 use Rattle.kernel_types.proofs.ListLemmas.{list_any-find_none, list_any-none, list_any-weaker}
 use Rattle.kernel_types.proofs.{Removal.{goes_with-itself, IsSound-without_link}, TouchRemoval.from_one}
-use Rattle.kernel_tables.specs.{Leaving.left_with, Rows.inner_ns, Table.is_key}
+use Rattle.kernel_tables.specs.Leaving.{left_with}
+use Rattle.object_tables.specs.{Rows.inner_ns, Table.is_key}
 use Rattle.kernel_tables.proofs.Leaving.{all-among, any-among, filter-twice, found-among, from-among, keep-all}
 use Rattle.kernel_tables.proofs.Leaving.{left-first, none-filtered, passes-found}
 

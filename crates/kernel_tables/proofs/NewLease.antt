@@ -1,17 +1,12 @@
 -- A lease that comes, and the last of its pool.
-use Rattle.std.proofs.Common.{◌≡◌, ℕ, Bool, true, false, ◌&&◌, ◌||◌, not, List, [], ◌∷◌, ◌++◌, Some, refl, ◌∙◌, ap}
-use Rattle.std.proofs.{Common.{subst, arith}, lemmas.List.Folds.list_any-append}
-use Rattle.std.specs.{List.list_any, Prelude.{filter, Result, Ok, Err, OnErr}, Str.bytes_eq}
-use Rattle.cni_addr.specs.{Equal.addr_eq, declared.address.Addr.Addr}
-use Rattle.indexmap.specs.IndexMap.{IndexMap}
-use Rattle.ip_pool.specs.{AddrSets.AddrSet, NextAddress.is_taken}
+use Rattle.std.proofs.Common.{◌≡◌, Bool, true, false, not, List, [], ◌∷◌, ◌++◌, Some, refl, ◌∙◌, ap, subst, arith}
+use Rattle.std.specs.{List.list_any, Prelude.{filter, Result, Ok, Err, OnErr}}
 use Rattle.kernel_types.specs.Terms.{is_lease_at, is_of_pool}
 use Rattle.kernel_types.specs.contracts.keys.PoolKeyPartialEq.TheImpl.{eq-value as pool_eq-value}
 use Rattle.kernel_types.specs.contracts.object.LeasePartialEq.TheImpl.{eq-value as lease_eq-value}
 use Rattle.kernel_types.specs.declared.{keys.PoolKey.PoolKey, object.{Last.Last, Lease.Lease}}
 use Rattle.kernel_types.proofs.ListLemmas.{filter-push_dropped, list_any-none}
-use Rattle.kernel_tables.specs.{Leased.{kept_for, AreLeased}, Table.has_key}
-use Rattle.kernel_tables.proofs.Kept.{taken-leased}
+use Rattle.object_tables.specs.Table.{has_key}
 
 -- a lease whose address none has is not there
 pub absent-lease : (lease : Lease) (leases : List Lease)
@@ -43,11 +38,3 @@ pushed-out t xs x none own = filter-push_dropped (λ y. not (t y)) xs x (ap not 
 pub on_err-with : {T E : Type 0} (A B : Type 0) (r : Result T E) → OnErr r A → B → OnErr r (A × B)
 on_err-with A B (Ok x) a b = a
 on_err-with A B (Err e) a b = (a, b)
-
--- its address is kept for its network
-pub AreLeased-new : {S : Type 0} (old new : IndexMap (List ℕ) AddrSet S) (leases : List Lease) (lease : Lease)
-    → ((n : List ℕ) (a : Addr) → is_taken (kept_for new n) a ≡ (bytes_eq lease.network n && addr_eq lease.addr a || is_taken (kept_for old n) a))
-    → AreLeased old leases → AreLeased new (leases ++ lease ∷ [])
-AreLeased-new old new leases lease says was n a =
-    says n a ∙ ap (λ b. bytes_eq lease.network n && addr_eq lease.addr a || b) (was n a ∙ taken-leased leases n a)
-    ∙ grind (arith, list_any-append (is_lease_at n a) leases (lease ∷ []), taken-leased (leases ++ lease ∷ []) n a)

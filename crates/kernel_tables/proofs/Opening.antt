@@ -1,16 +1,12 @@
--- A list in which each key stands once: what is free for each of its elements, and which lists of a sound host are
--- such.
-use Rattle.std.proofs.Common.{◌≡◌, ◌<◌, ℕ, ◌+◌, Bool, true, false, true≢false, List, [], ◌∷◌, ◌++◌, Option, Some, None}
-use Rattle.std.proofs.Common.{refl, sym, ◌∙◌, ap, subst, length, get_or, set, suc, take, drop, arith}
-use Rattle.std.proofs.lemmas.List.{set-get_or, set_split, take_more, Folds.list_any-append}
+-- The lists of a sound host, in each of which a key stands once.
+use Rattle.std.proofs.Common.{◌≡◌, Bool, true, false, true≢false, List, [], ◌∷◌, Option, Some, None, refl, sym, ◌∙◌, ap}
+use Rattle.std.proofs.Common.{set, arith}
 use Rattle.std.specs.{Cmp.Lexicographic.nat_list_eq_equiv, List.list_any, Option.option_map_or, Prelude.{not, ◌&&◌}}
-use Rattle.std.specs.{Prelude.{◌||◌, if◌then◌else◌}, Str.bytes_eq}
-use Rattle.cni_addr.specs.{Equal.addr_eq, Lists.distinct, declared.address.Addr.Addr}
-use Rattle.indexmap.specs.IndexMap.{IndexMap}
-use Rattle.ip_pool.specs.{AddrSets.AddrSet, NextAddress.is_taken}
+use Rattle.std.specs.{Prelude.if◌then◌else◌, Str.bytes_eq}
+use Rattle.cni_addr.specs.Lists.{distinct}
 use Rattle.kernel_types.specs.{Equal.tag_eq, Keys.{is_same_addr, is_same_cached, is_same_last, is_same_lease}}
 use Rattle.kernel_types.specs.Keys.{is_same_link, is_same_namespace, is_same_route, is_same_rule, is_same_setting}
-use Rattle.kernel_types.specs.{Sound.HasDistinctKeys, Terms.{addresses_in, is_host_ns}}
+use Rattle.kernel_types.specs.{Sound.HasDistinctKeys, Terms.is_host_ns}
 use Rattle.kernel_types.specs.contracts.keys.AddrKeyPartialEq.TheImpl.{eq-value as addr_key-value}
 use Rattle.kernel_types.specs.contracts.keys.PoolKeyPartialEq.TheImpl.{eq-value as pool-value}
 use Rattle.kernel_types.specs.contracts.keys.RouteKeyPartialEq.TheImpl.{eq-value as route_key-value}
@@ -27,42 +23,9 @@ use Rattle.kernel_types.specs.declared.object.{Lease.Lease, Link.Link, LinkKey.L
 use Rattle.kernel_types.specs.declared.object.{Setting.Setting, Tag.{Tag, TheVariants.{Outside, Base, Own}}}
 use Rattle.kernel_types.specs.declared.rule.Rule.{Rule}
 use Rattle.kernel_types.proofs.ListLemmas.{list_any-none}
-use Rattle.kernel_tables.specs.{Leased.{kept_for, AreLeased}, Rows.{host_name, owner_named}, Table.{is_key, has_key}}
-use Rattle.kernel_tables.specs.Table.{has_same_key, HasEachKeyOnce}
+use Rattle.object_tables.specs.{Rows.{host_name, owner_named}, Table.{is_key, has_same_key, HasEachKeyOnce}}
 use Rattle.kernel_tables.proofs.Added.{addr_key, addr-keyed, route_key, route-keyed, rule-same, setting_key}
-use Rattle.kernel_tables.proofs.{Added.setting-keyed, Free.{host-alike, host-named}, Kept.taken-leased}
-use Rattle.kernel_tables.proofs.{NewLease.{AreLeased-new, same-pool}, Owned.att-same}
-
--- no earlier element is the same
-none-earlier : {X : Type 0} (same : X → X → Bool) (earlier : List X) (x : X) (later : List X)
-    → distinct same (earlier ++ x ∷ later) ≡ true → list_any (λ y. same y x) earlier ≡ false
-none-earlier same [] x later d = refl
-none-earlier same (y ∷ ys) x later d = grind (arith, d, list_any-append (same y) ys (x ∷ later), none-earlier same ys x later)
-
--- no earlier row has the row's key
-pub key-free : {K T : Type 0} (eq : K → K → Bool) (key_of : T → Option K) (rows earlier : List T) (row : T) (later : List T)
-    → earlier ++ row ∷ later ≡ rows → HasEachKeyOnce eq key_of rows
-    → (key : K) → key_of row ≡ Some key → list_any (has_key eq key_of key) earlier ≡ false
-key-free eq key_of rows earlier row later is once key own =
-    ap (λ o. list_any (λ y. option_map_or (λ k. has_key eq key_of k y) o false) earlier) (sym own)
-    ∙ none-earlier (λ y x. has_same_key eq key_of x y) earlier row later (ap (distinct (λ y x. has_same_key eq key_of x y)) is ∙ once)
-
--- ---- the addresses of the leases so far
-
-module _ (leases : List Lease) (i : ℕ) (lease : Lease) (below : i < length leases) (at : lease ≡ get_or leases i lease) where
-  pub address-free : HasDistinctKeys is_same_lease leases → is_taken (addresses_in (take i leases) lease.network) lease.addr ≡ false
-  address-free once =
-      let here : take i leases ++ lease ∷ drop (suc i) leases ≡ leases = sym (set_split leases i lease below) ∙ ap (set leases i) at ∙ set-get_or leases i lease in
-      taken-leased (take i leases) lease.network lease.addr
-      ∙ none-earlier (λ y x. is_same_lease x y) (take i leases) lease (drop (suc i) leases) (ap (distinct (λ y x. is_same_lease x y)) here ∙ once)
-
-  pub AreLeased-more : {S : Type 0} (old new : IndexMap (List ℕ) AddrSet S)
-      → ((n : List ℕ) (a : Addr) → is_taken (kept_for new n) a ≡ (bytes_eq lease.network n && addr_eq lease.addr a || is_taken (kept_for old n) a))
-      → AreLeased old (take i leases) → AreLeased new (take (i + 1) leases)
-  AreLeased-more old new says was =
-      subst (AreLeased new) (ap (λ l. take i leases ++ l ∷ []) at ∙ sym (take_more leases i lease below)) (AreLeased-new old new (take i leases) lease says was)
-
--- ---- the lists of a sound host
+use Rattle.kernel_tables.proofs.{Added.setting-keyed, Free.{host-alike, host-named}, NewLease.same-pool, Owned.att-same}
 
 distinct-finer : {X : Type 0} (same finer : X → X → Bool) → ((x y : X) → finer x y ≡ true → same x y ≡ true)
     → (xs : List X) → distinct same xs ≡ true → distinct finer xs ≡ true

@@ -5,7 +5,7 @@ use Rattle.cni_addr.specs.Lists.{without_first}
 use Rattle.kernel_types.specs.{Equal.att_eq, Terms.is_own}
 use Rattle.kernel_types.specs.{contracts.object.AttPartialEq.TheImpl.eq-value as att_eq-value, declared.object.Att.Att}
 use Rattle.kernel_types.specs.declared.object.Tag.{Tag, TheVariants.{Outside, Base, Own}}
-use Rattle.kernel_tables.specs.{Rows.owner_named, Table.is_key}
+use Rattle.object_tables.specs.{Rows.owner_named, Table.is_key}
 
 -- what `==` computes of two attachments
 pub att-same : (a b : Att) → att_eq-value.it a b ≡ att_eq a b

@@ -2,7 +2,7 @@
 use Rattle.std.proofs.Common.{◌≡◌, Bool, true, false, not, ap, List, [], ◌∷◌, ◌++◌, Option, Some, None, refl, sym, ◌∙◌}
 use Rattle.std.proofs.{Common.{arith, rules, ℕ}, Math.Bool.beq, lemmas.{Bool.and_parts, Slice.Eq.bytes_eq-Decides}}
 use Rattle.std.specs.{List.{list_any, filter_map}, Option.{option_eq, option_map_or, option_to_list}, Prelude.filter}
-use Rattle.std.specs.{Prelude.{map, find, is_some, ◌&&◌, ◌==◌, if◌then◌else◌}, Str.bytes_eq}
+use Rattle.std.specs.{Prelude.{map, find, ◌&&◌, ◌==◌, if◌then◌else◌}, Str.bytes_eq}
 use Rattle.cni_addr.specs.{Lists.{distinct, each_key_once}, declared.mac.Mac.Mac}
 use Rattle.kernel_types.specs.Equal.{addr_eq, addr_obj_eq, att_eq, chain_eq, cidr_eq, key_eq, lease_eq, link_eq}
 use Rattle.kernel_types.specs.Equal.{link_kind_eq, mac_eq, route_eq, rule_eq, proto_eq, setting_eq, table_eq, tag_eq}
@@ -20,27 +20,9 @@ use Rattle.kernel_types.specs.declared.object.{AddrObj.AddrObj, Att.Att, Lease.L
 use Rattle.kernel_types.specs.declared.object.{Setting.Setting, Tag.{Tag, TheVariants.{Outside, Base, Own}}}
 use Rattle.kernel_types.specs.declared.rule.{Rule.Rule, Target.Target}
 use Rattle.kernel_types.specs.declared.rule.Target.TheVariants as targets
-use Rattle.kernel_tables.specs.{Places.{rows_of, row_at, passes, places_where, passing, first_of}, Rows.host_name}
-use Rattle.kernel_tables.specs.{Rows.{inner_ns, network_named, owner_named}, Table.is_key}
+use Rattle.object_tables.specs.{Rows.{host_name, inner_ns, network_named, owner_named}, Table.is_key}
 use Rattle.kernel_types.proofs.{Cases.{host_ns-eq, tag_eq-own}, ListLemmas.list_any-none, TouchRemoval.one_place}
-use Rattle.kernel_tables.proofs.{Namespaces.inner-is, Owned.{att-same, own-is}, Places.any-first}
-
--- ---- rows that pass, along a trail
-
-some-step : (g : ℕ → Bool) (c : ℕ) (cs : List ℕ) (b : Bool) → g c ≡ b → list_any g cs ≡ is_some (first_of (filter g cs))
-    → list_any g (c ∷ cs) ≡ is_some (first_of (filter g (c ∷ cs)))
-some-step g c cs true e rest = rw e refl
-some-step g c cs false e rest = rw e rest
-
-some-first : (g : ℕ → Bool) (cs : List ℕ) → list_any g cs ≡ is_some (first_of (filter g cs))
-some-first g [] = refl
-some-first g (c ∷ cs) = some-step g c cs (g c) refl (some-first g cs)
-
-pub any-along : {T : Type 0} (t : T → Bool) (places : List (Option T)) (trail : List ℕ)
-    → passing t places trail ≡ places_where t places
-    → list_any (λ p. passes t (row_at places p)) trail ≡ list_any t (rows_of places)
-any-along t places trail h =
-    some-first (λ p. passes t (row_at places p)) trail ∙ any-first t places (passing t places trail) (sym h)
+use Rattle.kernel_tables.proofs.{Namespaces.inner-is, Owned.{att-same, own-is}}
 
 -- ---- the owners of a network
 

@@ -6,7 +6,7 @@ ghost use Rattle.kernel_types.specs.Allowed.{IsAllowed};
 ghost use Rattle.kernel_types.specs.Replies.{needs_no_memory};
 ghost use Rattle.kernel_types.specs.Sound.{IsSound};
 
-use crate::keyed::TableKey;
+use crate::table_key::TableKey;
 use crate::tables::Tables;
 use cni_addr::NoMemory;
 use kernel_model::Kernel;

@@ -16,14 +16,13 @@ mod pool;
 mod questions;
 mod shared;
 
-use crate::keyed::KeyedMap;
-use crate::table::Table;
 use cni_addr::{NoMemory, RefCounted, Text};
 use ip_pool::AddrRuns;
 use kernel_types::{
     AddrKey, AddrObj, Att, CachedObj, Host, Last, Lease, Link, LinkKey, NsObj, PoolKey, RouteKey,
     RouteObj, Rule, Setting, SettingKey,
 };
+use object_tables::{KeyedMap, Table};
 use std::alloc::Global;
 use std::marker::Model;
 
@@ -44,7 +43,7 @@ pub(crate) struct Tables {
 
 impl Model for Tables {
     ghost use Rattle.kernel_types.specs.declared.object.Host.{Host};
-    ghost use Rattle.kernel_tables.specs.Leased.{AreLeased};
+    ghost use Rattle.object_tables.specs.Leased.{AreLeased};
 
     ghost Value = { Host };
 

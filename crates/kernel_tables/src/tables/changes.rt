@@ -6,9 +6,9 @@ ghost use Rattle.kernel_types.specs.Apply.Calls.{is_own_at, link_set_of};
 ghost use Rattle.kernel_types.specs.Sound.{IsSound};
 
 use super::Tables;
-use crate::row::Change;
 use cni_addr::Mac;
 use kernel_types::{Att, Link, LinkKey, LinkValues, Reply};
+use object_tables::Change;
 
 /// The values for a link.
 #[derive(Drop)]

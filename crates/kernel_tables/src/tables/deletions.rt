@@ -5,8 +5,8 @@ ghost use Rattle.kernel_types.specs.Sound.{IsSound};
 ghost use Rattle.kernel_types.specs.Apply.Calls.{rule_del_of, setting_del_of, lease_del_of, cache_del_of};
 
 use super::Tables;
-use crate::leased::remove_leased;
 use kernel_types::{Att, Reply};
+use object_tables::leased::remove_leased;
 
 impl Tables {
     #[inline(never)]

@@ -7,9 +7,9 @@ ghost use Rattle.kernel_types.specs.Apply.Calls.{drop_link_of, link_del_of};
 ghost use Rattle.kernel_tables.specs.Leaving.{has_end_at, is_peer, is_unowned_on, left_with};
 
 use super::Tables;
-use crate::row::Test;
 use kernel_types::terms::{is_at, is_peer_at};
 use kernel_types::{AddrObj, Att, Link, LinkKey, Reply, RouteObj, Tag};
+use object_tables::Test;
 
 /// What lies on a link or on its peer.
 #[derive(Clone, Copy)]

@@ -4,11 +4,11 @@ ghost use Rattle.std.specs.Prelude.{◌≡◌, IfOk};
 ghost use Rattle.kernel_types.specs.Sound.{IsSound};
 
 use super::Tables;
-use crate::keyed::{KeyedState, TableKey};
-use crate::leased::leased_of;
-use crate::table::Table;
+use crate::table_key::TableKey;
 use cni_addr::NoMemory;
 use kernel_types::Host;
+use object_tables::leased::leased_of;
+use object_tables::{KeyedState, Table};
 use std::alloc::Global;
 
 impl Tables {
@@ -17,7 +17,7 @@ impl Tables {
         requires { IsSound host }
         ensures { IfOk result (λ tables. tables ≡ host) }
     {
-        let state = KeyedState::of(key);
+        let state = KeyedState::of(&key.digest);
         let leased = leased_of(alloc, state, host.leases.as_slice())?;
         Ok(Tables {
             namespaces: Table::of_rows(alloc, state, host.namespaces)?,

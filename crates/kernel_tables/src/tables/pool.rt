@@ -10,12 +10,11 @@ ghost use Rattle.kernel_types.specs.Terms.{is_lease_at, is_of_pool, last_leased,
 ghost use Rattle.kernel_types.specs.Apply.Calls.{moved_last, with_last, lease_next_of, pool_free_of};
 
 use super::Tables;
-use crate::leased::{add_leased, make_room};
-use crate::row::Change;
-use crate::table::Table;
 use cni_addr::{Addr, Duplicate, NoMemory, RangeSet, Text};
 use ip_pool::{AddrRuns, Steps, has_free_runs, pick_runs};
 use kernel_types::{Att, Last, Lease, PoolKey, Reply};
+use object_tables::leased::{add_leased, make_room};
+use object_tables::{Change, Table};
 use std::alloc::Global;
 use std::marker::Brand;
 use std::sync::ledger::{Blank, Ledger};

@@ -10,10 +10,10 @@ ghost use Rattle.kernel_types.specs.Apply.Calls.{has_free_master, has_object, ha
 ghost use Rattle.kernel_types.specs.declared.call.Probe.TheVariants.{Whole};
 
 use super::Tables;
-use crate::row::Test;
 use cni_addr::{Items, Mac, NoMemory, Text};
 use kernel_types::terms::is_host_ns;
 use kernel_types::{Att, Kind, Link, Object, Probe, Reply, Tag};
+use object_tables::Test;
 use std::alloc::Global;
 
 /// The links that are equal to one.

@@ -2,7 +2,7 @@ use Rattle.std.proofs.Common.{◌≡◌, ◌∙◌, ap, sym, refl, true, false}
 use Rattle.std.specs.{List.list_any, Prelude.is_some}
 use Rattle.kernel_types.specs.{Terms.is_own, contracts.object.AttPartialEq.TheImpl.eq-value}
 use Rattle.kernel_types.specs.declared.object.CachedObj.{CachedObj}
-use Rattle.kernel_tables.specs.Rows.{owner_named}
+use Rattle.object_tables.specs.Rows.{owner_named}
 use Rattle.kernel_tables.proofs.{Added.free-key, Owned.{any-own, some-find, some-copied}}
 use Rattle.kernel_tables.proofs.tables.Tables.cache_put.Goals as goal
 

@@ -3,7 +3,8 @@ use Rattle.std.specs.{Prelude.find, Str.bytes_eq}
 use Rattle.cni_addr.specs.Lists.{without_first}
 use Rattle.kernel_types.specs.declared.object.{Host.Host, Link.Link}
 use Rattle.kernel_types.proofs.ListLemmas.{list_any-find_none, without_first-none}
-use Rattle.kernel_tables.specs.{Leaving.left_with, Rows.inner_ns, Table.is_key}
+use Rattle.kernel_tables.specs.Leaving.{left_with}
+use Rattle.object_tables.specs.{Rows.inner_ns, Table.is_key}
 use Rattle.kernel_tables.proofs.Namespaces.{inner-named, none-leaves, step-fewer, step-leaves, step-sound}
 use Rattle.kernel_tables.proofs.tables.Tables.drop_links_in.Goals as goal
 

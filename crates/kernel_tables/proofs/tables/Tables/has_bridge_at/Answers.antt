@@ -1,7 +1,7 @@
 use Rattle.std.proofs.Common.{◌≡◌, ◌&&◌, ◌∙◌, ap, sym, false, true, None, Some, rules}
 use Rattle.std.specs.{Option.option_map_or, Prelude.find, Str.bytes_eq}
 use Rattle.kernel_types.specs.{Equal.mac_eq, Terms.{is_bridge, is_bridge_with}}
-use Rattle.kernel_tables.specs.{Rows.host_name, Table.is_key}
+use Rattle.object_tables.specs.{Rows.host_name, Table.is_key}
 use Rattle.kernel_tables.proofs.Questions.{one-named, bridge-named}
 use Rattle.kernel_tables.proofs.tables.Tables.has_bridge_at.Goals as goal
 

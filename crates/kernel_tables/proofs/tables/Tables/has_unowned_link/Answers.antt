@@ -1,7 +1,7 @@
 use Rattle.std.proofs.Common.{◌≡◌, ◌∙◌, ap, sym, false, None, Some, rules}
 use Rattle.std.specs.{List.list_any, Option.option_map_or, Prelude.find, Str.bytes_eq}
 use Rattle.kernel_types.specs.{Equal.link_eq, Terms.is_host_ns}
-use Rattle.kernel_tables.specs.{Rows.host_name, Table.is_key}
+use Rattle.object_tables.specs.{Rows.host_name, Table.is_key}
 use Rattle.kernel_tables.proofs.Questions.{one-named, equal-named, equal-sited}
 use Rattle.kernel_tables.proofs.tables.Tables.has_unowned_link.Goals as goal
 

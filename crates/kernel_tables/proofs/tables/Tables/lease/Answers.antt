@@ -3,8 +3,8 @@ use Rattle.std.specs.Str.{bytes_eq}
 use Rattle.cni_addr.specs.Equal.{addr_eq}
 use Rattle.ip_pool.specs.NextAddress.{is_taken}
 use Rattle.kernel_types.specs.Terms.{lease_of, leased_addresses}
-use Rattle.kernel_tables.specs.Leased.{AreLeased}
-use Rattle.kernel_tables.proofs.{Kept.taken-leased, NewLease.AreLeased-new}
+use Rattle.object_tables.specs.Leased.{AreLeased}
+use Rattle.object_tables.proofs.Kept.{taken-leased, AreLeased-new}
 use Rattle.kernel_tables.proofs.tables.Tables.lease.Goals as goal
 
 pub push_lease-requires : goal.push_lease-requires

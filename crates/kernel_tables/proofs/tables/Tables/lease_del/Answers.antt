@@ -5,9 +5,10 @@ use Rattle.kernel_types.specs.{Keys.is_same_lease, Sound.HasDistinctKeys, Terms.
 use Rattle.kernel_types.specs.contracts.object.AttPartialEq.TheImpl.{eq-value as att_eq-value}
 use Rattle.kernel_types.specs.declared.object.Lease.{Lease}
 use Rattle.kernel_types.proofs.ListLemmas.{list_any-find_none, without_first-none}
-use Rattle.kernel_tables.specs.{Leased.AreLeased, Rows.owner_named, Table.is_key}
-use Rattle.kernel_tables.proofs.{Kept.AreLeased-gone, Owned.{any-own, first-own, some-find}}
-use Rattle.kernel_tables.proofs.tables.Tables.lease_del.Goals.{in-Some, in_default}
+use Rattle.object_tables.specs.{Leased.AreLeased, Rows.owner_named, Table.is_key}
+use Rattle.object_tables.proofs.Kept.{AreLeased-gone}
+use Rattle.kernel_tables.proofs.{Owned.{any-own, first-own, some-find}, tables.Tables.lease_del.Goals.in-Some}
+use Rattle.kernel_tables.proofs.tables.Tables.lease_del.Goals.{in_default}
 use Rattle.kernel_tables.proofs.tables.Tables.lease_del.Goals as goal
 
 pub invariant_of-self : goal.invariant_of-self

@@ -2,7 +2,7 @@ use Rattle.std.proofs.Common.{◌≡◌, ◌∙◌, ap, not, true, rules}
 use Rattle.std.specs.{Prelude.filter, Str.bytes_eq}
 use Rattle.kernel_types.specs.{Terms.has_named_ns, declared.{call.Reply.TheVariants.Done, object.Host.Host}}
 use Rattle.kernel_types.specs.declared.object.{NsObj.NsObj, Setting.Setting}
-use Rattle.kernel_tables.specs.{Rows.inner_ns, Table.is_key}
+use Rattle.object_tables.specs.{Rows.inner_ns, Table.is_key}
 use Rattle.kernel_tables.proofs.Namespaces.{inner-named, ns-leaves}
 use Rattle.kernel_tables.proofs.tables.Tables.ns_del.Goals as goal
 

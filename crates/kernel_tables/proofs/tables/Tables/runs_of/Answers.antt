@@ -2,8 +2,8 @@ use Rattle.std.proofs.Common.{◌≡◌, ◌∙◌, ap, []}
 use Rattle.std.specs.Option.{option_map_or}
 use Rattle.ip_pool.specs.NextAddress.{is_taken}
 use Rattle.kernel_types.specs.Terms.{leased_addresses}
-use Rattle.kernel_tables.specs.Leased.{kept_for}
-use Rattle.kernel_tables.proofs.Kept.{kept-chosen}
+use Rattle.object_tables.specs.Leased.{kept_for}
+use Rattle.object_tables.proofs.Kept.{kept-chosen}
 use Rattle.kernel_tables.proofs.tables.Tables.runs_of.Goals as goal
 
 pub returns : goal.returns

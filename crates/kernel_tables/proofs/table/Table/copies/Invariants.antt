@@ -1,7 +1,0 @@
-use Rattle.std.proofs.Common.{◌≡◌, take}
-use Rattle.kernel_tables.specs.Places.{rows_of}
-use Rattle.kernel_tables.proofs.table.Table.copies.Given as goal
-
--- the rows at the places so far
-abbrev pub invariant-loop-place : goal.invariant-loop-place
-invariant-loop-place g l = l.rows ≡ rows_of (take l.place-index l.place-items)

@@ -1,0 +1,5 @@
+pub mod Leased
+pub mod Places
+pub mod Rows
+pub mod Table
+pub mod Trails
