@@ -2,9 +2,10 @@
 use Rattle.std.proofs.Common.{◌≡◌, ◌<◌, ℕ, zero, suc, ◌+◌, Bool, true, false, not, ap, List, [], ◌∷◌, ◌++◌, Option}
 use Rattle.std.proofs.Common.{Some, None, refl, sym, ◌∙◌, length, get_or, set, take, arith}
 use Rattle.std.proofs.lemmas.{Bool.Decides.nat_tests, List.{append_assoc, get_or_at, length-append, take_more}}
-use Rattle.std.specs.Prelude.{filter, map, ◌&&◌, ◌==◌, if◌then◌else◌}
-use Rattle.object_tables.specs.Places.{row_at, passes, emptied, emptied_at, places_from, places_where, passing}
-use Rattle.object_tables.proofs.Places.{filter-later, places_from-later}
+use Rattle.std.specs.{List.list_any, Prelude.{filter, map, ◌&&◌, ◌==◌, if◌then◌else◌, is_some}}
+use Rattle.object_tables.specs.Places.{first_of, rows_of, row_at, passes, emptied, emptied_at, places_from}
+use Rattle.object_tables.specs.Places.{places_where, passing}
+use Rattle.object_tables.proofs.Places.{any-first, filter-later, places_from-later}
 
 emptied-fails : {T : Type 0} (t : T → Bool) (o : Option T) → passes t (emptied t o) ≡ false
 emptied-fails t None = refl

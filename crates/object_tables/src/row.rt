@@ -28,9 +28,11 @@ pub trait Row<K: Eq, L: Eq, O: Eq, P: Eq> {
     fn alias(&self) -> Result<Option<L>, NoMemory>
         ensures { IfOk result (λ alias. alias ≡ alias_of self.now) };
 
+    /// The owner, if it has one.
     fn owner(&self) -> Option<&O>
         ensures { option_copied result ≡ owner_of self.now };
 
+    /// The network, if it has one.
     fn network(&self) -> Option<&Text>
         ensures { option_copied result ≡ network_of self.now };
 
@@ -38,12 +40,15 @@ pub trait Row<K: Eq, L: Eq, O: Eq, P: Eq> {
     fn site(&self) -> Result<Option<P>, NoMemory>
         ensures { IfOk result (λ site. site ≡ site_of self.now) };
 
+    /// Whether this is its key.
     fn has_key(&self, key: &K) -> bool
         ensures { result ≡ has_key K.eq key_of key.now self.now };
 
+    /// Whether this is its alias.
     fn has_alias(&self, alias: &L) -> bool
         ensures { result ≡ has_key L.eq alias_of alias.now self.now };
 
+    /// Whether this is its owner.
     fn is_owned_by(&self, owner: &O) -> bool
         ensures { result ≡ has_key O.eq owner_of owner.now self.now }
     {
@@ -53,6 +58,7 @@ pub trait Row<K: Eq, L: Eq, O: Eq, P: Eq> {
         }
     }
 
+    /// Whether this is its network.
     fn is_in_network(&self, network: &Text) -> bool
         ensures { result ≡ has_key bytes_eq network_of network.now self.now }
     {
@@ -62,6 +68,7 @@ pub trait Row<K: Eq, L: Eq, O: Eq, P: Eq> {
         }
     }
 
+    /// Whether this is its site.
     fn is_at(&self, site: &P) -> bool
         ensures { result ≡ has_key P.eq site_of site.now self.now };
 }
@@ -72,6 +79,7 @@ pub trait Test<T> {
 
     ghost passes: { Self → T → Bool };
 
+    /// Whether the row passes.
     fn passes(&self, row: &T) -> bool
         ensures { result ≡ passes self.now row.now };
 }
@@ -82,6 +90,7 @@ pub trait Change<T> {
 
     ghost changed: { Self → T → T };
 
+    /// Makes the change.
     fn change(&self, row: &mut T)
         ensures { row.new ≡ changed self.now row.old };
 }
