@@ -1,3 +1,4 @@
 mod Carried
 mod Endings
+mod SessionRuns
 mod Verdicts
