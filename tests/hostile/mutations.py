@@ -87,12 +87,14 @@ def bytes_of(content):
 
 
 def sources():
-    """The files of the examples and of the rows, with the words of their run."""
+    """The files of the examples and of the rows whose words are taken, with the words of their run."""
     for folder in sorted(it for it in (TOP / "examples").iterdir() if (it / "net.json").exists()):
         files = {it.name: it.read_bytes() for it in folder.glob("*.json")}
         yield files, ["--trace", "--dump", "--requests", "pods.json", "net.json"]
     told, lists = worked_rows()
     for row in told:
+        if row["status"] not in (SUCCESS, FAILURE, REFUSED):
+            continue
         given = {name: content_of(it, lists) for name, it in row.get("files", {}).items()}
         if given and all(isinstance(it, (bytes, dict, list)) for it in given.values()):
             files = {name: bytes_of(it) for name, it in given.items()}
