@@ -112,7 +112,7 @@ ALIKE_64 = groups_of(MULTIPLIER)
 PLAIN_64 = groups_of(MULTIPLIER ^ 0x10000)
 
 
-# ---- a hasher with a key: SipHash that has taken in a digest
+# ---- the hasher of the tables: SipHash-1-3 that has taken in a digest
 
 
 def sip_round(v0, v1, v2, v3):
@@ -128,19 +128,29 @@ def sip_round(v0, v1, v2, v3):
     return v0, v1, v2 << 32 & WORD | v2 >> 32, v3
 
 
-def sip(state, written, length):
-    """The state after these bytes, whole words of them, and the hash once the rest is in, of so many bytes in all."""
-    whole = len(written) // 8 * 8
-    for at in range(0, whole, 8):
-        word = low_word(written, at)
+def words_of(write):
+    """The words of a write: eight bytes each, the lowest first, and what is left behind a mark that tells how many."""
+    whole = len(write) // 8 * 8
+    words = [low_word(write, at) for at in range(0, whole, 8)]
+    rest = write[whole:]
+    return words + [int.from_bytes(bytes([0xF8 + len(rest)]) + rest, "big")] * bool(rest)
+
+
+def sip(state, writes):
+    """The state after these writes."""
+    for word in (it for write in writes for it in words_of(write)):
         v0, v1, v2, v3 = sip_round(state[0], state[1], state[2], state[3] ^ word)
         state = v0 ^ word, v1, v2, v3
-    last = (length & 0xFF) << 56 | int.from_bytes(written[whole:], "little")
-    v0, v1, v2, v3 = sip_round(state[0], state[1], state[2], state[3] ^ last)
-    v0, v2 = v0 ^ last, v2 ^ 0xFF
+    return state
+
+
+def finished(state):
+    """The hash of what was written."""
+    v0, v1, v2, v3 = state
+    state = v0, v1, v2 ^ 0xFF, v3
     for _ in range(3):
-        v0, v1, v2, v3 = sip_round(v0, v1, v2, v3)
-    return state, v0 ^ v1 ^ v2 ^ v3
+        state = sip_round(*state)
+    return state[0] ^ state[1] ^ state[2] ^ state[3]
 
 
 SIP = (0x736F6D6570736575, 0x646F72616E646F6D, 0x6C7967656E657261, 0x7465646279746573)
@@ -153,16 +163,16 @@ def digest_of(words, files):
 
 def crowding(digest, keys):
     """How the keys crowd in a table under this digest: the sum of the squares of how many share a group of lanes."""
-    keyed, _ = sip(SIP, digest, len(digest))
+    keyed = sip(SIP, [digest])
     groups = 1 << max((len(keys) // 9).bit_length(), 0)
     loads = {}
     for it in keys:
-        _, found = sip(keyed, it, len(digest) + len(it))
+        found = finished(sip(keyed, it))
         group = (found ^ found >> 32) & 0xFFFFFFFF & groups - 1
         loads[group] = loads.get(group, 0) + 1
     return sum(it * it for it in loads.values())
 
 
 def text_key(*texts):
-    """What a key of texts feeds a hasher."""
-    return b"".join(it.encode("utf-8") + b"\xff" for it in texts)
+    """The writes of a key of texts."""
+    return [it for text in texts for it in (text.encode("utf-8"), b"\xff")]

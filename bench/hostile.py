@@ -148,9 +148,9 @@ def containers(program, part):
 
 
 def address_key(number, prefix):
-    """What a network of the /64 whose addresses are alike feeds a hasher."""
+    """The writes of a network of the /64 whose addresses are alike."""
     bits = colliding.MULTIPLIER << 64 | number
-    return (1).to_bytes(8, "little") + bits.to_bytes(16, "little") + bytes([prefix])
+    return [(1).to_bytes(8, "little"), bits.to_bytes(16, "little"), bytes([prefix])]
 
 
 def in_64(upper, number, prefix):

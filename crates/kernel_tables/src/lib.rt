@@ -1,4 +1,4 @@
-//! The modelled kernel over tables: what a call asks for is looked up, and never searched.
+//! The modelled kernel over tables, in which a call looks up what it asks for.
 //!
 //! What it promises above: [`TableKernel`] keeps the whole contract of [`Kernel`](kernel_model::Kernel), so that each
 //! call gives the host and the reply of `apply` (`kernel_types/specs/Apply.antt`), as `kernel_model::ListKernel` does.

@@ -1,3 +1,4 @@
+pub mod Keyed
 pub mod Leased
 pub mod Places
 pub mod Rows

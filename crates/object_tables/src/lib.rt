@@ -1,4 +1,4 @@
-//! Tables of a host's objects, which are found by what they have, and never searched.
+//! Tables of a host's objects, which are found by what they have.
 //!
 //! What the crate promises above: a [`Table`] means the list of its rows, in the order in which they came, and each
 //! answer and each change is said of that list. A [`Row`] says what it is found by: a key and an alias, which no other
