@@ -1,6 +1,6 @@
 -- Which phases are over, and how they end.
 use Rattle.std.proofs.Common.{◌≡◌, ℕ, ◌<◌, ◌≤◌, List, [], ◌∷◌, ◌++◌, length, drop, refl, sym, ap, ◌∙◌, subst, arith}
-use Rattle.std.proofs.{Common.{not, Option, Some, None, inl, inr}, lemmas.List.length-append}
+use Rattle.std.proofs.{Common.{not, Option, Some, None, inl, inr}, lemmas.List.{length-append, length-map}}
 use Rattle.std.specs.{Bool.FalseIff, Prelude.{◌⊎◌, Bool, true, false, option_map, MatchBool}}
 use Rattle.cni_addr.specs.declared.address.Addr.{Addr}
 use Rattle.cni_result.specs.declared.cached.Cached.{Cached}
@@ -9,13 +9,15 @@ use Rattle.pod_file.specs.declared.command.Command.{Command}
 use Rattle.kernel_types.specs.declared.call.{Call.{Call, TheVariants.CachePut}, Kind.Kind, Reply.Reply}
 use Rattle.kernel_types.specs.declared.object.Att.{Att}
 use Rattle.plugin_base.specs.{PluginCalls.has_inner, Plugins.added_before, Share.{Share, no_objects, share_after_calls}}
-use Rattle.plugin_chain.specs.{Plugins.plugin_of, Wanted.{sets_of, kinds_of, calls_after, calls_before, result_of_add}}
-use Rattle.plugin_chain.specs.Wanted.{all_chained_calls, first_plugin_result, given_by_list, cached_of}
-use Rattle.cni_verbs.specs.{Mappings.mappings_of, Phases.{KeepsOfList, KeepsResult, state_in, state_outside}}
+use Rattle.plugin_chain.specs.{Plugins.plugin_of, Wanted.{deletion, sets_of, kinds_of, calls_after, calls_before}}
+use Rattle.plugin_chain.specs.Wanted.{result_of_add, all_chained_calls, chained_kinds_reversed, first_kinds}
+use Rattle.plugin_chain.specs.Wanted.{first_plugin_result, given_by_list, cached_of}
+use Rattle.cni_verbs.specs.{Mappings.mappings_of, Phases.{KeepsOfList, KeepsAhead, state_in, state_outside}}
 use Rattle.cni_verbs.specs.{Phases.state_by_phase, Questions.check_questions, Script.{State, Finish, IsOpen, before_of}}
 use Rattle.cni_verbs.specs.{Script.{back_of, finish_of}, declared.phase.Phase.Phase}
 use Rattle.cni_errors.specs.{CommandFields.att_of, declared.answer.Ending.{Ending, TheVariants.{Added, Yes}}}
 use Rattle.cni_errors.specs.declared.answer.Question.{Question}
+use Rattle.kernel_types.specs.declared.call.Kind.TheVariants as kinds
 use Rattle.cni_verbs.specs.Script as script
 use Rattle.cni_verbs.specs.declared.phase.Phase.TheVariants as phases
 use Rattle.cni_verbs.proofs.{CallsOrOver.calls_or_over, PhaseSteps.{left_of, opens}, QuestionCounts.questions-left}
@@ -37,6 +39,10 @@ starts-before list c (call ∷ calls) h = tt
 starts-asking : (questions : List Question) → 0 < length questions → IsOpen (script.asking questions)
 starts-asking [] h = absurd (omega arith)
 starts-asking (question ∷ questions) h = tt
+
+starts-deleting : (kinds : List Kind) (ending : Ending) → 0 < length kinds → IsOpen (script.deleting kinds ending)
+starts-deleting [] ending h = absurd (omega arith)
+starts-deleting (kind ∷ kinds) ending h = tt
 
 ends-with : {X : Type 0} (xs ys : List X) (z : X) → 0 < length (xs ++ (ys ++ z ∷ []))
 ends-with xs ys z = omega (arith, length-append xs (ys ++ z ∷ []), length-append ys (z ∷ []))
@@ -69,10 +75,14 @@ calls-left list c addrs =
     (all_chained_calls list.chained att c.netns mappings (first_plugin_result list att c.netns addrs))
     (CachePut att (cached_of list att c.netns mappings addrs))
 
+-- the cached result is deleted last
+kinds-some : (list : NetList) → 0 < length (kinds_of list)
+kinds-some list = ends-with (chained_kinds_reversed list.chained) (first_kinds list.first) kinds.Cached
+
 -- a phase whose work isn't done, or isn't made yet
 abbrev is_early : Phase → Bool
 is_early (phases.AfterLeases calls passed cached) = false
-is_early (phases.Deleting passed ending) = false
+is_early (phases.Deleting deletions passed ending) = false
 is_early (phases.Asking questions passed) = false
 is_early (phases.Over ending) = false
 is_early phase = true
@@ -86,7 +96,8 @@ IsEarly phase =
     ⊎ ((phase ≡ phases.Leasing)
     ⊎ ((phase ≡ phases.Leased)
     ⊎ (((ending : Ending) × (phase ≡ phases.ReadingCache ending))
-    ⊎ ((phase ≡ phases.FindingEntry) ⊎ (((cached : Cached) × (phase ≡ phases.Found cached)) ⊎ ((change : Call) × (phase ≡ phases.Changing change)))))))))
+    ⊎ (((ending : Ending) × (phase ≡ phases.CacheRead ending))
+    ⊎ ((phase ≡ phases.FindingEntry) ⊎ (((cached : Cached) × (phase ≡ phases.Found cached)) ⊎ ((change : Call) × (phase ≡ phases.Changing change))))))))))
 
 told-early : (phase : Phase) → IsEarly phase → is_early phase ≡ true
 told-early phase (inl is) = ap is_early is
@@ -95,31 +106,33 @@ told-early phase (inr (inr (inl w))) = ap is_early w.2
 told-early phase (inr (inr (inr (inl is)))) = ap is_early is
 told-early phase (inr (inr (inr (inr (inl is))))) = ap is_early is
 told-early phase (inr (inr (inr (inr (inr (inl w)))))) = ap is_early w.1
-told-early phase (inr (inr (inr (inr (inr (inr (inl is))))))) = ap is_early is
-told-early phase (inr (inr (inr (inr (inr (inr (inr (inl w)))))))) = ap is_early w.1
-told-early phase (inr (inr (inr (inr (inr (inr (inr (inr w)))))))) = ap is_early w.1
+told-early phase (inr (inr (inr (inr (inr (inr (inl w))))))) = ap is_early w.1
+told-early phase (inr (inr (inr (inr (inr (inr (inr (inl is)))))))) = ap is_early is
+told-early phase (inr (inr (inr (inr (inr (inr (inr (inr (inl w))))))))) = ap is_early w.1
+told-early phase (inr (inr (inr (inr (inr (inr (inr (inr (inr w))))))))) = ap is_early w.1
 
-open-where : (list : NetList) (c : Command) (kinds : List Kind) (room made : ℕ) (addrs : List Addr) (phase : Phase)
-    → KeepsOfList list c kinds room made addrs phase → is_early phase ≡ true → IsOpen (state_in list c addrs phase)
-open-where list c kinds room made addrs phases.AtBegin kept early = tt
-open-where list c kinds room made addrs phases.Begun kept early = starts-before list c (before_of list c) (before-some list c)
-open-where list c kinds room made addrs (phases.BeforeLeases calls passed) kept early =
+open-where : (list : NetList) (c : Command) (room made : ℕ) (addrs : List Addr) (phase : Phase)
+    → KeepsOfList list c room made addrs phase → is_early phase ≡ true → IsOpen (state_in list c addrs phase)
+open-where list c room made addrs phases.AtBegin kept early = tt
+open-where list c room made addrs phases.Begun kept early = starts-before list c (before_of list c) (before-some list c)
+open-where list c room made addrs (phases.BeforeLeases calls passed) kept early =
     subst (λ calls. IsOpen (script.before_leases list c calls)) (sym (left_of calls passed kept.stands.0).1.1) tt
-open-where list c kinds room made addrs phases.Leasing kept early =
+open-where list c room made addrs phases.Leasing kept early =
     subst (λ sets. IsOpen (script.leasing list c sets addrs)) (sym (left_of (sets_of list) (length addrs) kept.stands).1.1) tt
-open-where list c kinds room made addrs phases.Leased kept early = starts-after (back_of list c addrs) addrs (calls-left list c addrs)
-open-where list c kinds room made addrs (phases.AfterLeases calls passed cached) kept early = absurd cc
-open-where list c kinds room made addrs (phases.ReadingCache ending) kept early = tt
-open-where list c kinds room made addrs (phases.Deleting passed ending) kept early = absurd cc
-open-where list c kinds room made addrs phases.FindingEntry kept early = tt
-open-where list c kinds room made addrs (phases.Found cached) kept early = starts-asking (check_questions list c cached) (questions-left list c cached)
-open-where list c kinds room made addrs (phases.Asking questions passed) kept early = absurd cc
-open-where list c kinds room made addrs (phases.Changing change) kept early = tt
-open-where list c kinds room made addrs (phases.Over ending) kept early = absurd cc
+open-where list c room made addrs phases.Leased kept early = starts-after (back_of list c addrs) addrs (calls-left list c addrs)
+open-where list c room made addrs (phases.AfterLeases calls passed cached) kept early = absurd cc
+open-where list c room made addrs (phases.ReadingCache ending) kept early = tt
+open-where list c room made addrs (phases.CacheRead ending) kept early = starts-deleting (kinds_of list) ending (kinds-some list)
+open-where list c room made addrs (phases.Deleting deletions passed ending) kept early = absurd cc
+open-where list c room made addrs phases.FindingEntry kept early = tt
+open-where list c room made addrs (phases.Found cached) kept early = starts-asking (check_questions list c cached) (questions-left list c cached)
+open-where list c room made addrs (phases.Asking questions passed) kept early = absurd cc
+open-where list c room made addrs (phases.Changing change) kept early = tt
+open-where list c room made addrs (phases.Over ending) kept early = absurd cc
 
-pub early-open : (list : NetList) (c : Command) (kinds : List Kind) (room made : ℕ) (addrs : List Addr) (phase : Phase)
-    → KeepsOfList list c kinds room made addrs phase → IsEarly phase → IsOpen (state_in list c addrs phase)
-early-open list c kinds room made addrs phase kept early = open-where list c kinds room made addrs phase kept (told-early phase early)
+pub early-open : (list : NetList) (c : Command) (room made : ℕ) (addrs : List Addr) (phase : Phase)
+    → KeepsOfList list c room made addrs phase → IsEarly phase → IsOpen (state_in list c addrs phase)
+early-open list c room made addrs phase kept early = open-where list c room made addrs phase kept (told-early phase early)
 
 over-listed : {X : Type 0} (state : List X → State) (items : List X) (passed : ℕ) (over : Bool)
     → (IsOpen (state []) → ⊥) → ((item : X) (left : List X) → IsOpen (state (item ∷ left)))
@@ -135,13 +148,16 @@ after-leases-over list c passed calls read cached addrs phase over is same h =
     (subst (λ cs. IsOverIf over (script.after_leases (drop passed cs) addrs)) same
     (over-listed (λ left. script.after_leases left addrs) read passed over (λ opened. opened) (λ call left. tt) h))
 
-pub deleting-over : (list : NetList) (c : Command) (passed : ℕ) (ending : Ending) (kinds : List Kind) (addrs : List Addr) (phase : Phase) (over : Bool)
-    → phase ≡ phases.Deleting passed ending
-    → kinds ≡ kinds_of list → MatchBool over (length kinds ≤ passed) (passed < length kinds) → IsOverIf over (state_in list c addrs phase)
-deleting-over list c passed ending kinds addrs phase over is same h =
+pub deleting-over : (list : NetList) (c : Command) (passed : ℕ) (deletions read : List Call) (ending : Ending) (addrs : List Addr) (phase : Phase) (over : Bool)
+    → phase ≡ phases.Deleting deletions passed ending
+    → KeepsAhead list c addrs phase → read ≡ deletions → MatchBool over (length read ≤ passed) (passed < length read)
+    → IsOverIf over (state_in list c addrs phase)
+deleting-over list c passed deletions read ending addrs phase over is keeps same h =
+    let K : Phase → Type 0 = λ p. KeepsAhead list c addrs p in
+    let of_kinds : length read ≡ length (kinds_of list) = ap length (same ∙ subst K is keeps) ∙ length-map (kinds_of list) (deletion (att_of c)) in
     subst (λ p. IsOverIf over (state_in list c addrs p)) (sym is)
-    (subst (λ ks. IsOverIf over (script.deleting (drop passed ks) ending)) same
-    (over-listed (λ ks. script.deleting ks ending) kinds passed over (λ opened. opened) (λ kind ks. tt) h))
+    (over-listed (λ ks. script.deleting ks ending) (kinds_of list) passed over (λ opened. opened) (λ kind ks. tt)
+    (subst (λ n. MatchBool over (n ≤ passed) (passed < n)) of_kinds h))
 
 pub asking-over : (list : NetList) (c : Command) (passed : ℕ) (questions read : List Question) (addrs : List Addr) (phase : Phase) (over : Bool)
     → phase ≡ phases.Asking questions passed
@@ -189,11 +205,11 @@ after-finish list c passed calls cached addrs phase f is over =
     (finish-listed (λ left. script.after_leases left addrs) (drop passed calls) (record { ending = Added; given = addrs }) f refl (λ call left. tt)
     (subst (λ p. IsOpen (state_in list c addrs p) → ⊥) is over))
 
-pub deleting-finish : {A : Type 0} (list : NetList) (c : Command) (passed : ℕ) (ending : Ending) (addrs : List Addr) (phase : Phase) (f : Finish → A)
-    → phase ≡ phases.Deleting passed ending
+pub deleting-finish : {A : Type 0} (list : NetList) (c : Command) (passed : ℕ) (deletions : List Call) (ending : Ending) (addrs : List Addr) (phase : Phase) (f : Finish → A)
+    → phase ≡ phases.Deleting deletions passed ending
     → (IsOpen (state_in list c addrs phase) → ⊥) → Some (f (record { ending = ending; given = [] })) ≡ option_map f (finish_of (state_in list c addrs phase))
 unfolding finish_of
-deleting-finish list c passed ending addrs phase f is over =
+deleting-finish list c passed deletions ending addrs phase f is over =
     subst (λ p. Some (f (record { ending = ending; given = [] })) ≡ option_map f (finish_of (state_in list c addrs p))) (sym is)
     (finish-listed (λ kinds. script.deleting kinds ending) (drop passed (kinds_of list)) (record { ending = ending; given = [] }) f refl (λ kind kinds. tt)
     (subst (λ p. IsOpen (state_in list c addrs p) → ⊥) is over))
@@ -216,7 +232,7 @@ over-finish list c ending addrs phase f is = sym (ap (λ p. option_map f (finish
 -- the result that is kept is the answer of an ADD that is over
 pub added-answer : (list : NetList) (c : Command) (calls : List Call) (passed : ℕ) (cached : Cached) (addrs : List Addr) (phase : Phase)
     → phase ≡ phases.AfterLeases calls passed cached
-    → KeepsResult list c addrs phase → cached.result ≡ result_of_add list (att_of c) c.netns addrs
+    → KeepsAhead list c addrs phase → cached.result ≡ result_of_add list (att_of c) c.netns addrs
 added-answer list c calls passed cached addrs phase is keeps =
-    let K : Phase → Type 0 = λ p. KeepsResult list c addrs p in
+    let K : Phase → Type 0 = λ p. KeepsAhead list c addrs p in
     subst K is keeps

@@ -1,16 +1,16 @@
 -- What a phase calls next, and how it ends.
 use Rattle.std.proofs.Common.{◌≡◌, ℕ, ◌+◌, ◌<◌, ◌≤◌, List, [], ◌∷◌, length, drop, refl, sym, ap, ◌∙◌, subst, true}
-use Rattle.std.proofs.Common.{Option, Some, None, Result, inl, inr}
+use Rattle.std.proofs.{Common.{Option, Some, None, Result, inl, inr}, lemmas.Option.slice_get-map}
 use Rattle.std.specs.Prelude.{◌⊎◌, slice_get, option_map, IfOk, Ok, Err}
 use Rattle.cni_addr.specs.declared.address.Addr.{Addr}
 use Rattle.cni_result.specs.declared.cached.Cached.{Cached}
 use Rattle.net_conf.specs.declared.list.NetList.{NetList}
 use Rattle.pod_file.specs.declared.command.Command.{Command}
-use Rattle.kernel_types.specs.declared.call.{Call.{Call, TheVariants.{Begin, LeaseNext, CacheGet}}, Kind.Kind}
+use Rattle.kernel_types.specs.declared.call.Call.{Call, TheVariants.{Begin, LeaseNext, CacheGet}}
 use Rattle.cni_errors.specs.{CommandFields.att_of, declared.answer.{Ending.Ending, Question.Question}}
 use Rattle.plugin_chain.specs.Wanted.{sets_of, kinds_of, deletion}
 use Rattle.cni_verbs.specs.Script as script
-use Rattle.cni_verbs.specs.Phases.{Stands, KeepsOfList, KeepsOfListBy, KeepsResult, IsPhaseOf, IsSameButPrepared}
+use Rattle.cni_verbs.specs.Phases.{Stands, KeepsOfList, KeepsOfListBy, KeepsAhead, IsPhaseOf, IsSameButPrepared}
 use Rattle.cni_verbs.specs.{Phases.{is_prepared, state_in, state_outside, state_by_phase}, Progress.answer_in}
 use Rattle.cni_verbs.specs.{Script.{State, next_call}, declared.phase.Phase.Phase}
 use Rattle.cni_verbs.specs.declared.phase.Phase.TheVariants as phases
@@ -39,9 +39,9 @@ at_before list c passed calls h =
     let left = left_of calls passed h in
     left.1.0 ∙ sym (ap (λ calls. next_call c (script.before_leases list c calls)) left.1.1)
 
-pub next_before : (list : NetList) (c : Command) (kinds : List Kind) (room made passed : ℕ) (calls : List Call) (addrs : List Addr) (phase : Phase)
-    → KeepsOfList list c kinds room made addrs phase → phase ≡ phases.BeforeLeases calls passed → slice_get calls passed ≡ next_call c (state_in list c addrs phase)
-next_before list c kinds room made passed calls addrs phase kept is =
+pub next_before : (list : NetList) (c : Command) (room made passed : ℕ) (calls : List Call) (addrs : List Addr) (phase : Phase)
+    → KeepsOfList list c room made addrs phase → phase ≡ phases.BeforeLeases calls passed → slice_get calls passed ≡ next_call c (state_in list c addrs phase)
+next_before list c room made passed calls addrs phase kept is =
     let S : Phase → Type 0 = λ p. Stands (length (sets_of list)) made addrs p in
     let here : (passed < length calls) × (addrs ≡ []) = subst S is kept.stands in
     at_before list c passed calls here.0 ∙ sym (ap (λ p. next_call c (state_in list c addrs p)) is)
@@ -54,10 +54,10 @@ at_lease list c addrs h =
     ap (option_map (LeaseNext (att_of c) (length addrs))) left.1.0
     ∙ sym (ap (λ sets. next_call c (script.leasing list c sets addrs)) left.1.1)
 
-pub next_lease : (list : NetList) (c : Command) (kinds : List Kind) (room made : ℕ) (addrs : List Addr) (phase : Phase)
-    → KeepsOfList list c kinds room made addrs phase → phase ≡ phases.Leasing
+pub next_lease : (list : NetList) (c : Command) (room made : ℕ) (addrs : List Addr) (phase : Phase)
+    → KeepsOfList list c room made addrs phase → phase ≡ phases.Leasing
     → option_map (LeaseNext (att_of c) (length addrs)) (slice_get (sets_of list) (length addrs)) ≡ next_call c (state_in list c addrs phase)
-next_lease list c kinds room made addrs phase kept is =
+next_lease list c room made addrs phase kept is =
     let S : Phase → Type 0 = λ p. Stands (length (sets_of list)) made addrs p in
     at_lease list c addrs (subst S is kept.stands) ∙ sym (ap (λ p. next_call c (state_in list c addrs p)) is)
 
@@ -86,13 +86,15 @@ unfolding next_call
 next_cache list c addrs phase (inl w) = sym (ap (λ p. next_call c (state_in list c addrs p)) w.1)
 next_cache list c addrs phase (inr is) = sym (ap (λ p. next_call c (state_in list c addrs p)) is)
 
-pub next_deletion : (list : NetList) (c : Command) (kinds : List Kind) (room made passed : ℕ) (ending : Ending) (addrs : List Addr) (phase : Phase)
-    → KeepsOfList list c kinds room made addrs phase → phase ≡ phases.Deleting passed ending
-    → option_map (deletion (att_of c)) (slice_get kinds passed) ≡ next_call c (state_in list c addrs phase)
+pub next_deletion : (list : NetList) (c : Command) (room made passed : ℕ) (deletions : List Call) (ending : Ending) (addrs : List Addr) (phase : Phase)
+    → KeepsOfList list c room made addrs phase → phase ≡ phases.Deleting deletions passed ending
+    → slice_get deletions passed ≡ next_call c (state_in list c addrs phase)
 unfolding next_call
-next_deletion list c kinds room made passed ending addrs phase kept is =
-    next_listed c (λ kinds. script.deleting kinds ending) (option_map (deletion (att_of c))) kinds passed refl (λ kind kinds. refl)
-    ∙ ap (λ ks. next_call c (script.deleting (drop passed ks) ending)) kept.kinds_is
+next_deletion list c room made passed deletions ending addrs phase kept is =
+    let K : Phase → Type 0 = λ p. KeepsAhead list c addrs p in
+    ap (λ calls. slice_get calls passed) (subst K is kept.keeps)
+    ∙ slice_get-map (deletion (att_of c)) (kinds_of list) passed
+    ∙ next_listed c (λ kinds. script.deleting kinds ending) (option_map (deletion (att_of c))) (kinds_of list) passed refl (λ kind kinds. refl)
     ∙ sym (ap (λ p. next_call c (state_in list c addrs p)) is)
 
 pub next_asking : (list : NetList) (c : Command) (passed : ℕ) (questions : List Question) (addrs : List Addr) (phase : Phase)
@@ -114,21 +116,21 @@ unfolding next_call
 next_over list c addrs phase ending is = sym (ap (λ p. next_call c (state_in list c addrs p)) is)
 
 pub is-prepared : (phase : Phase) → is_prepared phase ≡ true
-    → (phase ≡ phases.Begun) ⊎ ((phase ≡ phases.Leased) ⊎ ((cached : Cached) × (phase ≡ phases.Found cached))) → ⊥
+    → (phase ≡ phases.Begun) ⊎ ((phase ≡ phases.Leased) ⊎ (((ending : Ending) × (phase ≡ phases.CacheRead ending)) ⊎ ((cached : Cached) × (phase ≡ phases.Found cached)))) → ⊥
 is-prepared phase h (inl is) = let e = ap is_prepared is in cc
 is-prepared phase h (inr (inl is)) = let e = ap is_prepared is in cc
-is-prepared phase h (inr (inr w)) = let e = ap is_prepared w.1 in cc
+is-prepared phase h (inr (inr (inl w))) = let e = ap is_prepared w.1 in cc
+is-prepared phase h (inr (inr (inr w))) = let e = ap is_prepared w.1 in cc
 
 -- ---- the start
 
-pub kept_at_start : (list : NetList) (c : Command) (kinds : List Kind) (room : ℕ) (given : List Addr) (phase : Phase)
-    → IsPhaseOf list c 0 [] phase (script.start_state list c) → kinds ≡ kinds_of list
-    → length (sets_of list) ≤ room → given ≡ [] → KeepsOfList list c kinds room 0 given phase
-kept_at_start list c kinds room given phase starts kinds_is room_is none =
+pub kept_at_start : (list : NetList) (c : Command) (room : ℕ) (given : List Addr) (phase : Phase)
+    → IsPhaseOf list c 0 [] phase (script.start_state list c)
+    → length (sets_of list) ≤ room → given ≡ [] → KeepsOfList list c room 0 given phase
+kept_at_start list c room given phase starts room_is none =
     let G : List Addr → Type 0 = λ addrs. Stands (length (sets_of list)) 0 addrs phase in
-    let K : List Addr → Type 0 = λ addrs. KeepsResult list c addrs phase in
+    let K : List Addr → Type 0 = λ addrs. KeepsAhead list c addrs phase in
     record {
-      kinds_is = kinds_is;
       room_is = room_is;
       stands = subst G (sym none) starts.stands;
       keeps = subst K (sym none) starts.keeps;
@@ -150,17 +152,16 @@ starts_for l k c d phase same_list same h =
 -- ---- what is prepared
 
 -- the invariant holds on where the phase means the same
-pub kept_prepared : (list : Option NetList) (l : NetList) (c : Command) (kinds : List Kind) (room made : ℕ) (given addrs : List Addr) (old new : Phase)
+pub kept_prepared : (list : Option NetList) (l : NetList) (c : Command) (room made : ℕ) (given addrs : List Addr) (old new : Phase)
     → list ≡ Some l → addrs ≡ given → IsSameButPrepared l c addrs old new
-    → KeepsOfListBy list c kinds room made given old → KeepsOfListBy list c kinds room made given new
-kept_prepared list l c kinds room made given addrs old new is seen same kept =
-    let O : Option NetList → Type 0 = λ o. KeepsOfListBy o c kinds room made given old in
-    let N : Option NetList → Type 0 = λ o. KeepsOfListBy o c kinds room made given new in
+    → KeepsOfListBy list c room made given old → KeepsOfListBy list c room made given new
+kept_prepared list l c room made given addrs old new is seen same kept =
+    let O : Option NetList → Type 0 = λ o. KeepsOfListBy o c room made given old in
+    let N : Option NetList → Type 0 = λ o. KeepsOfListBy o c room made given new in
     let A : List Addr → Type 0 = λ a. IsSameButPrepared l c a old new in
-    let before_that : KeepsOfList l c kinds room made given old = subst O is kept in
+    let before_that : KeepsOfList l c room made given old = subst O is kept in
     let goes_on : IsSameButPrepared l c given old new = subst A seen same in
     subst N (sym is) (record {
-      kinds_is = before_that.kinds_is;
       room_is = before_that.room_is;
       stands = goes_on.stands (length (sets_of l)) made before_that.stands;
       keeps = goes_on.keeps before_that.keeps;

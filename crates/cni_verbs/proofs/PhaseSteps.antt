@@ -12,8 +12,8 @@ use Rattle.cni_errors.specs.{CommandFields.att_of, declared.answer.Ending.{Endin
 use Rattle.cni_errors.specs.declared.answer.Question.{Question}
 use Rattle.plugin_chain.specs.Wanted.{sets_of, kinds_of, result_of_add}
 use Rattle.cni_verbs.specs.Script as script
-use Rattle.cni_verbs.specs.{Phases.{Awaits, KeepsResult, Stands, IsPhaseOf, is_prepared, state_in}, Script.State}
-use Rattle.cni_verbs.specs.{Script.{advance, IsOpen}, declared.phase.Phase.Phase}
+use Rattle.cni_verbs.specs.Phases.{Awaits, KeepsAhead, Stands, IsPhaseOf, deletions_of, is_prepared, state_in}
+use Rattle.cni_verbs.specs.{Script.{State, advance, IsOpen}, declared.phase.Phase.Phase}
 use Rattle.cni_verbs.specs.declared.phase.Phase.TheVariants as phases
 
 -- ---- what is left of a list
@@ -180,9 +180,9 @@ goes_lease list c sets made old new phase r next is stands all h =
 
 -- the result that is kept
 pub kept_result : (list : NetList) (c : Command) (passed : ℕ) (calls : List Call) (cached : Cached) (addrs : List Addr) (phase : Phase)
-    → phase ≡ phases.AfterLeases calls passed cached → KeepsResult list c addrs phase → cached.result ≡ result_of_add list (att_of c) c.netns addrs
+    → phase ≡ phases.AfterLeases calls passed cached → KeepsAhead list c addrs phase → cached.result ≡ result_of_add list (att_of c) c.netns addrs
 kept_result list c passed calls cached addrs phase is keeps =
-    let K : Phase → Type 0 = λ p. KeepsResult list c addrs p in
+    let K : Phase → Type 0 = λ p. KeepsAhead list c addrs p in
     subst K is keeps
 
 pub goes_after : (list : NetList) (c : Command) (made passed : ℕ) (calls : List Call) (cached : Cached) (addrs : List Addr) (phase : Phase) (r : Reply) (next : Phase)
@@ -200,17 +200,18 @@ goes_cache list c made ending addrs phase r next is h =
     let F : Phase → Type 0 = λ p. Goes list c made addrs addrs p r next in
     subst F (sym is) (at_state list c (made + 1) addrs next (steps_cache list c (made + 1) ending r) h)
 
-pub goes_deleting : (list : NetList) (c : Command) (made passed : ℕ) (ending : Ending) (addrs : List Addr) (phase : Phase) (r : Reply) (next : Phase)
-    → phase ≡ phases.Deleting passed ending
-    → IsOpen (state_in list c addrs phase)
-    → ((kind : Kind) → drop passed (kinds_of list) ≡ kind ∷ drop (passed + 1) (kinds_of list)
+pub goes_deleting : (list : NetList) (c : Command) (made passed : ℕ) (deletions : List Call) (ending : Ending) (addrs : List Addr) (phase : Phase) (r : Reply) (next : Phase)
+    → phase ≡ phases.Deleting deletions passed ending
+    → KeepsAhead list c addrs phase → IsOpen (state_in list c addrs phase)
+    → ((kind : Kind) → deletions ≡ deletions_of list c → drop passed (kinds_of list) ≡ kind ∷ drop (passed + 1) (kinds_of list)
     → IsPhaseOf list c (made + 1) addrs next (script.at_deletion (made + 1) kind (drop (passed + 1) (kinds_of list)) ending r))
     → Goes list c made addrs addrs phase r next
-goes_deleting list c made passed ending addrs phase r next is opens h =
+goes_deleting list c made passed deletions ending addrs phase r next is keeps opens h =
+    let K : Phase → Type 0 = λ p. KeepsAhead list c addrs p in
     let O : Phase → Type 0 = λ p. IsOpen (state_in list c addrs p) in
     let left = item_left (λ kinds. script.deleting kinds ending) (kinds_of list) passed (λ h. h) (subst O is opens) in
     let F : Phase → Type 0 = λ p. Goes list c made addrs addrs p r next in
-    subst F (sym is) (at_state list c (made + 1) addrs next (steps_deletion list c (made + 1) passed left.0 ending r left.1) (h left.0 left.1))
+    subst F (sym is) (at_state list c (made + 1) addrs next (steps_deletion list c (made + 1) passed left.0 ending r left.1) (h left.0 (subst K is keeps) left.1))
 
 pub goes_entry : (list : NetList) (c : Command) (made : ℕ) (addrs : List Addr) (phase : Phase) (r : Reply) (next : Phase)
     → phase ≡ phases.FindingEntry
@@ -254,8 +255,9 @@ awaits list c addrs phases.Leasing h is = tt
 awaits list c addrs phases.Leased h is = cc
 awaits list c addrs (phases.AfterLeases calls passed cached) h is = opens (λ left. script.after_leases left addrs) calls passed (λ h. h) h
 awaits list c addrs (phases.ReadingCache ending) h is = tt
-awaits list c addrs (phases.Deleting passed ending) h is = tt
+awaits list c addrs (phases.Deleting deletions passed ending) h is = tt
 awaits list c addrs phases.FindingEntry h is = tt
+awaits list c addrs (phases.CacheRead ending) h is = cc
 awaits list c addrs (phases.Found cached) h is = cc
 awaits list c addrs (phases.Asking questions passed) h is = opens script.asking questions passed (λ h. h) h
 awaits list c addrs (phases.Changing change) h is = tt

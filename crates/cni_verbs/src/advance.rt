@@ -16,7 +16,7 @@ ghost use Rattle.plugin_chain.specs.Wanted.{sets_of, kinds_of, result_of_add};
 ghost use Rattle.cni_verbs.specs.Script.{IsOpen};
 ghost use Rattle.cni_verbs.specs.Script as script;
 ghost use Rattle.cni_errors.specs.declared.answer.Question.{Question};
-ghost use Rattle.cni_verbs.specs.Phases.{Awaits, KeepsResult, Stands, IsPhaseOf, state_in, state_outside};
+ghost use Rattle.cni_verbs.specs.Phases.{Awaits, KeepsAhead, Stands, IsPhaseOf, deletions_of, state_in, state_outside};
 
 use crate::over::is_changing;
 use crate::phase::Phase;
@@ -69,7 +69,7 @@ fn faulted(number: u64, ending: Ending) -> Ending
 }
 
 /// The ending that a phase holds, taken out ahead of the phase that comes in its place.
-fn taken_out(ending: &mut Ending) -> Ending
+pub(crate) fn taken_out(ending: &mut Ending) -> Ending
     ensures { result ≡ ending.old }
 {
     replace(ending, Ending::Yes)
@@ -205,7 +205,7 @@ fn after_cache(number: u64, ending: &mut Ending, reply: &Reply) -> Phase
     let ending = taken_out(ending);
     match reply {
         Reply::Fault => Phase::Over(faulted(number, ending)),
-        _ => Phase::Deleting(0, ending),
+        _ => Phase::CacheRead(ending),
     }
 }
 
@@ -217,9 +217,10 @@ fn after_deletion(
     reply: &Reply,
 ) -> Option<Phase>
     requires { passed.old < number }
-    ensures { (list : NetList) (c : Command) (addrs : List Addr) (kind : Kind)
+    ensures { (list : NetList) (c : Command) (addrs : List Addr) (kind : Kind) (deletions : List Call)
+        → deletions ≡ deletions_of list c
         → drop passed.old (kinds_of list) ≡ kind ∷ drop (passed.old + 1) (kinds_of list)
-        → IsPhaseOf list c number addrs (unwrap_or result (Phase.Deleting passed.new ending.new))
+        → IsPhaseOf list c number addrs (unwrap_or result (Phase.Deleting deletions passed.new ending.new))
         (script.at_deletion number kind (drop (passed.old + 1) (kinds_of list)) ending.old reply.now) }
 {
     match reply {
@@ -332,7 +333,7 @@ fn next_phase(
     requires few { sets < 2 ^ 32 }
     requires room { sets ≤ vec_capacity given.old }
     ensures ok { (list : NetList) (c : Command) → length (sets_of list) ≡ sets
-        → KeepsResult list c given.old.items phase.old
+        → KeepsAhead list c given.old.items phase.old
         → IsOpen (state_in list c given.old.items phase.old)
         → IfOk result (λ next. IsPhaseOf list c (made + 1) given.new.items (unwrap_or next phase.new)
         (script.advance list c (made + 1) (state_in list c given.old.items phase.old) reply.now)) }
@@ -349,14 +350,17 @@ fn next_phase(
         Phase::Leasing => Ok(Some(after_lease(given, sets, number, reply)?)),
         Phase::AfterLeases { passed, .. } => after_call_after(passed, number, reply),
         Phase::ReadingCache(ending) => Ok(Some(after_cache(number, ending, reply))),
-        Phase::Deleting(passed, ending) => Ok(after_deletion(passed, number, ending, reply)),
+        Phase::Deleting { passed, ending, .. } => {
+            Ok(after_deletion(passed, number, ending, reply))
+        }
         Phase::FindingEntry => Ok(Some(after_entry(number, reply)?)),
         Phase::Asking { questions, passed } => {
             let alloc = *given.allocator();
             Ok(after_question(alloc, questions, passed, number, reply))
         }
         Phase::Changing(_) => Ok(Some(Phase::Over(changed(number, reply)?))),
-        Phase::Begun | Phase::Leased | Phase::Found(_) | Phase::Over(_) => unreachable!(),
+        Phase::Begun | Phase::Leased | Phase::CacheRead(_) | Phase::Found(_) | Phase::Over(_) =>
+            unreachable!(),
     }
 }
 
@@ -375,7 +379,7 @@ pub(crate) fn after(
     requires few { sets < 2 ^ 32 }
     requires room { sets ≤ vec_capacity given.old }
     ensures ok { (list : NetList) (c : Command) → length (sets_of list) ≡ sets
-        → KeepsResult list c given.old.items phase.old
+        → KeepsAhead list c given.old.items phase.old
         → IsOpen (state_in list c given.old.items phase.old)
         → OnOk result (IsPhaseOf list c (made + 1) given.new.items phase.new
         (script.advance list c (made + 1) (state_in list c given.old.items phase.old) reply.now)) }

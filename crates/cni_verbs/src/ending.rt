@@ -1,7 +1,6 @@
 //! What a run answers at its end.
 
 ghost use Rattle.std.specs.Prelude.{◌≡◌, ℕ, List, Some, None, IfOk};
-ghost use Rattle.kernel_types.specs.declared.call.Kind.{Kind};
 ghost use Rattle.cni_verbs.specs.Script.{IsOpen};
 ghost use Rattle.cni_verbs.specs.Endings.{answer_of_ending};
 ghost use Rattle.cni_verbs.specs.Progress.{answer_in};
@@ -13,7 +12,6 @@ use cni_addr::{Addr, Duplicate, NoMemory, RefCounted};
 use cni_errors::fields::named_att_of;
 use cni_errors::{Answer, Ending, plain_answer};
 use cni_result::Version;
-use kernel_types::Kind;
 use net_conf::NetList;
 use plugin_chain::wanted::result_of_add;
 use pod_file::Command;
@@ -58,8 +56,8 @@ fn answer_at_end(
     given: &[Addr],
     phase: &Phase,
 ) -> Result<Answer, NoMemory>
-    requires kept { (kinds : List Kind) × (room : ℕ) × (made : ℕ)
-        × KeepsOfList list.now command.now kinds room made given.now phase.now }
+    requires kept { (room : ℕ) × (made : ℕ)
+        × KeepsOfList list.now command.now room made given.now phase.now }
     requires over { IsOpen (state_in list.now command.now given.now phase.now) → ⊥ }
     ensures { IfOk result (λ answer.
         Some answer ≡ answer_in (Some list.now) command.now (state_in list.now command.now given.now phase.now)) }
@@ -69,7 +67,7 @@ fn answer_at_end(
             let added = cached.get().result.copy()?;
             Ok(Answer::Added(RefCounted::of(alloc, added)?))
         }
-        Phase::Deleting(_, ending) => ended(alloc, list, command, ending, &[]),
+        Phase::Deleting { ending, .. } => ended(alloc, list, command, ending, &[]),
         Phase::Asking { .. } => ended(alloc, list, command, &Ending::Yes, &[]),
         Phase::Over(ending) => ended(alloc, list, command, ending, &[]),
         Phase::AtBegin
@@ -78,6 +76,7 @@ fn answer_at_end(
         | Phase::Leasing
         | Phase::Leased
         | Phase::ReadingCache(_)
+        | Phase::CacheRead(_)
         | Phase::FindingEntry
         | Phase::Found(_)
         | Phase::Changing(_) => unreachable!(),
@@ -89,16 +88,15 @@ pub(crate) fn answer_in(
     alloc: Global,
     list: &NetList,
     command: &Command,
-    kinds: &[Kind],
     given: &[Addr],
     phase: &Phase,
 ) -> Result<Option<Answer>, NoMemory>
     requires { (room : ℕ) × (made : ℕ)
-        × KeepsOfList list.now command.now kinds.now room made given.now phase.now }
+        × KeepsOfList list.now command.now room made given.now phase.now }
     ensures { IfOk result (λ answer.
         answer ≡ answer_in (Some list.now) command.now (state_in list.now command.now given.now phase.now)) }
 {
-    if is_over(kinds, given, phase) {
+    if is_over(given, phase) {
         Ok(Some(answer_at_end(alloc, list, command, given, phase)?))
     } else {
         Ok(None)

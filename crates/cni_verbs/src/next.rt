@@ -3,20 +3,20 @@
 ghost use Rattle.std.specs.Prelude.{◌≡◌, ℕ, ◌<◌, true, Some, length, slice_get, option_map, IfOk};
 ghost use Rattle.kernel_types.specs.declared.call.Call.TheVariants as call;
 ghost use Rattle.cni_errors.specs.CommandFields.{att_of};
-ghost use Rattle.plugin_chain.specs.Wanted.{deletion, result_of_add, sets_of};
+ghost use Rattle.plugin_chain.specs.Wanted.{result_of_add, sets_of};
 ghost use Rattle.cni_verbs.specs.Script.{before_of, back_of, next_call};
-ghost use Rattle.cni_verbs.specs.Phases.{KeepsOfList, is_prepared, state_in, state_outside};
+ghost use Rattle.cni_verbs.specs.Phases.{KeepsOfList, deletions_of, is_prepared, state_in, state_outside};
 
 use crate::mappings::mappings_of;
 use crate::phase::Phase;
 use cni_addr::{Addr, Duplicate, Items, NoMemory, RefCounted};
 use cni_errors::Question;
-use cni_errors::fields::{att_of, named_att_of};
+use cni_errors::fields::att_of;
 use host_local::lease_at;
-use kernel_types::{Call, Kind};
+use kernel_types::{Call, NamedAtt};
 use net_conf::NetList;
 use plugin_chain::plugins::calls_before;
-use plugin_chain::wanted::{Back, back_calls, deletion, sets_of};
+use plugin_chain::wanted::{Back, back_calls, deletion, kinds_of, sets_of};
 use pod_file::Command;
 use std::alloc::Global;
 
@@ -27,12 +27,13 @@ pub(crate) fn before_of(
     alloc: Global,
     list: &NetList,
     command: &Command,
+    names: &NamedAtt,
 ) -> Result<Items<Call>, NoMemory>
+    requires { names.now ≡ att_of command.now }
     ensures calls { IfOk result (λ calls. calls ≡ before_of list.now command.now) }
     ensures some { IfOk result (λ calls. 0 < length calls) }
 {
-    let att = named_att_of(alloc, command)?;
-    calls_before(alloc, &list.first, &att, &command.netns)
+    calls_before(alloc, &list.first, names, &command.netns)
 }
 
 /// The calls of an ADD after its last lease, and its result.
@@ -40,15 +41,32 @@ pub(crate) fn back_of(
     alloc: Global,
     list: &NetList,
     command: &Command,
+    names: &NamedAtt,
     given: &[Addr],
 ) -> Result<Back, NoMemory>
+    requires { names.now ≡ att_of command.now }
     ensures calls { IfOk result (λ back. back.calls ≡ back_of list.now command.now given.now) }
     ensures added { IfOk result (λ back.
         back.cached.result ≡ result_of_add list.now (att_of command.now) command.now.netns given.now) }
 {
-    let att = named_att_of(alloc, command)?;
     let mappings = mappings_of(alloc, list, command)?;
-    back_calls(alloc, list, &att, &command.netns, mappings, given)
+    back_calls(alloc, list, names, &command.netns, mappings, given)
+}
+
+/// The deletion of each kind of the list. A run makes one until nothing is left of its kind, and the history shares it.
+pub(crate) fn deletions_of(
+    alloc: Global,
+    list: &NetList,
+    command: &Command,
+) -> Result<Items<RefCounted<Call>>, NoMemory>
+    ensures { IfOk result (λ calls. calls ≡ deletions_of list.now command.now) }
+{
+    let kinds = kinds_of(alloc, list)?;
+    let mut calls = Vec::with_capacity(alloc, kinds.as_slice().len())?;
+    for kind in kinds.as_slice() {
+        calls.push(RefCounted::of(alloc, deletion(att_of(command)?, *kind))?)?;
+    }
+    Ok(Items::of_vec(calls))
 }
 
 // ---- the next call
@@ -111,24 +129,6 @@ fn cache_get(alloc: Global, command: &Command) -> Result<Option<RefCounted<Call>
 }
 
 #[inline(never)]
-fn deletion_at(
-    alloc: Global,
-    command: &Command,
-    kinds: &[Kind],
-    place: usize,
-) -> Result<Option<RefCounted<Call>>, NoMemory>
-    ensures { IfOk result (λ next. next ≡ option_map (deletion (att_of command.now)) (slice_get kinds.now place)) }
-{
-    match kinds.get(place) {
-        Some(kind) => {
-            let call = deletion(att_of(command)?, *kind);
-            Ok(Some(RefCounted::of(alloc, call)?))
-        }
-        None => Ok(None),
-    }
-}
-
-#[inline(never)]
 fn change_of(change: &RefCounted<Call>) -> Result<Option<RefCounted<Call>>, NoMemory>
     ensures { IfOk result (λ next. next ≡ Some change.now) }
 {
@@ -140,12 +140,11 @@ pub(crate) fn next_of(
     alloc: Global,
     list: &NetList,
     command: &Command,
-    kinds: &[Kind],
     given: &[Addr],
     phase: &Phase,
 ) -> Result<Option<RefCounted<Call>>, NoMemory>
     requires kept { (room : ℕ) × (made : ℕ)
-        × KeepsOfList list.now command.now kinds.now room made given.now phase.now }
+        × KeepsOfList list.now command.now room made given.now phase.now }
     requires prepared { is_prepared phase.now ≡ true }
     ensures { IfOk result (λ next. next ≡ next_call command.now (state_in list.now command.now given.now phase.now)) }
 {
@@ -155,11 +154,15 @@ pub(crate) fn next_of(
         Phase::Leasing => lease_next(alloc, list, command, given.len()),
         Phase::AfterLeases { calls, passed, .. } => call_at(calls.as_slice(), *passed),
         Phase::ReadingCache(_) | Phase::FindingEntry => cache_get(alloc, command),
-        Phase::Deleting(passed, _) => deletion_at(alloc, command, kinds, *passed),
+        Phase::Deleting {
+            deletions,
+            passed,
+            ..
+        } => call_at(deletions.as_slice(), *passed),
         Phase::Asking { questions, passed } => call_asked(questions.as_slice(), *passed),
         Phase::Changing(change) => change_of(change),
         Phase::Over(_) => Ok(None),
-        Phase::Begun | Phase::Leased | Phase::Found(_) => unreachable!(),
+        Phase::Begun | Phase::Leased | Phase::CacheRead(_) | Phase::Found(_) => unreachable!(),
     }
 }
 

@@ -11,7 +11,6 @@ ghost use Rattle.cni_verbs.specs.Phases.{KeepsOfList, state_in, state_outside};
 
 use crate::phase::Phase;
 use cni_addr::Addr;
-use kernel_types::Kind;
 
 fn passed_all<T>(items: &[T], passed: usize) -> bool
     ensures { MatchBool result (length items.now ≤ passed) (passed < length items.now) }
@@ -20,10 +19,11 @@ fn passed_all<T>(items: &[T], passed: usize) -> bool
 }
 
 /// Whether the run of a list is over. One whose calls before or after the leases or whose questions aren't made ahead
-/// yet isn't: an ADD makes a link and ends with its cached result, and a CHECK asks for a link at least.
-pub(crate) fn is_over(kinds: &[Kind], given: &[Addr], phase: &Phase) -> bool
+/// yet isn't: an ADD makes a link and ends with its cached result, and a CHECK asks for a link at least. Nor is one
+/// whose deletions aren't, of which that of the cached result is the last.
+pub(crate) fn is_over(given: &[Addr], phase: &Phase) -> bool
     ensures { (list : NetList) (c : Command) (room made : ℕ)
-        → KeepsOfList list c kinds.now room made given.now phase.now
+        → KeepsOfList list c room made given.now phase.now
         → FalseIff result (IsOpen (state_in list c given.now phase.now)) }
 {
     match phase {
@@ -33,11 +33,16 @@ pub(crate) fn is_over(kinds: &[Kind], given: &[Addr], phase: &Phase) -> bool
         | Phase::Leasing
         | Phase::Leased
         | Phase::ReadingCache(_)
+        | Phase::CacheRead(_)
         | Phase::FindingEntry
         | Phase::Found(_)
         | Phase::Changing(_) => false,
         Phase::AfterLeases { calls, passed, .. } => passed_all(calls.as_slice(), *passed),
-        Phase::Deleting(passed, _) => passed_all(kinds, *passed),
+        Phase::Deleting {
+            deletions,
+            passed,
+            ..
+        } => passed_all(deletions.as_slice(), *passed),
         Phase::Asking { questions, passed } => passed_all(questions.as_slice(), *passed),
         Phase::Over(_) => true,
     }

@@ -32,8 +32,14 @@ pub(crate) enum Phase {
     },
     /// The cached result is read ahead of the deletions.
     ReadingCache(Ending),
-    /// Nothing is left of so many kinds.
-    Deleting(usize, Ending),
+    /// The cached result was read ahead of the deletions, which aren't made ahead yet.
+    CacheRead(Ending),
+    /// Nothing is left of so many kinds. There is a deletion of each kind, which is made until nothing is left of it.
+    Deleting {
+        deletions: Items<RefCounted<Call>>,
+        passed: usize,
+        ending: Ending,
+    },
     /// The cached result is read ahead of the questions of a check.
     FindingEntry,
     /// A CHECK asks about this cached result, and its questions aren't made ahead yet.

@@ -7,7 +7,7 @@ ghost use Rattle.kernel_types.specs.Replies.{holds_text_or_list};
 ghost use Rattle.cni_verbs.specs.Progress.{is_gc, progress, advanced, answer_at};
 ghost use Rattle.cni_verbs.specs.Phases.{IsPhaseOf, state_outside};
 ghost use Rattle.cni_verbs.specs.Script.{IsOpen, start_state, outside_start, next_call};
-ghost use Rattle.plugin_chain.specs.Wanted.{sets_of, kinds_of};
+ghost use Rattle.plugin_chain.specs.Wanted.{sets_of};
 
 use crate::advance::{after, after_outside};
 use crate::ending::{answer_in, answer_outside};
@@ -16,11 +16,11 @@ use crate::over::{is_over, is_over_outside};
 use crate::phase::Phase;
 use crate::prepare::{is_prepared, prepare_phase};
 use crate::start::{first_outside, first_phase};
-use cni_addr::{Addr, Duplicate, Items, NoMemory, RefCounted};
+use cni_addr::{Addr, Duplicate, NoMemory, RefCounted};
 use cni_errors::Answer;
-use kernel_types::{Call, Kind, Reply};
+use kernel_types::{Call, NamedAtt, Reply};
 use net_conf::NetList;
-use plugin_chain::wanted::{kinds_of, sets_of};
+use plugin_chain::wanted::sets_of;
 use pod_file::Command;
 use std::alloc::Global;
 use std::marker::Model;
@@ -30,15 +30,18 @@ use std::marker::Model;
 pub struct Run {
     list: Option<RefCounted<NetList>>,
     command: Command,
+    // Of an ADD, the names of its attachment, from the calls before the leases to those after them.
+    names: Option<NamedAtt>,
     made: u64,
     phase: Phase,
-    kinds: Items<Kind>,
     // With room for one address of each set, so that a lease takes no memory.
     given: Vec<Addr>,
 }
 
 impl Model for Run {
-    ghost use Rattle.std.specs.Prelude.{vec_capacity};
+    ghost use Rattle.std.specs.Prelude.{◌≡◌, vec_capacity};
+    ghost use Rattle.std.specs.Option.{ForSome};
+    ghost use Rattle.cni_errors.specs.CommandFields.{att_of};
     ghost use Rattle.cni_verbs.specs.Phases.{KeepsOfListBy, is_prepared_by, state_by_phase};
     ghost use Rattle.cni_verbs.specs.Progress.{RunView};
 
@@ -55,7 +58,8 @@ impl Model for Run {
     } };
 
     ghost invariant = { λ r.
-        KeepsOfListBy r.list r.command r.kinds (vec_capacity r.given) r.made r.given.items r.phase };
+        KeepsOfListBy r.list r.command (vec_capacity r.given) r.made r.given.items r.phase
+        × ForSome r.names (λ names. names ≡ att_of r.command) };
 }
 
 impl Run {
@@ -64,7 +68,7 @@ impl Run {
     ///
     /// It shares the list, copies the command, and keeps both until it is dropped. Texts are shared too, so that takes
     /// time and memory in proportion to the mappings and valid attachments of the command. Whatever the verb, it makes
-    /// besides the kinds of a DEL and room for an address of each range set, both in proportion to the list.
+    /// besides room for an address of each range set.
     pub fn start(
         alloc: Global,
         list: Option<&RefCounted<NetList>>,
@@ -88,23 +92,15 @@ impl Run {
         ensures { IfOk result (λ run. run.progress ≡ progress (Some list.now) command.now []) }
     {
         let conf = list.get();
-        let kinds = kinds_of(alloc, conf)?;
         let given = Vec::with_capacity(alloc, sets_of(conf).len())?;
         let list_copy = list.copy()?;
         let command_copy = command.copy()?;
         let phase = first_phase(alloc, conf, command)?;
-        Ok(Run::begun(list_copy, command_copy, phase, kinds, given))
+        Ok(Run::begun(list_copy, command_copy, phase, given))
     }
 
-    fn begun(
-        list: RefCounted<NetList>,
-        command: Command,
-        phase: Phase,
-        kinds: Items<Kind>,
-        given: Vec<Addr>,
-    ) -> Run
+    fn begun(list: RefCounted<NetList>, command: Command, phase: Phase, given: Vec<Addr>) -> Run
         requires phase { IsPhaseOf list command 0 [] phase (start_state list command) }
-        requires kinds { kinds ≡ kinds_of list }
         requires room { length (sets_of list) ≤ vec_capacity given }
         requires empty { given.items ≡ [] }
         ensures { result.progress ≡ progress (Some list) command [] }
@@ -112,9 +108,9 @@ impl Run {
         let run = Run {
             list: Some(list),
             command,
+            names: None,
             made: 0,
             phase,
-            kinds,
             given,
         };
         run
@@ -135,9 +131,9 @@ impl Run {
         let run = Run {
             list: None,
             command,
+            names: None,
             made: 0,
             phase,
-            kinds: Items::new(alloc),
             given: Vec::new(alloc),
         };
         run
@@ -169,16 +165,23 @@ impl Run {
     // Apart from `prepare`, so that a step doesn't clear a stack for what is made ahead once or twice a run.
     #[inline(never)]
     fn make_ahead(&mut self) -> Result<(), NoMemory>
+        requires { self.old.prepared ≡ false }
         ensures same { self.new.progress ≡ self.old.progress }
         ensures ready { OnOk result (self.new.prepared ≡ true) }
         ensures left { OnErr result (self.new.prepared ≡ self.old.prepared) }
     {
         let alloc = *self.given.allocator();
-        if let Some(list) = &self.list {
-            let given = self.given.as_slice();
-            prepare_phase(alloc, list.get(), &self.command, given, &mut self.phase)?;
+        match &self.list {
+            Some(list) => prepare_phase(
+                alloc,
+                list.get(),
+                &self.command,
+                &mut self.names,
+                self.given.as_slice(),
+                &mut self.phase,
+            ),
+            None => unreachable!(),
         }
-        Ok(())
     }
 
     /// The call to make next, or none where the run is over. A call that is made ahead is shared, and each other is
@@ -192,7 +195,6 @@ impl Run {
                 *self.given.allocator(),
                 list.get(),
                 &self.command,
-                self.kinds.as_slice(),
                 self.given.as_slice(),
                 &self.phase,
             ),
@@ -260,9 +262,8 @@ impl Run {
     {
         match &self.list {
             Some(_) => {
-                let kinds = self.kinds.as_slice();
                 let given = self.given.as_slice();
-                is_over(kinds, given, &self.phase)
+                is_over(given, &self.phase)
             }
             None => is_over_outside(&self.phase),
         }
@@ -278,7 +279,6 @@ impl Run {
                 alloc,
                 list.get(),
                 &self.command,
-                self.kinds.as_slice(),
                 self.given.as_slice(),
                 &self.phase,
             ),

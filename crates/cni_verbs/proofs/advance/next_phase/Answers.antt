@@ -36,8 +36,8 @@ returns-in-ReadingCache-clause-ok c = λ list command sets keeps opens.
 
 pub returns-in-Deleting-clause-ok : goal.returns-in-Deleting-clause-ok
 returns-in-Deleting-clause-ok c = λ list command sets keeps opens.
-    goes_deleting list command c.args.made _ _ c.args.given.now.items c.args.phase.now c.args.reply.now _
-    c.in-Deleting.is opens (c.after_deletion.ensures list command c.args.given.now.items)
+    goes_deleting list command c.args.made _ _ _ c.args.given.now.items c.args.phase.now c.args.reply.now _
+    c.in-Deleting.is keeps opens (λ kind. c.after_deletion.ensures list command c.args.given.now.items kind _)
 
 pub returns-in_ok-after_entry-in-FindingEntry-clause-ok : goal.returns-in_ok-after_entry-in-FindingEntry-clause-ok
 returns-in_ok-after_entry-in-FindingEntry-clause-ok c = λ list command sets keeps opens.

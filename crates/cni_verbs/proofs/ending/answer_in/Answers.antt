@@ -9,7 +9,7 @@ not-open s true is h = h
 not-open s false is h = absurd cc
 
 pub answer_at_end-requires-clause-kept : goal.answer_at_end-requires-clause-kept
-answer_at_end-requires-clause-kept c = (c.args.kinds.now, c.requires.0, c.requires.1, c.requires.2)
+answer_at_end-requires-clause-kept c = (c.requires.0, c.requires.1, c.requires.2)
 
 pub answer_at_end-requires-clause-over : goal.answer_at_end-requires-clause-over
 answer_at_end-requires-clause-over c =

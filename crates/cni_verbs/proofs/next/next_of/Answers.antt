@@ -13,13 +13,13 @@ pub returns-in-BeforeLeases : goal.returns-in-BeforeLeases
 returns-in-BeforeLeases c =
     ok_by c.call_at.result
     (ap (λ calls. slice_get calls c.in-BeforeLeases.passed) c.as_slice.ensures
-    ∙ next_before c.args.list.now c.args.command.now c.args.kinds.now c.requires.kept.0 c.requires.kept.1 _ _ c.args.given.now c.args.phase.now c.requires.kept.2 c.in-BeforeLeases.is)
+    ∙ next_before c.args.list.now c.args.command.now c.requires.kept.0 c.requires.kept.1 _ _ c.args.given.now c.args.phase.now c.requires.kept.2 c.in-BeforeLeases.is)
     c.call_at.ensures
 
 pub returns-in-Leasing : goal.returns-in-Leasing
 returns-in-Leasing c =
     ok_by c.lease_next.result
-    (next_lease c.args.list.now c.args.command.now c.args.kinds.now c.requires.kept.0 c.requires.kept.1 c.args.given.now c.args.phase.now c.requires.kept.2 c.in-Leasing.is)
+    (next_lease c.args.list.now c.args.command.now c.requires.kept.0 c.requires.kept.1 c.args.given.now c.args.phase.now c.requires.kept.2 c.in-Leasing.is)
     c.lease_next.ensures
 
 pub returns-in-AfterLeases : goal.returns-in-AfterLeases
@@ -34,9 +34,10 @@ returns-in-ReadingCache c =
 
 pub returns-in-Deleting : goal.returns-in-Deleting
 returns-in-Deleting c =
-    ok_by c.deletion_at.result
-    (next_deletion c.args.list.now c.args.command.now c.args.kinds.now c.requires.kept.0 c.requires.kept.1 _ _ c.args.given.now c.args.phase.now c.requires.kept.2 c.in-Deleting.is)
-    c.deletion_at.ensures
+    ok_by c.call_at-in-Deleting.result
+    (ap (λ calls. slice_get calls c.in-Deleting.passed) c.as_slice-in-Deleting.ensures
+    ∙ next_deletion c.args.list.now c.args.command.now c.requires.kept.0 c.requires.kept.1 _ _ _ c.args.given.now c.args.phase.now c.requires.kept.2 c.in-Deleting.is)
+    c.call_at-in-Deleting.ensures
 
 pub returns-in-Asking : goal.returns-in-Asking
 returns-in-Asking c =

@@ -4,9 +4,11 @@ use Rattle.cni_verbs.proofs.NextCalls.{kept_at_start, seen_at_start}
 use Rattle.cni_verbs.proofs.run.Run.begun.Goals as goal
 
 pub invariant_of-run : goal.invariant_of-run
-invariant_of-run c =
-    kept_at_start c.args.list c.args.command c.args.kinds _ c.args.given.items c.args.phase
-    c.requires.phase c.requires.kinds c.requires.room c.requires.empty
+invariant_of-run c = (
+  kept_at_start c.args.list c.args.command _ c.args.given.items c.args.phase
+      c.requires.phase c.requires.room c.requires.empty,
+  λ names is. absurd cc,
+)
 
 pub returns : goal.returns
 returns c =

@@ -4,13 +4,9 @@ use Rattle.cni_verbs.proofs.NextCalls.{kept_prepared}
 use Rattle.cni_verbs.proofs.run.Run.make_ahead.Goals as goal
 
 pub invariant_of-self : goal.invariant_of-self
-invariant_of-self c =
-    kept_prepared c.self.inside.list c.get.result.now c.self.inside.command c.self.inside.kinds (vec_capacity c.self.inside.given) c.self.inside.made
-    c.self.inside.given.items c.as_slice-given.result.now c.self.inside.phase c.prepare_phase.new.phase
-    (c.in-Some.is ∙ ap Some (sym c.get.ensures)) c.as_slice-given.ensures.value c.prepare_phase.ensures.same c.self.invariant
-
-pub invariant_of-self-in_err-prepare_phase : goal.invariant_of-self-in_err-prepare_phase
-invariant_of-self-in_err-prepare_phase c =
-    kept_prepared c.self.inside.list c.get.result.now c.self.inside.command c.self.inside.kinds (vec_capacity c.self.inside.given) c.self.inside.made
-    c.self.inside.given.items c.as_slice-given.result.now c.self.inside.phase c.prepare_phase.new.phase
-    (c.in-Some.is ∙ ap Some (sym c.get.ensures)) c.as_slice-given.ensures.value c.prepare_phase.ensures.same c.self.invariant
+invariant_of-self c = (
+  kept_prepared c.self.inside.list c.get.result.now c.self.inside.command (vec_capacity c.self.inside.given) c.self.inside.made
+      c.self.inside.given.items c.as_slice.result.now c.self.inside.phase c.prepare_phase.new.phase
+      (c.in-Some.is ∙ ap Some (sym c.get.ensures)) c.as_slice.ensures.value c.prepare_phase.ensures.same c.self.invariant.0,
+  c.prepare_phase.ensures.names,
+)

@@ -1,6 +1,5 @@
 use Rattle.std.proofs.Common.{◌∙◌, [], Some, sym, ap}
 use Rattle.cni_verbs.specs.Progress.{progress}
-use Rattle.plugin_chain.specs.Wanted.{kinds_of}
 use Rattle.cni_verbs.proofs.NextCalls.{starts_for}
 use Rattle.cni_verbs.proofs.run.Run.of_list.Goals as goal
 
@@ -8,9 +7,6 @@ pub begun-requires-clause-phase : goal.begun-requires-clause-phase
 begun-requires-clause-phase c =
     starts_for c.get-conf.result.now c.in_ok-list_copy.list_copy c.args.command.now c.in_ok-command_copy.command_copy c.in_ok-phase.phase
     (c.in_ok-list_copy.ensures ∙ sym c.get-conf.ensures) c.in_ok-command_copy.ensures c.in_ok-phase.ensures
-
-pub begun-requires-clause-kinds : goal.begun-requires-clause-kinds
-begun-requires-clause-kinds c = c.in_ok-kinds.ensures ∙ ap kinds_of (c.get-conf.ensures ∙ sym c.in_ok-list_copy.ensures)
 
 pub returns : goal.returns
 returns c =
