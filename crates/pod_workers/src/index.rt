@@ -50,9 +50,7 @@ fn index_round(
     let mut latest: BTreeMap<&str, u32> = BTreeMap::new(alloc);
     for (within, command) in commands.iter().enumerate() {
         let number = places.len() as u32;
-        let container = command.container.as_str();
-        let previous = latest.get(container).copied();
-        latest.insert(container, number)?;
+        let previous = latest.insert(command.container.as_str(), number)?;
         places.push(Place {
             round,
             within: within as u32,

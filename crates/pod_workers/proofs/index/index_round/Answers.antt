@@ -1,5 +1,4 @@
-use Rattle.std.proofs.Common.{◌≡◌, ℕ, List, Option, Some, cond, length, ◌∙◌, ap, arith}
-use Rattle.std.proofs.lemmas.Map.Text.{btree_map_updates_str}
+use Rattle.std.proofs.{Common.{◌≡◌, ℕ, List, Some, cond, length, ◌∙◌, ap, arith}, lemmas.Map.Text.btree_map_updates_str}
 use Rattle.std.specs.{BTreeMap.is_at, Cmp.Lexicographic.slice_cmp, Map.lookup, Ordering.nat_cmp, Str.bytes_eq}
 use Rattle.pod_workers.specs.declared.index.Place.{Place}
 use Rattle.pod_workers.proofs.Indexed.{all-indexed, at_text, count-more, indexed-more, nothing-indexed}
@@ -17,11 +16,11 @@ loop-within-preserved c =
     let number : c.len-number.result ≡ length c.loop-within.places.items = omega (arith, c.len-number.ensures, c.loop-within.places.ok.0) in
     let before_it = at_text c.loop-within.latest in
     let grown : (q : List ℕ) → at_text c.insert.new.self q ≡ cond (bytes_eq container q) (Some (length c.loop-within.places.items)) (before_it q) =
-    λ q. btree_map_updates_str _ c.loop-within.latest c.insert.new.self _ c.in_ok-insert.ensures.updates q
-    ∙ ap (λ k. cond (bytes_eq k q) (Some c.len-number.result) (before_it q)) c.as_str-container.ensures
+    λ q. btree_map_updates_str _ c.loop-within.latest c.insert.new.self _ c.in_ok-previous.ensures.updates q
+    ∙ ap (λ k. cond (bytes_eq k q) (Some c.len-number.result) (before_it q)) c.as_str.ensures
     ∙ ap (λ v. cond (bytes_eq container q) (Some v) (before_it q)) number in
-    let previous : c.copied-previous.result ≡ before_it container = c.copied-previous.ensures ∙ c.get.ensures.value ∙ ap before_it c.as_str-container.ensures in
-    let place : Place = record { round = c.args.round; within = c.loop-within.within; previous = c.copied-previous.result } in
+    let previous : c.in_ok-previous.previous ≡ before_it container = c.in_ok-previous.ensures.old ∙ ap before_it c.as_str.ensures in
+    let place : Place = record { round = c.args.round; within = c.loop-within.within; previous = c.in_ok-previous.previous } in
     record {
       count = count-more _ _ place _ _ c.in_ok-push.ensures.items c.loop-within.invariant.count;
       indexed = λ rounds before is earlier index.
