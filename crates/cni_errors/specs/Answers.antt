@@ -90,13 +90,13 @@ on_link_text word ns link cidr = named_text word ns (spaced link (cidr_text cidr
 -- an object by its key, a rule by its place
 abbrev pub missed_text : Missed → List ℕ
 missed_text (missed.Bridge name) = spaced (codes "bridge") name
-missed_text (missed.Link ns name) = named_text (codes "link") ns name
-missed_text (missed.Address ns link cidr) = on_link_text (codes "address") ns link cidr
-missed_text (missed.Route ns link dst) = on_link_text (codes "route") ns link dst
-missed_text (missed.Rule table chain number) =
-    codes "rule " ++ table_text table ++ codes " " ++ chain_text chain ++ codes " " ++ decimal number
-missed_text (missed.Setting ns key) = named_text (codes "setting") ns key
-missed_text (missed.Lease addr) = spaced (codes "lease") (addr_text addr)
+missed_text (missed.Link l) = named_text (codes "link") l.ns l.name
+missed_text (missed.Address a) = on_link_text (codes "address") a.ns a.link a.cidr
+missed_text (missed.Route r) = on_link_text (codes "route") r.ns r.link r.dst
+missed_text (missed.Rule r number) =
+    codes "rule " ++ table_text r.table ++ codes " " ++ chain_text r.chain ++ codes " " ++ decimal number
+missed_text (missed.Setting s) = named_text (codes "setting") s.ns s.key
+missed_text (missed.Lease l) = spaced (codes "lease") (addr_text l.addr)
 
 abbrev pub details_of : Command → Cause → List ℕ
 details_of c (BadFields wrong) = []

@@ -11,23 +11,23 @@ abbrev pub asks_for : Object → Missed → Question
 asks_for object what = record { call = HasObj (Whole object); lack = Missing what }
 
 abbrev pub link_question : Link → Question
-link_question l = asks_for (objects.Link l) (missed.Link l.ns l.name)
+link_question l = asks_for (objects.Link l) (missed.Link l)
 
 abbrev pub address_question : AddrObj → Question
-address_question a = asks_for (objects.Address a) (missed.Address a.ns a.link a.cidr)
+address_question a = asks_for (objects.Address a) (missed.Address a)
 
 abbrev pub route_question : RouteObj → Question
-route_question r = asks_for (objects.Route r) (missed.Route r.ns r.link r.dst)
+route_question r = asks_for (objects.Route r) (missed.Route r)
 
 -- rules have no names: they are named by their place, from 1
 abbrev pub rule_question : ℕ → Rule → Question
-rule_question number r = asks_for (objects.Rule r) (missed.Rule r.table r.chain number)
+rule_question number r = asks_for (objects.Rule r) (missed.Rule r number)
 
 abbrev pub rule_questions : ℕ → List Rule → List Question
 rule_questions number rules = scan (λ n rule. n + 1) rule_question number rules
 
 abbrev pub setting_question : Setting → Question
-setting_question s = asks_for (objects.Setting s) (missed.Setting s.ns s.key)
+setting_question s = asks_for (objects.Setting s) (missed.Setting s)
 
 abbrev pub lease_question : Lease → Question
-lease_question l = asks_for (objects.Lease l) (missed.Lease l.addr)
+lease_question l = asks_for (objects.Lease l) (missed.Lease l)

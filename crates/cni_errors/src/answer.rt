@@ -1,8 +1,8 @@
 //! What a command is answered, and why an attachment's verb refuses.
 
-use cni_addr::{Addr, Cidr, Items, RefCounted, Text};
+use cni_addr::{Items, RefCounted, Text};
 use cni_result::{AddResult, CniError, Version};
-use kernel_types::{Call, Chain, Table, Tag};
+use kernel_types::{AddrObj, Call, Lease, Link, RouteObj, Rule, Setting, Tag};
 
 /// A verb that a list disables (`disableCheck`, `disableGC`).
 #[derive(Clone, Copy, PartialEq, Eq)]
@@ -39,36 +39,18 @@ pub struct WrongFields {
     pub args: bool,
 }
 
-/// An object that a check found missing, as the error names it.
+/// An object that a check found missing. It shares the object that was asked for, and its error names that.
 #[derive(PartialEq, Eq, Drop)]
 pub enum Missed {
     /// The bridge of this name, with the MAC address of the result.
     Bridge(Text),
-    Link {
-        ns: Text,
-        name: Text,
-    },
-    Address {
-        ns: Text,
-        link: Text,
-        cidr: Cidr,
-    },
-    Route {
-        ns: Text,
-        link: Text,
-        dst: Cidr,
-    },
+    Link(RefCounted<Link>),
+    Address(RefCounted<AddrObj>),
+    Route(RefCounted<RouteObj>),
     /// The number counts the wanted rules from 1.
-    Rule {
-        table: Table,
-        chain: Chain,
-        number: u64,
-    },
-    Setting {
-        ns: Text,
-        key: Text,
-    },
-    Lease(Addr),
+    Rule { rule: RefCounted<Rule>, number: u64 },
+    Setting(RefCounted<Setting>),
+    Lease(RefCounted<Lease>),
 }
 
 /// Why a verb refuses.
@@ -103,7 +85,7 @@ pub enum Cause {
     /// What was to be taken away isn't there (code 105).
     NothingThere,
     /// An object that the cached result names isn't there (code 110).
-    Missing(RefCounted<Missed>),
+    Missing(Missed),
 }
 
 /// A call that asks something, and why the verb refuses where the answer is no.

@@ -147,7 +147,7 @@ fn details_of(alloc: Global, command: &Command, cause: &Cause) -> Result<Text, N
         Cause::Unknown => attachment_text(alloc, &att_of(command)?),
         Cause::MasterAbsent(name) => spaced(alloc, "master", name.as_str()),
         Cause::NothingThere => command.ifname.copy(),
-        Cause::Missing(missed) => missed_text(alloc, missed.get()),
+        Cause::Missing(missed) => missed_text(alloc, missed),
         Cause::BadFields(_) | Cause::IpArgument(_) | Cause::BadMapping | Cause::NoMaster => {
             Text::of(alloc, "")
         }

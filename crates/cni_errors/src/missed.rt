@@ -4,10 +4,10 @@ ghost use Rattle.std.specs.Prelude.{◌≡◌, IfOk};
 ghost use Rattle.cni_errors.specs.Answers as answers;
 
 use crate::answer::Missed;
-use cni_addr::{Addr, Cidr, NoMemory, Text, write_addr, write_cidr};
+use cni_addr::{Cidr, NoMemory, Text, write_addr, write_cidr};
 use kernel_text::texts::chain_text;
 use kernel_types::terms::is_host_ns;
-use kernel_types::{Chain, Table, table_text};
+use kernel_types::{AddrObj, Lease, Link, RouteObj, Rule, Setting, table_text};
 use std::alloc::Global;
 
 fn place_text(ns: &str) -> &str
@@ -46,21 +46,45 @@ fn on_link_text(
     named_text(alloc, word, ns, &on_link)
 }
 
-fn rule_text(alloc: Global, table: Table, chain: Chain, number: u64) -> Result<Text, NoMemory>
-    ensures { IfOk result (λ text. text ≡ answers.missed_text (Missed.Rule table chain number)) }
+fn link_text(alloc: Global, link: &Link) -> Result<Text, NoMemory>
+    ensures { IfOk result (λ text. text ≡ answers.missed_text (Missed.Link link.now)) }
 {
-    let table = table_text(table);
-    let chain = chain_text(chain);
+    named_text(alloc, "link", &link.ns, &link.name)
+}
+
+fn address_text(alloc: Global, address: &AddrObj) -> Result<Text, NoMemory>
+    ensures { IfOk result (λ text. text ≡ answers.missed_text (Missed.Address address.now)) }
+{
+    on_link_text(alloc, "address", &address.ns, &address.link, &address.cidr)
+}
+
+fn route_text(alloc: Global, route: &RouteObj) -> Result<Text, NoMemory>
+    ensures { IfOk result (λ text. text ≡ answers.missed_text (Missed.Route route.now)) }
+{
+    on_link_text(alloc, "route", &route.ns, &route.link, &route.dst)
+}
+
+fn rule_text(alloc: Global, rule: &Rule, number: u64) -> Result<Text, NoMemory>
+    ensures { IfOk result (λ text. text ≡ answers.missed_text (Missed.Rule rule.now number)) }
+{
+    let table = table_text(rule.table);
+    let chain = chain_text(rule.chain);
     Text::of(
         alloc,
         format!(in alloc; "rule {table} {chain} {number}")?.as_str(),
     )
 }
 
-fn lease_text(alloc: Global, addr: &Addr) -> Result<Text, NoMemory>
-    ensures { IfOk result (λ text. text ≡ answers.missed_text (Missed.Lease addr.now)) }
+fn setting_text(alloc: Global, setting: &Setting) -> Result<Text, NoMemory>
+    ensures { IfOk result (λ text. text ≡ answers.missed_text (Missed.Setting setting.now)) }
 {
-    let address = write_addr(alloc, addr)?;
+    named_text(alloc, "setting", &setting.ns, &setting.key)
+}
+
+fn lease_text(alloc: Global, lease: &Lease) -> Result<Text, NoMemory>
+    ensures { IfOk result (λ text. text ≡ answers.missed_text (Missed.Lease lease.now)) }
+{
+    let address = write_addr(alloc, &lease.addr)?;
     spaced(alloc, "lease", address.as_str())
 }
 
@@ -71,15 +95,11 @@ pub(crate) fn missed_text(alloc: Global, missed: &Missed) -> Result<Text, NoMemo
 {
     match missed {
         Missed::Bridge(name) => spaced(alloc, "bridge", name.as_str()),
-        Missed::Link { ns, name } => named_text(alloc, "link", ns, name),
-        Missed::Address { ns, link, cidr } => on_link_text(alloc, "address", ns, link, cidr),
-        Missed::Route { ns, link, dst } => on_link_text(alloc, "route", ns, link, dst),
-        Missed::Rule {
-            table,
-            chain,
-            number,
-        } => rule_text(alloc, *table, *chain, *number),
-        Missed::Setting { ns, key } => named_text(alloc, "setting", ns, key),
-        Missed::Lease(addr) => lease_text(alloc, addr),
+        Missed::Link(link) => link_text(alloc, link.get()),
+        Missed::Address(address) => address_text(alloc, address.get()),
+        Missed::Route(route) => route_text(alloc, route.get()),
+        Missed::Rule { rule, number } => rule_text(alloc, rule.get(), *number),
+        Missed::Setting(setting) => setting_text(alloc, setting.get()),
+        Missed::Lease(lease) => lease_text(alloc, lease.get()),
     }
 }

@@ -27,7 +27,7 @@ pub fn asks_for(alloc: Global, object: Object, missed: Missed) -> Result<Questio
     let probe = Probe::Whole(object);
     Ok(Question {
         call: RefCounted::of(alloc, Call::HasObj { probe })?,
-        lack: Cause::Missing(RefCounted::of(alloc, missed)?),
+        lack: Cause::Missing(missed),
     })
 }
 
@@ -37,11 +37,9 @@ impl Checked for Link {
     ghost question = { link_question };
 
     fn ask(self, alloc: Global) -> Result<Question, NoMemory> {
-        let missed = Missed::Link {
-            ns: self.ns.copy()?,
-            name: self.name.copy()?,
-        };
-        asks_for(alloc, Object::Link(RefCounted::of(alloc, self)?), missed)
+        let link = RefCounted::of(alloc, self)?;
+        let missed = Missed::Link(link.copy()?);
+        asks_for(alloc, Object::Link(link), missed)
     }
 }
 
@@ -51,12 +49,7 @@ impl Checked for RefCounted<AddrObj> {
     ghost question = { address_question };
 
     fn ask(self, alloc: Global) -> Result<Question, NoMemory> {
-        let address = self.get();
-        let missed = Missed::Address {
-            ns: address.ns.copy()?,
-            link: address.link.copy()?,
-            cidr: address.cidr,
-        };
+        let missed = Missed::Address(self.copy()?);
         asks_for(alloc, Object::Address(self), missed)
     }
 }
@@ -67,12 +60,7 @@ impl Checked for RefCounted<RouteObj> {
     ghost question = { route_question };
 
     fn ask(self, alloc: Global) -> Result<Question, NoMemory> {
-        let route = self.get();
-        let missed = Missed::Route {
-            ns: route.ns.copy()?,
-            link: route.link.copy()?,
-            dst: route.dst,
-        };
+        let missed = Missed::Route(self.copy()?);
         asks_for(alloc, Object::Route(self), missed)
     }
 }
@@ -83,11 +71,7 @@ impl Checked for RefCounted<Setting> {
     ghost question = { setting_question };
 
     fn ask(self, alloc: Global) -> Result<Question, NoMemory> {
-        let setting = self.get();
-        let missed = Missed::Setting {
-            ns: setting.ns.copy()?,
-            key: setting.key.copy()?,
-        };
+        let missed = Missed::Setting(self.copy()?);
         asks_for(alloc, Object::Setting(self), missed)
     }
 }
@@ -98,7 +82,7 @@ impl Checked for RefCounted<Lease> {
     ghost question = { lease_question };
 
     fn ask(self, alloc: Global) -> Result<Question, NoMemory> {
-        let missed = Missed::Lease(self.get().addr);
+        let missed = Missed::Lease(self.copy()?);
         asks_for(alloc, Object::Lease(self), missed)
     }
 }
@@ -112,8 +96,7 @@ pub fn rule_question(
     ensures { IfOk result (λ q. q ≡ asked.rule_question number rule.now) }
 {
     let missed = Missed::Rule {
-        table: rule.get().table,
-        chain: rule.get().chain,
+        rule: rule.copy()?,
         number,
     };
     asks_for(alloc, Object::Rule(rule.copy()?), missed)

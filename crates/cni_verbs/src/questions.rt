@@ -69,7 +69,7 @@ fn bridge_question(alloc: Global, name: &Text, mac: Mac) -> Result<Question, NoM
     let probe = Probe::BridgeAt { name: bridge, mac };
     Ok(Question {
         call: RefCounted::of(alloc, Call::HasObj { probe })?,
-        lack: Cause::Missing(RefCounted::of(alloc, Missed::Bridge(missed))?),
+        lack: Cause::Missing(Missed::Bridge(missed)),
     })
 }
 

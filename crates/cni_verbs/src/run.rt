@@ -141,7 +141,8 @@ impl Run {
 
     /// Makes ahead what the next call is looked up in, where it isn't yet: [`Run::next`] and [`Run::take`] ask for it
     /// after each reply. How far the run has come stays the same, and out of memory the run is as it was: it may be
-    /// prepared again. Linear in the list, the mappings and the leased addresses, once or twice a run.
+    /// prepared again. Linear in the list, the mappings and the leased addresses, at most three times a run: before and
+    /// after the leases of an ADD, and before its deletions where it is refused.
     pub fn prepare(&mut self) -> Result<(), NoMemory>
         ensures same { self.new.progress ≡ self.old.progress }
         ensures ready { OnOk result (self.new.prepared ≡ true) }
@@ -162,7 +163,7 @@ impl Run {
         }
     }
 
-    // Apart from `prepare`, so that a step doesn't clear a stack for what is made ahead once or twice a run.
+    // Apart from `prepare`, so that a step doesn't clear a stack for what is made ahead.
     #[inline(never)]
     fn make_ahead(&mut self) -> Result<(), NoMemory>
         requires { self.old.prepared ≡ false }

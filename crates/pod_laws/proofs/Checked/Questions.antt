@@ -92,23 +92,23 @@ steady-object c equal tag listed q x what same_tag keep asks told lack own = rec
 
 steady-link : (c : Command) (l : Link) → is_own (att_of c) l.tag ≡ true → IsSteadyQuestion c (link_question l)
 steady-link c l own =
-    steady-object c link_eq (λ y. y.tag) (λ host. host.links) (link_question l) l (missed.Link l.ns l.name) link-tag (λ old new keeps. ap (λ (s : Share). s.links) keeps.share) (λ host. refl) refl refl own
+    steady-object c link_eq (λ y. y.tag) (λ host. host.links) (link_question l) l (missed.Link l) link-tag (λ old new keeps. ap (λ (s : Share). s.links) keeps.share) (λ host. refl) refl refl own
 
 steady-address : (c : Command) (a : AddrObj) → is_own (att_of c) a.tag ≡ true → IsSteadyQuestion c (address_question a)
 steady-address c a own =
-    steady-object c addr_obj_eq (λ y. y.tag) (λ host. host.addresses) (address_question a) a (missed.Address a.ns a.link a.cidr) address-tag (λ old new keeps. ap (λ (s : Share). s.addresses) keeps.share) (λ host. refl) refl refl own
+    steady-object c addr_obj_eq (λ y. y.tag) (λ host. host.addresses) (address_question a) a (missed.Address a) address-tag (λ old new keeps. ap (λ (s : Share). s.addresses) keeps.share) (λ host. refl) refl refl own
 
 steady-route : (c : Command) (r : RouteObj) → is_own (att_of c) r.tag ≡ true → IsSteadyQuestion c (route_question r)
 steady-route c r own =
-    steady-object c route_eq (λ y. y.tag) (λ host. host.routes) (route_question r) r (missed.Route r.ns r.link r.dst) route-tag (λ old new keeps. ap (λ (s : Share). s.routes) keeps.share) (λ host. refl) refl refl own
+    steady-object c route_eq (λ y. y.tag) (λ host. host.routes) (route_question r) r (missed.Route r) route-tag (λ old new keeps. ap (λ (s : Share). s.routes) keeps.share) (λ host. refl) refl refl own
 
 steady-setting : (c : Command) (x : Setting) → is_own (att_of c) x.tag ≡ true → IsSteadyQuestion c (setting_question x)
 steady-setting c x own =
-    steady-object c setting_eq (λ y. y.tag) (λ host. host.settings) (setting_question x) x (missed.Setting x.ns x.key) setting-tag (λ old new keeps. ap (λ (s : Share). s.settings) keeps.share) (λ host. refl) refl refl own
+    steady-object c setting_eq (λ y. y.tag) (λ host. host.settings) (setting_question x) x (missed.Setting x) setting-tag (λ old new keeps. ap (λ (s : Share). s.settings) keeps.share) (λ host. refl) refl refl own
 
 steady-lease : (c : Command) (l : Lease) → is_own (att_of c) l.tag ≡ true → IsSteadyQuestion c (lease_question l)
 steady-lease c l own =
-    steady-object c lease_eq (λ y. y.tag) (λ host. host.leases) (lease_question l) l (missed.Lease l.addr) lease-tag (λ old new keeps. ap (λ (s : Share). s.leases) keeps.share) (λ host. refl) refl refl own
+    steady-object c lease_eq (λ y. y.tag) (λ host. host.leases) (lease_question l) l (missed.Lease l) lease-tag (λ old new keeps. ap (λ (s : Share). s.leases) keeps.share) (λ host. refl) refl refl own
 
 steady-rules : (c : Command) (number : ℕ) (rules : List Rule) → list_all (λ r. is_own (att_of c) r.tag) rules ≡ true
     → AllByRecursion (IsSteadyQuestion c) (rule_questions number rules)
@@ -116,7 +116,7 @@ steady-rules c number [] h = tt
 steady-rules c number (r ∷ rs) h =
     let own : is_own (att_of c) r.tag ≡ true = grind (arith, h) in
     let more : list_all (λ x. is_own (att_of c) x.tag) rs ≡ true = grind (arith, h) in (
-      steady-object c rule_eq (λ y. y.tag) (λ host. host.rules) _ r (missed.Rule r.table r.chain number) rule-tag (λ old new keeps. ap (λ (s : Share). s.rules) keeps.share) (λ host. refl) refl refl own,
+      steady-object c rule_eq (λ y. y.tag) (λ host. host.rules) _ r (missed.Rule r number) rule-tag (λ old new keeps. ap (λ (s : Share). s.rules) keeps.share) (λ host. refl) refl refl own,
       steady-rules c (number + 1) rs more,
     )
 
