@@ -1,6 +1,7 @@
--- Sets that tell what a list has.
+-- Sets that tell what a list has, and a list with one more.
 use Rattle.std.specs.{Cmp.Lexicographic.slice_cmp, List.list_any, Ordering.{nat_cmp, ordering_then}, Prelude.{◌≡◌, ℕ}}
-use Rattle.std.specs.{Prelude.{List, Bool}, Str.bytes_eq, declared.cmp.Ordering.Ordering}
+use Rattle.std.specs.{Prelude.{List, [], ◌∷◌, ◌++◌, Bool, Result, Ok}, Str.bytes_eq, declared.cmp.Ordering.Ordering}
+use Rattle.cni_json.specs.Outcome.{◌>>=◌}
 use Rattle.kernel_types.specs.{Terms.is_at, declared.object.Link.Link}
 
 -- names by their bytes
@@ -22,3 +23,9 @@ link_place_cmp p q = ordering_then (name_cmp p.0 q.0) (name_cmp p.1 q.1)
 -- the test tells at which places these links stand
 abbrev pub HasPlaces : (LinkPlace → Bool) → List Link → Type 0
 HasPlaces has links = (ns name : List ℕ) → has (ns, name) ≡ list_any (is_at ns name) links
+
+-- these, and the one that is read next
+abbrev pub with_next : {A E : Type 0} → List A → Result A E → Result (List A) E
+with_next before read = do
+  next ← read
+  Ok (before ++ next ∷ [])

@@ -1,7 +1,7 @@
 //! What is read of an opening so far, in order and by key, so that no name and no place is sought by going through all.
 //! Whoever writes a file chooses its names, and could choose many of one hash, so they are looked up by their order.
 
-ghost use Rattle.std.specs.Prelude.{◌≡◌, [], ◌∷◌, ◌++◌, IfOk};
+ghost use Rattle.std.specs.Prelude.{◌≡◌, [], ◌∷◌, ◌++◌, not, if◌then◌else◌, IfOk};
 ghost use Rattle.std.specs.List.{list_any};
 ghost use Rattle.std.specs.Str.{bytes_eq};
 ghost use Rattle.kernel_types.specs.Terms.{is_at};
@@ -15,7 +15,7 @@ use std::marker::Model;
 /// Names in order.
 #[derive(Drop)]
 pub(crate) struct Names {
-    in_order: Items<Text>,
+    in_order: Vec<Text>,
     keys: BTreeSet<Text>,
 }
 
@@ -26,9 +26,9 @@ impl Model for Names {
 
     ghost Value = { List (List ℕ) };
 
-    ghost view = { λ n. n.in_order };
+    ghost view = { λ n. n.in_order.items };
 
-    ghost invariant = { λ n. HasNames (contains name_cmp n.keys) n.in_order };
+    ghost invariant = { λ n. HasNames (contains name_cmp n.keys) n.in_order.items };
 }
 
 impl Names {
@@ -37,7 +37,7 @@ impl Names {
         ensures { result ≡ [] }
     {
         Names {
-            in_order: Items::new(alloc),
+            in_order: Vec::new(alloc),
             keys: BTreeSet::new(alloc),
         }
     }
@@ -49,17 +49,18 @@ impl Names {
         self.keys.contains(name)
     }
 
-    /// These names and one more. Memory that is refused lets all go.
-    pub(crate) fn with(self, name: Text) -> Result<Names, NoMemory>
-        ensures { IfOk result (λ all. all ≡ self ++ name ∷ []) }
+    /// Puts the name at the end unless it is one of these, and says whether it did. One search does both.
+    pub(crate) fn enter(&mut self, name: Text) -> Result<bool, NoMemory>
+        ensures { IfOk result (λ is_new. (is_new ≡ not (list_any (bytes_eq name) self.old))
+            × (self.new ≡ (if is_new then self.old ++ name ∷ [] else self.old))) }
     {
-        let Names {
-            mut in_order,
-            mut keys,
-        } = self;
-        keys.insert(name.copy()?)?;
-        in_order.push(name)?;
-        Ok(Names { in_order, keys })
+        // room first, so that no key is there without its name
+        self.in_order.reserve(1)?;
+        let is_new = self.keys.insert(name.copy()?)?;
+        if is_new {
+            self.in_order.push(name).unwrap();
+        }
+        Ok(is_new)
     }
 
     pub(crate) fn as_slice(&self) -> &[Text]
@@ -72,7 +73,7 @@ impl Names {
 /// Links in order. The key of a link is its namespace and its name.
 #[derive(Drop)]
 pub(crate) struct PlacedLinks {
-    in_order: Items<Link>,
+    in_order: Vec<Link>,
     places: BTreeSet<(Text, Text)>,
 }
 
@@ -84,9 +85,9 @@ impl Model for PlacedLinks {
 
     ghost Value = { List Link };
 
-    ghost view = { λ l. l.in_order };
+    ghost view = { λ l. l.in_order.items };
 
-    ghost invariant = { λ l. HasPlaces (contains link_place_cmp l.places) l.in_order };
+    ghost invariant = { λ l. HasPlaces (contains link_place_cmp l.places) l.in_order.items };
 }
 
 impl PlacedLinks {
@@ -95,29 +96,26 @@ impl PlacedLinks {
         ensures { result ≡ [] }
     {
         PlacedLinks {
-            in_order: Items::new(alloc),
+            in_order: Vec::new(alloc),
             places: BTreeSet::new(alloc),
         }
     }
 
-    /// Whether a link stands at this place, a namespace and a name.
-    pub(crate) fn has_at(&self, place: &(Text, Text)) -> bool
-        ensures { result ≡ list_any (is_at place.now.0 place.now.1) self.now }
+    /// Puts the link at the end unless one of these stands at its place, and says whether it did. One search does both.
+    pub(crate) fn enter(&mut self, link: Link) -> Result<bool, NoMemory>
+        ensures { IfOk result (λ is_new. (is_new ≡ not (list_any (is_at link.ns link.name) self.old))
+            × (self.new ≡ (if is_new then self.old ++ link ∷ [] else self.old))) }
     {
-        self.places.contains(place)
-    }
-
-    /// These links and one more. Memory that is refused lets all go.
-    pub(crate) fn with(self, link: Link) -> Result<PlacedLinks, NoMemory>
-        ensures { IfOk result (λ all. all ≡ self ++ link ∷ []) }
-    {
-        let PlacedLinks {
-            mut in_order,
-            mut places,
-        } = self;
-        places.insert((link.ns.copy()?, link.name.copy()?))?;
-        in_order.push(link)?;
-        Ok(PlacedLinks { in_order, places })
+        // room first, so that no place is there without its link
+        self.in_order.reserve(1)?;
+        let place = place_of(&link)?;
+        let is_new = self.places.insert(place)?;
+        if is_new {
+            self.in_order.push(link).unwrap();
+        } else {
+            drop(link);
+        }
+        Ok(is_new)
     }
 
     pub(crate) fn as_slice(&self) -> &[Link]
@@ -133,6 +131,13 @@ impl PlacedLinks {
             in_order,
             places: _,
         } = self;
-        in_order
+        Items::of_vec(in_order)
     }
+}
+
+/// The place of a link: its namespace, and its name in it.
+fn place_of(link: &Link) -> Result<(Text, Text), NoMemory>
+    ensures { IfOk result (λ place. place ≡ (link.now.ns, link.now.name)) }
+{
+    Ok((link.ns.copy()?, link.name.copy()?))
 }

@@ -1,9 +1,10 @@
 //! The reader of the opening's links.
 
-ghost use Rattle.std.specs.Prelude.{◌≡◌, [], codes};
+ghost use Rattle.std.specs.Prelude.{◌≡◌, [], ◌∷◌, ◌++◌, codes, OnOk};
 ghost use Rattle.serde_json.specs.View.{view, items_view};
 ghost use Rattle.cni_json.specs.Each.{each_after};
-ghost use Rattle.cni_json.specs.Outcome.{Gives, TellsAs};
+ghost use Rattle.cni_json.specs.Outcome.{Gives, GivesAs, TellsAs};
+ghost use Rattle.pod_file.specs.Indexed.{with_next};
 ghost use Rattle.pod_file.specs.Links as defined;
 ghost use Rattle.pod_file.specs.Refusals.{is_out_of_memory, member_path};
 ghost use Rattle.pod_file.specs.declared.error.PodError.TheVariants as refusal;
@@ -40,42 +41,42 @@ fn all_links(alloc: Global, names: &Names, list: &[Value]) -> Result<Items<Link>
 {
     let mut links = PlacedLinks::new(alloc);
     for member in list {
-        let link = next_link(alloc, names, &links, member)?;
-        links = links.with(link)?;
+        enter_next(alloc, names, &mut links, member)?;
     }
     Ok(links.into_items())
 }
 
-fn next_link(
+fn enter_next(
     alloc: Global,
     names: &Names,
-    before: &PlacedLinks,
+    links: &mut PlacedLinks,
     member: &Value,
-) -> Result<Link, PodError>
-    ensures { Gives is_out_of_memory result (defined.next_link names.now before.now (view member.now)) }
+) -> Result<(), PodError>
+    ensures { GivesAs is_out_of_memory (λ _. links.new) result
+        (with_next links.old (defined.next_link names.now links.old (view member.now))) }
 {
-    link(alloc, names, before, before.as_slice().len(), member)
+    let index = links.as_slice().len();
+    enter_link(alloc, names, links, index, member)
 }
 
 #[tactic(auto, using(cni_json::proofs::Steps::steps), unfolding(crate::specs::Links::link_at))]
-fn link(
+fn enter_link(
     alloc: Global,
     names: &Names,
-    before: &PlacedLinks,
+    links: &mut PlacedLinks,
     index: usize,
     member: &Value,
-) -> Result<Link, PodError>
-    ensures { Gives is_out_of_memory result (defined.link_at names.now before.now index (view member.now)) }
+) -> Result<(), PodError>
+    ensures { GivesAs is_out_of_memory (λ _. links.new) result
+        (with_next links.old (defined.link_at names.now links.old index (view member.now))) }
 {
     need_object(member, || wrong_link(alloc, index))?;
     let name = name(alloc, index, member)?;
     let kind = kind(alloc, index, member)?;
     let ns = ns(alloc, names, index, member)?;
     let mtu = mtu(alloc, index, member)?;
-    let place = (ns, name);
-    not_taken(alloc, before, index, &place)?;
-    let (ns, name) = place;
-    Ok(outside_link(ns, name, kind, mtu))
+    enter_or_refuse(alloc, links, index, outside_link(ns, name, kind, mtu))?;
+    Ok(())
 }
 
 /// A link that was made outside.
@@ -156,18 +157,22 @@ fn mtu(alloc: Global, index: usize, member: &Value) -> Result<u32, PodError>
     }
 }
 
+/// Enters the link where its place is not taken.
 #[tactic(auto, using(cni_json::proofs::Steps::steps), unfolding(crate::specs::Links::not_taken))]
-fn not_taken(
+fn enter_or_refuse(
     alloc: Global,
-    before: &PlacedLinks,
+    links: &mut PlacedLinks,
     index: usize,
-    place: &(Text, Text),
+    link: Link,
 ) -> Result<(), PodError>
-    ensures { Gives is_out_of_memory result (defined.not_taken before.now index place.now.0 place.now.1) }
+    ensures outcome { Gives is_out_of_memory result (defined.not_taken links.old index link.ns link.name) }
+    ensures entered { OnOk result (links.new ≡ links.old ++ link ∷ []) }
 {
-    (!before.has_at(place))
-        .then_some(())
-        .ok_or_else(|| wrong_link(alloc, index))
+    if links.enter(link)? {
+        Ok(())
+    } else {
+        Err(wrong_link(alloc, index))
+    }
 }
 
 fn wrong_link(alloc: Global, index: usize) -> PodError

@@ -1,9 +1,10 @@
 //! The reader of the opening.
 
-ghost use Rattle.std.specs.Prelude.{◌≡◌, [], codes};
+ghost use Rattle.std.specs.Prelude.{[], codes};
 ghost use Rattle.serde_json.specs.View.{view, items_view};
 ghost use Rattle.cni_json.specs.Each.{each_after};
-ghost use Rattle.cni_json.specs.Outcome.{Gives, TellsAs};
+ghost use Rattle.cni_json.specs.Outcome.{Gives, GivesAs, TellsAs};
+ghost use Rattle.pod_file.specs.Indexed.{with_next};
 ghost use Rattle.pod_file.specs.Opening as defined;
 ghost use Rattle.pod_file.specs.Refusals.{is_out_of_memory, member_path};
 ghost use Rattle.pod_file.specs.declared.error.PodError.TheVariants as refusal;
@@ -71,50 +72,51 @@ fn all_namespaces(alloc: Global, list: &[Value]) -> Result<Names, PodError>
 {
     let mut names = Names::new(alloc);
     for member in list {
-        let name = next_namespace(alloc, &names, member)?;
-        names = names.with(name)?;
+        enter_next(alloc, &mut names, member)?;
     }
     Ok(names)
 }
 
-fn next_namespace(alloc: Global, before: &Names, member: &Value) -> Result<Text, PodError>
-    ensures { Gives is_out_of_memory result (defined.next_namespace before.now (view member.now)) }
+fn enter_next(alloc: Global, names: &mut Names, member: &Value) -> Result<(), PodError>
+    ensures { GivesAs is_out_of_memory (λ _. names.new) result
+        (with_next names.old (defined.next_namespace names.old (view member.now))) }
 {
-    namespace(alloc, before, before.as_slice().len(), member)
+    let index = names.as_slice().len();
+    enter_namespace(alloc, names, index, member)
 }
 
 #[tactic(auto, using(cni_json::proofs::Steps::steps))]
-fn namespace(alloc: Global, before: &Names, index: usize, member: &Value) -> Result<Text, PodError>
-    ensures { Gives is_out_of_memory result (defined.namespace_at before.now index (view member.now)) }
+fn enter_namespace(
+    alloc: Global,
+    names: &mut Names,
+    index: usize,
+    member: &Value,
+) -> Result<(), PodError>
+    ensures { GivesAs is_out_of_memory (λ _. names.new) result
+        (with_next names.old (defined.namespace_at names.old index (view member.now))) }
 {
     match member {
-        Value::String(name) => name_or_refused(alloc, before, index, name.as_str()),
+        Value::String(name) => enter_or_refuse(alloc, names, index, name.as_str()),
         _ => Err(wrong_namespace(alloc, index)),
     }
 }
 
+/// Enters a name that is neither the host's nor one that another namespace has.
 #[tactic(auto, using(cni_json::proofs::Steps::steps))]
-fn name_or_refused(
+fn enter_or_refuse(
     alloc: Global,
-    before: &Names,
+    names: &mut Names,
     index: usize,
     name: &str,
-) -> Result<Text, PodError>
-    ensures { Gives is_out_of_memory result (defined.name_or_refused before.now index name.now) }
+) -> Result<(), PodError>
+    ensures { GivesAs is_out_of_memory (λ _. names.new) result
+        (with_next names.old (defined.name_or_refused names.old index name.now)) }
 {
-    let name = Text::of(alloc, name)?;
-    if is_refused_name(before, &name) {
-        Err(wrong_namespace(alloc, index))
+    if !is_host_ns(name) && names.enter(Text::of(alloc, name)?)? {
+        Ok(())
     } else {
-        Ok(name)
+        Err(wrong_namespace(alloc, index))
     }
-}
-
-/// Whether the name is the host's, or one that another namespace has.
-fn is_refused_name(before: &Names, name: &Text) -> bool
-    ensures { result ≡ defined.is_refused_name before.now name.now }
-{
-    is_host_ns(name.as_str()) || before.contains(name)
 }
 
 fn wrong_namespace(alloc: Global, index: usize) -> PodError
