@@ -5,7 +5,8 @@
     imports.py --check  fails where one has another form
 
 check.py looks at it too. A group that is wider than a line goes on in another; a module that gets another name has a
-line of its own, as the prover asks.
+line of its own, as the prover asks. A crate of many proofs has lists of names in `proofs/Names/`: its proofs take what
+stands there from `proofs/Names`, in a group of its own, and what none of them takes is left out there.
 """
 
 import pathlib
@@ -19,22 +20,25 @@ from program import TOP
 from written import settle
 
 WIDTH = 120
+USE = "use "
+# what a list passes on: names, and definitions that may be unfolded too
+PASSED_ON = ("pub use ", "unfoldable pub use ")
 # the modules before a name, and the name: an operator may hold a full stop
 PATH = re.compile(r"((?:[A-Za-z_+][\w+-]*\.)*)(.+)")
 
 
-def statements(lines):
-    """The `use` statements at the head of a file, and the number of the line behind them."""
+def statements(lines, opening=USE):
+    """The statements at the head of a file that begin so, and the numbers of their first line and the one behind."""
     found, at = [], 0
-    while at < len(lines) and lines[at].startswith("--"):
+    while at < len(lines) and lines[at].startswith(("--", *PASSED_ON)) and not lines[at].startswith(opening):
         at += 1
     begin = at
-    while at < len(lines) and lines[at].startswith("use "):
+    while at < len(lines) and lines[at].startswith(opening):
         text = lines[at]
         while text.count("{") > text.count("}"):
             at += 1
             text += " " + lines[at].strip()
-        found.append(text[4:])
+        found.append(text.removeprefix(opening))
         at += 1
     return begin, found, at
 
@@ -70,6 +74,12 @@ def names(statement):
     return [f"{path}.{name}" for part in split_group(group) for name in names(part)]
 
 
+def names_in(text, openings=(USE,)):
+    """Each name that the statements at the head of a file import or pass on."""
+    lines = text.split("\n")
+    return [name for opening in openings for it in statements(lines, opening)[1] for name in names(it)]
+
+
 def path_of(name):
     """The modules of a path, and the name, which is one part with its `as`."""
     modules, last = PATH.fullmatch(name).groups()
@@ -93,56 +103,80 @@ def text_of(tree):
 
 
 def side_of(parts):
-    """What one statement imports from: a crate's definitions or its proofs, or a module of its own."""
-    return tuple(parts[:3]) if parts[0] == "Rattle" and len(parts) > 3 else tuple(parts[:-1])
+    """What one statement imports from: a crate's definitions, its proofs or its lists, or a module of its own."""
+    if parts[0] != "Rattle" or len(parts) < 4:
+        return tuple(parts[:-1])
+    return tuple(parts[: 4 if parts[2:4] == ["proofs", "Names"] else 3])
 
 
-def statement_of(some):
+def statement_of(some, opening):
     """One statement. A name that stands alone is in braces too."""
     text = text_of(tree_of(some))
     if not text.endswith("}"):
         *modules, name = path_of(text)
         text = ".".join([*modules, "{" + name + "}"])
-    return f"use {text}"
+    return opening + text
 
 
-def group_of(all_names):
+def group_of(all_names, opening):
     """The statements of one side, by its modules in order, each as long as a line takes."""
     lines, some = [], []
     for name in sorted(all_names, key=lambda name: path_of(name)[:-1]):
-        if some and len(statement_of([*some, name])) > WIDTH:
-            lines.append(statement_of(some))
+        if some and len(statement_of([*some, name], opening)) > WIDTH:
+            lines.append(statement_of(some, opening))
             some = []
         some.append(name)
-    return [*lines, statement_of(some)]
+    return [*lines, statement_of(some, opening)]
 
 
-def head_of(found):
-    """The head of a file: a statement for each side, and one for each module that gets another name."""
+def head_of(found, opening, roads):
+    """The head of a file: a statement for each side, and one for each module that gets another name. A name is taken by
+    the road that it has, if any, and left out where that is none."""
     sides = {}
     for statement in found:
         if not statement.endswith("}"):
             sides[statement] = None
             continue
-        for name in names(statement):
-            sides.setdefault(side_of(path_of(name)), []).append(name)
+        for name in filter(None, (roads.get(it, it) for it in names(statement))):
+            sides.setdefault(side_of(path_of(name)), {})[name] = None
     return [
         line
         for side, all_names in sides.items()
-        for line in ([f"use {side}"] if all_names is None else group_of(all_names))
+        for line in ([opening + side] if all_names is None else group_of(all_names, opening))
     ]
 
 
-def mended(text):
+def mended(text, roads, opening=USE):
     lines = text.split("\n")
-    begin, found, end = statements(lines)
-    return "\n".join(lines[:begin] + head_of(found) + lines[end:])
+    begin, found, end = statements(lines, opening)
+    return "\n".join(lines[:begin] + head_of(found, opening, roads) + lines[end:])
+
+
+def listed_in(crate, texts):
+    """The names on a crate's lists, each with the path by which its proofs take it."""
+    listed = [name for text in texts for name in names_in(text, PASSED_ON)]
+    return {it: f"Rattle.{crate.name}.proofs.Names.{path_of(it)[-1].split(' as ')[-1]}" for it in listed}
+
+
+def heads_of(crate):
+    """Each file of definitions or proofs of a crate with the text that it should have."""
+    texts = {path: path.read_text(encoding="utf-8") for path in sorted(crate.glob("*/**/*.antt"))}
+    lists = {path: text for path, text in texts.items() if path.parent == crate / "proofs" / "Names"}
+    paths = listed_in(crate, lists.values())
+    for path in texts.keys() - lists.keys():
+        texts[path] = mended(texts[path], paths if path.is_relative_to(crate / "proofs") else {})
+    taken = {name for path in texts.keys() - lists.keys() for name in names_in(texts[path])}
+    kept = {name: name if path in taken else None for name, path in paths.items()}
+    for path, text in lists.items():
+        for opening in PASSED_ON:
+            text = mended(text, kept, opening)
+        texts[path] = text
+    return texts
 
 
 def heads():
     """Each file of definitions or proofs with the text that it should have."""
-    paths = sorted((TOP / "crates").glob("*/*/**/*.antt"))
-    return {path: mended(path.read_text(encoding="utf-8")) for path in paths}
+    return {path: text for crate in sorted((TOP / "crates").iterdir()) for path, text in heads_of(crate).items()}
 
 
 def main():
