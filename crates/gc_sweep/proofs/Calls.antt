@@ -1,23 +1,18 @@
 -- Each call of a GC lowers a weight, so there are few.
-use Rattle.std.proofs.Common.{◌≡◌, ℕ, ◌+◌, ◌*◌, ◌<◌, ◌≤◌, Bool, true, false, not, cond, ap, List, [], ◌∷◌, ◌++◌, length}
-use Rattle.std.proofs.Common.{Some, None, refl, sym, ◌∙◌, subst, inl, inr, arith, suc-mul, mul-add, mul-le-mul_right}
-use Rattle.std.proofs.{Common.le_refl, lemmas.{List.{length-map, Folds.list_all-append}, Option.{same_Some, none-some}}}
-use Rattle.std.specs.{List.{list_any, list_all, filter_map, cons_option}, Prelude.{filter, map, ◌||◌}, Str.bytes_eq}
-use Rattle.cni_addr.specs.Lists.{distinct, each_key_once, without_first}
-use Rattle.kernel_types.specs.{Apply.Calls.{tags_of, owner_in}, Equal.att_eq, Sound.IsSound, Terms.is_own}
-use Rattle.kernel_types.specs.declared.call.{Call.{Call, TheVariants.OwnersOf}, Kind.{Kind, TheVariants.{Links, Rules}}}
-use Rattle.kernel_types.specs.declared.call.{Kind.TheVariants.{Settings, Leases, Cached}, Reply.Reply}
-use Rattle.kernel_types.specs.declared.{call.Reply.TheVariants.Gone, object.{AddrObj.AddrObj, Att.Att}}
-use Rattle.kernel_types.specs.declared.object.{CachedObj.CachedObj, Host.Host, Lease.Lease, Link.Link}
-use Rattle.kernel_types.specs.declared.object.{RouteObj.RouteObj, Setting.Setting, Tag.{Tag, TheVariants.Outside}}
-use Rattle.kernel_types.specs.declared.{object.Tag.TheVariants.{Base, Own}, rule.Rule.Rule}
-use Rattle.kernel_types.proofs.{Cases.att_eq-refl, Isolation.{att_eq-laws, att_eq-same}, ListLemmas.distinct-filter}
-use Rattle.kernel_types.proofs.{ListLemmas.list_all-filter, TouchRemoval.{by_bool, list_all-both}}
-use Rattle.plugin_base.proofs.KeyLists.{distinct-each_key_once, list_all-each_key_once}
-use Rattle.pod_file.specs.declared.command.ValidAtt.{ValidAtt}
-use Rattle.cni_verbs.specs.{Replies.{host_after, reply_to}, Script.{call_of_work, gc_of}, Sweep.{Gc, Step, AskCached}}
-use Rattle.cni_verbs.specs.Sweep.{Delete, Sweep, Job, is_valid, step_call, job_of, after_step, work_after}
-use Rattle.plugin_chain.specs.Wanted.{deletion, kinds_of}
+use Rattle.gc_sweep.proofs.Names.{◌≡◌, ℕ, ◌+◌, ◌*◌, ◌<◌, ◌≤◌, Bool, true, false, not, cond, ap, List, [], ◌∷◌, ◌++◌}
+use Rattle.gc_sweep.proofs.Names.{length, Some, None, refl, sym, ◌∙◌, subst, inl, inr, arith, mul-le-mul_right, map}
+use Rattle.gc_sweep.proofs.Names.{length-map, same_Some, none-some, list_any, list_all, filter_map, cons_option, filter}
+use Rattle.gc_sweep.proofs.Names.{◌||◌, bytes_eq, each_key_once, without_first, tags_of, owner_in, att_eq, IsSound}
+use Rattle.gc_sweep.proofs.Names.{is_own, Call, OwnersOf, Kind, Links, Rules, Settings, Leases, Cached, Reply, Gone}
+use Rattle.gc_sweep.proofs.Names.{AddrObj, Att, CachedObj, Host, Lease, Link, RouteObj, Setting, Tag, Outside, Base}
+use Rattle.gc_sweep.proofs.Names.{Own, Rule, att_eq-refl, att_eq-laws, by_bool, list_all-both, list_all-each_key_once}
+use Rattle.gc_sweep.proofs.Names.{ValidAtt, host_after, reply_to, call_of_work, gc_of, Gc, Step, AskCached, Delete}
+use Rattle.gc_sweep.proofs.Names.{Sweep, Job, is_valid, step_call, job_of, after_step, work_after, deletion, kinds_of}
+use Rattle.gc_sweep.proofs.Names.{list_all-none}
+use Rattle.std.proofs.{Common.{suc-mul, mul-add, le_refl}, lemmas.List.Folds.list_all-append}
+use Rattle.cni_addr.specs.Lists.{distinct}
+use Rattle.kernel_types.proofs.{Isolation.att_eq-same, ListLemmas.{distinct-filter, list_all-filter}}
+use Rattle.plugin_base.proofs.KeyLists.{distinct-each_key_once}
 use Rattle.gc_sweep.specs.{Bound.{stale_owners, all_tags, objects_by, GcBound}, Keep.{goes, IsWithin}, Trace.Made}
 use Rattle.gc_sweep.specs.Trace.{host_on}
 use Rattle.gc_sweep.proofs.{Covered.{WorkKept, Next, work_step, work_start}, Deletions.deletes, Kept.tags_within}
@@ -25,7 +20,6 @@ use Rattle.gc_sweep.proofs.{Lists.{count_append, length-without_first, list_all-
 use Rattle.gc_sweep.proofs.{Machine.{point_after, IsTrail}, Owners.{is_stale, goes_own, own_goes, owners_cover}}
 use Rattle.gc_sweep.proofs.{Owners.{owners_stale, has_att}, Runs.{trail, early_or, early_makes_none}}
 use Rattle.gc_sweep.proofs.Weights.{jobs_weight, total, weight}
-use Rattle.cni_addr.proofs.Lists.{list_all-none}
 
 -- ---- no more distinct owners than there are
 

@@ -1,21 +1,13 @@
 -- Each call of a GC lowers the calls that are left to it.
-use Rattle.std.proofs.Common.{◌≡◌, ℕ, ◌+◌, ◌*◌, ◌<◌, ◌≤◌, Bool, true, false, List, [], ◌∷◌, map, length, Option, Some}
-use Rattle.std.proofs.{Common.{None, refl, sym, subst, arith, mul-le-mul_right}, lemmas.List.length-map}
-use Rattle.std.proofs.lemmas.Option.{same_Some, none-some}
-use Rattle.std.specs.{List.{cons_option, filter_map, list_any}, Prelude.{filter, find, not}}
-use Rattle.net_conf.specs.Sets.{one_if}
-use Rattle.kernel_types.specs.{Apply.{apply, Calls.{goes_with, owner_in, tags_of, without_link}}, Equal.att_eq}
-use Rattle.kernel_types.specs.{Terms.is_own, declared.call.{Call.{Call, TheVariants.OwnersOf}, Kind.Kind, Reply.Reply}}
-use Rattle.kernel_types.specs.declared.{call.Reply.TheVariants.{Fault, Gone}, object.{Att.Att, CachedObj.CachedObj}}
-use Rattle.kernel_types.specs.declared.object.{Host.Host, Lease.Lease, Link.Link, Setting.Setting, Tag.Tag}
-use Rattle.kernel_types.specs.declared.rule.Rule.{Rule}
-use Rattle.cni_addr.specs.Lists.{each_key_once}
-use Rattle.kernel_types.proofs.Removal.{goes_with-itself}
+use Rattle.gc_sweep.proofs.Names.{◌≡◌, ℕ, ◌+◌, ◌*◌, ◌<◌, ◌≤◌, Bool, true, false, List, [], ◌∷◌, map, length, Option}
+use Rattle.gc_sweep.proofs.Names.{Some, None, refl, sym, subst, arith, mul-le-mul_right, not, length-map, same_Some}
+use Rattle.gc_sweep.proofs.Names.{none-some, cons_option, filter_map, list_any, filter, find, one_if, apply, goes_with}
+use Rattle.gc_sweep.proofs.Names.{owner_in, tags_of, without_link, att_eq, is_own, Call, OwnersOf, Kind, Reply, Fault}
+use Rattle.gc_sweep.proofs.Names.{Gone, Att, CachedObj, Host, Lease, Link, Setting, Tag, Rule, each_key_once}
+use Rattle.gc_sweep.proofs.Names.{goes_with-itself, call_of_work, Gc, Job, AskCached, Delete, Step, Sweep, after_step}
+use Rattle.gc_sweep.proofs.Names.{is_valid, job_of, step_call, work_after, deletion}
 use Rattle.kernel_types.specs.declared.call.Kind.TheVariants as kinds
 use Rattle.plugin_base.proofs.KeyLists.{length-each_key_once}
-use Rattle.cni_verbs.specs.{Script.call_of_work, Sweep.{Gc, Job, AskCached, Delete, Step, Sweep, after_step, is_valid}}
-use Rattle.cni_verbs.specs.Sweep.{job_of, step_call, work_after}
-use Rattle.plugin_chain.specs.Wanted.{deletion}
 use Rattle.gc_sweep.proofs.{Calls.{jobs_weight-after, jobs_weight-map}, Lists.{fewer_filter, length-found}}
 use Rattle.gc_sweep.proofs.{Lists.length-without_first, Weights.{collection_left, jobs_weight, objects_in}}
 use Rattle.gc_sweep.proofs.Weights.{sweeps_weight}

@@ -1,20 +1,15 @@
 -- What is left of a kind is still to be swept, or was blamed.
-use Rattle.std.proofs.Common.{◌≡◌, ℕ, Bool, true, false, not, List, [], ◌∷◌, ◌++◌, Some, refl, sym, ◌∙◌, subst, arith}
-use Rattle.std.proofs.lemmas.Option.{same_Some, none-some}
-use Rattle.std.specs.{List.{list_any, list_all}, Prelude.{map, ◌&&◌, ◌||◌}}
-use Rattle.kernel_types.specs.{Apply.{apply, Calls.tags_of}, Codes.kind_eq, Sound.IsSound, Terms.is_own}
-use Rattle.kernel_types.specs.declared.call.{Call.{Call, TheVariants.{CacheGet, OwnersOf}}, Kind.Kind}
-use Rattle.kernel_types.specs.declared.call.{Kind.TheVariants.{Links, Rules, Settings, Leases, Cached}, Reply.Reply}
-use Rattle.kernel_types.specs.declared.{call.Reply.TheVariants.{Gone, Fault}, object.{Att.Att, Host.Host, Tag.Tag}}
-use Rattle.kernel_types.proofs.{ListLemmas.{list_all-weaker, list_any-map, list_all-map}, TouchRemoval.by_bool}
-use Rattle.kernel_types.proofs.TouchRemoval.{list_all-both}
-use Rattle.pod_file.specs.declared.command.ValidAtt.{ValidAtt}
-use Rattle.cni_verbs.specs.{Replies.{host_after, reply_to}, Script.call_of_work, Sweep.{Gc, Step, AskCached, Delete}}
-use Rattle.cni_verbs.specs.Sweep.{Sweep, Job, step_call, job_of, after_step, work_after, all_sweeps}
-use Rattle.plugin_chain.specs.Wanted.{deletion}
+use Rattle.gc_sweep.proofs.Names.{◌≡◌, ℕ, Bool, true, false, not, List, [], ◌∷◌, ◌++◌, Some, refl, sym, ◌∙◌, subst}
+use Rattle.gc_sweep.proofs.Names.{arith, map, same_Some, none-some, list_any, list_all, ◌&&◌, ◌||◌, apply, tags_of}
+use Rattle.gc_sweep.proofs.Names.{IsSound, is_own, Call, OwnersOf, Kind, Links, Rules, Settings, Leases, Cached, Reply}
+use Rattle.gc_sweep.proofs.Names.{Gone, Fault, Att, Host, Tag, list_all-weaker, list_any-map, list_all-map, by_bool}
+use Rattle.gc_sweep.proofs.Names.{list_all-both, ValidAtt, host_after, reply_to, call_of_work, Gc, Step, AskCached}
+use Rattle.gc_sweep.proofs.Names.{Delete, Sweep, Job, step_call, job_of, after_step, work_after, deletion}
+use Rattle.gc_sweep.proofs.Names.{list_all-none}
+use Rattle.kernel_types.specs.{Codes.kind_eq, declared.call.Call.TheVariants.CacheGet}
+use Rattle.cni_verbs.specs.Sweep.{all_sweeps}
 use Rattle.gc_sweep.specs.{Bound.stale_owners, Keep.{stays, goes}, Sweep.is_excused, Trace.{Made, is_about, blames}}
 use Rattle.gc_sweep.specs.Trace.{is_blamed}
-use Rattle.cni_addr.proofs.Lists.{list_all-none}
 use Rattle.gc_sweep.proofs.{Deletions.deletes, Kept.{Stays, stays_start, stays_deleted, tags_within}, Lists.all_true}
 use Rattle.gc_sweep.proofs.{Lists.{list_all-drops, list_any-snoc}, Owners.{is_stale, owners_cover, owners_stale}}
 use Rattle.gc_sweep.proofs.Owners.{has_att}

@@ -1,29 +1,26 @@
 -- How many deletions an attachment's objects take, before and after each call of a run.
-use Rattle.std.proofs.Common.{◌≡◌, ℕ, ◌+◌, ◌≤◌, Bool, true, false, List, [], ◌∷◌, ◌++◌, map, length, Option, Some, None}
-use Rattle.std.proofs.{Common.{refl, sym, ◌∙◌, ap, subst, inl, inr, ◌⊎◌, arith}, lemmas.Bool.{both_ways, cases_Bool}}
-use Rattle.std.proofs.lemmas.{Bool.{not_from_true, not-true}, List.{length-append, length-map}}
-use Rattle.std.proofs.lemmas.Slice.Eq.{bytes_eq-Decides}
-use Rattle.std.specs.{List.list_any, Prelude.{filter, find, not, ◌&&◌}}
-use Rattle.net_conf.specs.Sets.{one_if}
-use Rattle.cni_addr.specs.{Lists.without_first, declared.{address.Addr.Addr, mac.Mac.Mac, range.RangeSet.RangeSet}}
-use Rattle.kernel_types.specs.{Allowed.IsAllowed, Apply.{apply, Calls.{goes_with, is_own_at, set_link, with_values}}}
-use Rattle.kernel_types.specs.{Apply.Calls.without_link, Sound.{IsSound, link_fits_tag, peer_fits, peers_back}}
-use Rattle.kernel_types.specs.{Sound.is_owned_kind, Terms.{is_own, is_host_ns, is_peer_at, is_veth, lease_of}}
-use Rattle.kernel_types.specs.declared.call.Call.{Call, TheVariants.{Begin, BridgeEnsure, GatewayEnsure, ForwardEnsure}}
-use Rattle.kernel_types.specs.declared.call.Call.TheVariants.{VethAdd, MacvlanAdd, LinkSet, AddrAdd, RouteAdd}
-use Rattle.kernel_types.specs.declared.call.{Call.TheVariants.{RuleAppend, SettingSet, LeaseNext, CachePut}, Kind.Kind}
-use Rattle.kernel_types.specs.declared.{call.Reply.{Reply, TheVariants.{Done, Leased, Gone}}, object.Att.Att}
-use Rattle.kernel_types.specs.declared.object.{Host.Host, Link.Link, LinkKey.LinkKey, LinkKind.LinkKind}
+use Rattle.gc_sweep.proofs.Names.{◌≡◌, ℕ, ◌+◌, ◌≤◌, Bool, true, false, List, [], ◌∷◌, ◌++◌, map, length, Option, Some}
+use Rattle.gc_sweep.proofs.Names.{None, refl, sym, ◌∙◌, ap, subst, inl, inr, ◌⊎◌, arith, not, both_ways, not-true}
+use Rattle.gc_sweep.proofs.Names.{length-append, length-map, list_any, filter, find, ◌&&◌, one_if, without_first}
+use Rattle.gc_sweep.proofs.Names.{IsAllowed, apply, goes_with, without_link, IsSound, is_own, Call, VethAdd, MacvlanAdd}
+use Rattle.gc_sweep.proofs.Names.{LinkSet, AddrAdd, RouteAdd, RuleAppend, SettingSet, CachePut, Kind, Reply, Gone, Att}
+use Rattle.gc_sweep.proofs.Names.{Host, Link, is_own-one, passes-find, goes_with-itself, is_own-tag_eq, Share, share_of}
+use Rattle.gc_sweep.proofs.Names.{share_after_call, deletion}
+use Rattle.std.proofs.lemmas.{Bool.{cases_Bool, not_from_true}, Slice.Eq.bytes_eq-Decides}
+use Rattle.cni_addr.specs.declared.{address.Addr.Addr, mac.Mac.Mac, range.RangeSet.RangeSet}
+use Rattle.kernel_types.specs.{Apply.Calls.{is_own_at, set_link, with_values}, Sound.{link_fits_tag, peer_fits}}
+use Rattle.kernel_types.specs.{Sound.{peers_back, is_owned_kind}, Terms.{is_host_ns, is_peer_at, is_veth, lease_of}}
+use Rattle.kernel_types.specs.declared.call.Call.TheVariants.{Begin, BridgeEnsure, GatewayEnsure, ForwardEnsure}
+use Rattle.kernel_types.specs.declared.call.{Call.TheVariants.LeaseNext, Reply.TheVariants.{Done, Leased}}
+use Rattle.kernel_types.specs.declared.object.{LinkKey.LinkKey, LinkKind.LinkKind}
 use Rattle.cni_addr.proofs.Cases.{by_test}
-use Rattle.kernel_types.proofs.{Isolation.is_own-one, ListLemmas.{list_any-weaker, passes-find, passes-list_all}}
-use Rattle.kernel_types.proofs.{Removal.goes_with-itself, TouchRemoval.is_own-tag_eq}
+use Rattle.kernel_types.proofs.ListLemmas.{list_any-weaker, passes-list_all}
 use Rattle.kernel_types.specs.declared.object.Tag.TheVariants as tags
 use Rattle.kernel_types.specs.declared.object.LinkKind.TheVariants as link_kinds
 use Rattle.kernel_types.specs.declared.call.Kind.TheVariants as kinds
-use Rattle.plugin_base.specs.{Calls.is_plugin_call_of, Share.{Share, share_of, share_after_call}}
+use Rattle.plugin_base.specs.Calls.{is_plugin_call_of}
 use Rattle.plugin_base.proofs.{KeyLists.filter-map_kept, OwnCalls.{share-own, share-lease, share-begin}}
 use Rattle.plugin_base.proofs.Refusals.{refused-same, refused-lease}
-use Rattle.plugin_chain.specs.Wanted.{deletion}
 use Rattle.gc_sweep.specs.Deletions.{deletions_of}
 use Rattle.gc_sweep.proofs.Lists.{any-found, count_append, count_without_first, fewer_filter}
 

@@ -1,20 +1,13 @@
 -- What a deletion does to a sound host, for every kind.
-use Rattle.std.proofs.Common.{◌≡◌, ◌<◌, Bool, true, false, ap, List, Option, Some, None, length, map, refl, sym, ◌∙◌}
-use Rattle.std.proofs.Common.{arith}
-use Rattle.std.specs.{List.list_any, Prelude.{filter, find}}
-use Rattle.cni_addr.specs.Lists.{without_first}
-use Rattle.kernel_types.specs.{Apply.{apply, Calls.{tags_of, without_link, goes_with}}, Isolation.RemovesOwn}
-use Rattle.kernel_types.specs.{Sound.IsSound, Terms.is_own, Touch.TouchesOwn, declared.call.Kind.Kind}
-use Rattle.kernel_types.specs.declared.call.{Kind.TheVariants.{Links, Rules, Settings, Leases, Cached}, Reply.Reply}
-use Rattle.kernel_types.specs.declared.{call.Reply.TheVariants.Gone, object.{Att.Att, Host.Host, Link.Link, Tag.Tag}}
+use Rattle.gc_sweep.proofs.Names.{◌≡◌, ◌<◌, Bool, true, false, ap, List, Option, Some, None, length, map, refl, sym}
+use Rattle.gc_sweep.proofs.Names.{◌∙◌, arith, list_any, filter, find, without_first, apply, tags_of, without_link}
+use Rattle.gc_sweep.proofs.Names.{goes_with, RemovesOwn, IsSound, is_own, TouchesOwn, Kind, Links, Rules, Settings}
+use Rattle.gc_sweep.proofs.Names.{Leases, Cached, Reply, Gone, Att, Host, Link, Tag, list_any-map, passes-find}
+use Rattle.gc_sweep.proofs.Names.{goes_with-itself, Share, share_of, no_objects, empty_none, deletion}
 use Rattle.kernel_types.proofs.Deletes.{IsSound-rule_del, IsSound-setting_del, IsSound-lease_del, IsSound-cache_del}
 use Rattle.kernel_types.proofs.DropsOwn.{TouchesOwn-RemovesOwn, RemovesOwn-rule_del, RemovesOwn-setting_del}
 use Rattle.kernel_types.proofs.DropsOwn.{RemovesOwn-lease_del, RemovesOwn-cache_del, RemovesOwn-link_del}
-use Rattle.kernel_types.proofs.ListLemmas.{without_first-none, list_any-find_none, list_any-map, passes-find}
-use Rattle.kernel_types.proofs.Removal.{IsSound-link_del, goes_with-itself}
-use Rattle.plugin_base.specs.Share.{Share, share_of, no_objects}
-use Rattle.plugin_base.proofs.Deletions.{empty_none}
-use Rattle.plugin_chain.specs.Wanted.{deletion}
+use Rattle.kernel_types.proofs.{ListLemmas.{without_first-none, list_any-find_none}, Removal.IsSound-link_del}
 use Rattle.gc_sweep.specs.Keep.{IsWithin}
 use Rattle.gc_sweep.proofs.{Lists.{any-found, count_found, count_without_first}, Removes.within_own, Weights.total}
 

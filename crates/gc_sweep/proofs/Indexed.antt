@@ -1,12 +1,9 @@
 -- What a search in an index of a valid list tells.
-use Rattle.std.proofs.Common.{◌≡◌, ℕ, List, [], length, Result, Ok, Err, sym, ◌∙◌, ap, arith}
-use Rattle.std.proofs.lemmas.{Cmp.{nat_list_cmp_total, on_total, then_total}, List.Folds.{list_any_at, list_any_none}}
-use Rattle.std.proofs.lemmas.List.Sorted.{searchable_from_sorted}
+use Rattle.gc_sweep.proofs.Names.{◌≡◌, ℕ, List, [], length, sym, ◌∙◌, ap, arith, Att, ValidAtt, is_named, is_valid}
+use Rattle.std.proofs.{Common.{Result, Ok, Err}, lemmas.Cmp.{nat_list_cmp_total, on_total, then_total}}
+use Rattle.std.proofs.lemmas.List.{Folds.{list_any_at, list_any_none}, Sorted.searchable_from_sorted}
 use Rattle.std.specs.Cmp.{IsTotalOrder, both_tied, Lexicographic.{slice_cmp, texts_ties}}
 use Rattle.std.specs.{List.Sorted.{IsBinarySearchResult, IsSearchInRange}, Ordering.{is_eq, nat_cmp}, Result.is_ok}
-use Rattle.kernel_types.specs.declared.object.Att.{Att}
-use Rattle.pod_file.specs.declared.command.ValidAtt.{ValidAtt}
-use Rattle.cni_verbs.specs.Sweep.{is_named, is_valid}
 use Rattle.gc_sweep.specs.Valid.{AreInOrder, Names, names_cmp, names_of}
 
 pub names_total : IsTotalOrder names_cmp

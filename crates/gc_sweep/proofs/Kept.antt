@@ -1,14 +1,10 @@
 -- What a GC keeps true at each call.
-use Rattle.std.proofs.Common.{◌≡◌, true, false, ap, List, refl, ◌∙◌, arith}
-use Rattle.kernel_types.specs.{Apply.{apply, Calls.tags_of}, Sound.IsSound, Terms.is_own, Touch.{DropsOnly, TouchesOwn}}
-use Rattle.kernel_types.specs.declared.call.Kind.{Kind, TheVariants.{Links, Rules, Settings, Leases, Cached}}
-use Rattle.kernel_types.specs.declared.object.{AddrObj.AddrObj, Att.Att, CachedObj.CachedObj, Host.Host, Last.Last}
-use Rattle.kernel_types.specs.declared.object.{Lease.Lease, Link.Link, NsObj.NsObj, RouteObj.RouteObj, Setting.Setting}
-use Rattle.kernel_types.specs.declared.{object.Tag.Tag, rule.Rule.Rule}
+use Rattle.gc_sweep.proofs.Names.{◌≡◌, true, false, ap, List, refl, ◌∙◌, arith, apply, tags_of, IsSound, is_own}
+use Rattle.gc_sweep.proofs.Names.{DropsOnly, TouchesOwn, Kind, Links, Rules, Settings, Leases, Cached, AddrObj, Att}
+use Rattle.gc_sweep.proofs.Names.{CachedObj, Host, Lease, Link, NsObj, RouteObj, Setting, Tag, Rule, Gc, deletion}
+use Rattle.kernel_types.specs.declared.object.Last.{Last}
 use Rattle.kernel_types.proofs.Isolation.{KeepsWhere-TouchesOwn}
-use Rattle.cni_verbs.specs.Sweep.{Gc}
 use Rattle.gc_sweep.specs.Keep.{stays, keep, IsWithin}
-use Rattle.plugin_chain.specs.Wanted.{deletion}
 use Rattle.gc_sweep.proofs.{Deletions.deletes, Lists.drops-map, Owners.{is_stale, own_goes}, Removes.within_same}
 use Rattle.gc_sweep.proofs.Removes.{within_trans}
 

@@ -1,18 +1,14 @@
 -- What a GC leaves.
-use Rattle.std.proofs.Common.{◌≡◌, ℕ, ◌+◌, Bool, true, false, ap, List, [], ◌∷◌, ◌++◌, refl, sym, ◌∙◌, subst, inl, inr}
-use Rattle.std.proofs.{Common.arith, lemmas.{Bool.and_parts, List.{append_assoc, append-nil}}}
-use Rattle.std.specs.{List.{list_any, list_all}, Prelude.{filter, if◌then◌else◌}}
-use Rattle.kernel_types.specs.{Apply.Calls.tags_of, Equal.tag_eq, Replies.is_fault, Sound.{IsSound, address_fits_tag}}
-use Rattle.kernel_types.specs.{Terms.{is_own, is_at, is_link_of}, declared.call.Kind.{Kind, TheVariants.{Links, Rules}}}
-use Rattle.kernel_types.specs.declared.call.{Kind.TheVariants.{Settings, Leases, Cached}, Reply.Reply}
-use Rattle.kernel_types.specs.declared.object.{AddrObj.AddrObj, Host.Host, Link.Link, NsObj.NsObj, Tag.Tag}
-use Rattle.kernel_types.specs.declared.object.Tag.TheVariants.{Outside, Base, Own}
-use Rattle.kernel_types.proofs.{Cases.att_eq-refl, Isolation.is_own-one, ListLemmas.{list_all-weaker, list_all-map}}
-use Rattle.kernel_types.proofs.TouchRemoval.{from_one, is_own-tag_eq}
-use Rattle.net_conf.specs.declared.list.NetList.{NetList}
-use Rattle.pod_file.specs.declared.command.Command.{Command}
-use Rattle.cni_verbs.specs.{Progress.is_gc, Script.{gc_of, faults_after, swept}, Sweep.{Gc, Job, Sweep}}
-use Rattle.cni_errors.specs.declared.answer.Ending.TheVariants.{Yes}
+use Rattle.gc_sweep.proofs.Names.{◌≡◌, ℕ, ◌+◌, Bool, true, false, ap, List, [], ◌∷◌, ◌++◌, refl, sym, ◌∙◌, subst, inl}
+use Rattle.gc_sweep.proofs.Names.{inr, arith, list_any, list_all, filter, tags_of, is_fault, IsSound, is_own, Kind}
+use Rattle.gc_sweep.proofs.Names.{Links, Rules, Settings, Leases, Cached, Reply, AddrObj, Host, Link, NsObj, Tag}
+use Rattle.gc_sweep.proofs.Names.{Outside, Base, Own, att_eq-refl, is_own-one, list_all-weaker, list_all-map}
+use Rattle.gc_sweep.proofs.Names.{is_own-tag_eq, NetList, Command, is_gc, gc_of, faults_after, swept, Gc, Job, Sweep}
+use Rattle.gc_sweep.proofs.Names.{Yes}
+use Rattle.std.proofs.lemmas.{Bool.and_parts, List.{append_assoc, append-nil}}
+use Rattle.std.specs.Prelude.{if◌then◌else◌}
+use Rattle.kernel_types.specs.{Equal.tag_eq, Sound.address_fits_tag, Terms.{is_at, is_link_of}}
+use Rattle.kernel_types.proofs.TouchRemoval.{from_one}
 use Rattle.gc_sweep.specs.{Keep.{stays, keep, IsWithin}, Sweep.{IsCollected, is_excused, AreExcused, Bounds, YesKeeps}}
 use Rattle.gc_sweep.specs.{Sweep.{AlwaysBounded, OverExcused, fault_numbers, FaultsNamed}, Trace.{Made, host_on}}
 use Rattle.gc_sweep.specs.Trace.{host_from, is_blamed, Ends, IsRun}

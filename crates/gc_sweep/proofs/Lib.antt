@@ -12,6 +12,7 @@ pub mod Owners
 pub mod Removes
 pub mod Weights
 mod Indexed
+mod Names
 mod Phases
 mod Places
 mod Runs

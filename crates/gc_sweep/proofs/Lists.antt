@@ -1,11 +1,9 @@
 -- Laws of lists that lost elements and of filters, for a list of any objects.
-use Rattle.std.proofs.Common.{◌≡◌, ◌+◌, ◌≤◌, Bool, true, false, not, cond, ap, List, [], ◌∷◌, ◌++◌, length, Some, refl}
-use Rattle.std.proofs.{Common.{sym, ◌∙◌, subst, inl, inr, arith}, lemmas.List.{length-append, Elements.filter-append}}
-use Rattle.std.proofs.lemmas.List.{Folds.list_any-append, Sums.{count_by-le-length, length-filter}}
-use Rattle.std.specs.{List.{list_any, list_all}, Prelude.{filter, find, map, ◌||◌}}
-use Rattle.cni_addr.specs.Lists.{without_first}
-use Rattle.net_conf.specs.Sets.{one_if}
-use Rattle.kernel_types.specs.Touch.{DropsOnly}
+use Rattle.gc_sweep.proofs.Names.{◌≡◌, ◌+◌, ◌≤◌, Bool, true, false, not, cond, ap, List, [], ◌∷◌, ◌++◌, length, Some}
+use Rattle.gc_sweep.proofs.Names.{refl, sym, ◌∙◌, subst, inl, inr, arith, map, length-append, list_any, list_all}
+use Rattle.gc_sweep.proofs.Names.{filter, find, ◌||◌, without_first, one_if, DropsOnly}
+use Rattle.std.proofs.lemmas.List.{Elements.filter-append, Folds.list_any-append, Sums.count_by-le-length}
+use Rattle.std.proofs.lemmas.List.Sums.{length-filter}
 use Rattle.kernel_types.proofs.ChangeLemmas.{DropsOnly-filter, DropsOnly-nothing}
 
 pub all_true : {X : Type 0} (p : X → Bool) → ((x : X) → p x ≡ true) → (xs : List X) → list_all p xs ≡ true

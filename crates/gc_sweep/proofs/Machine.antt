@@ -1,8 +1,6 @@
 -- A GC's script and its run, by the work alone.
-use Rattle.std.proofs.Common.{◌≡◌, ℕ, ◌+◌, List, [], ◌∷◌, Bool, Some}
-use Rattle.kernel_types.specs.{Replies.is_fault, declared.{call.Reply.Reply, object.Host.Host}}
-use Rattle.cni_verbs.specs.{Replies.reply_to, Script.{call_of_work, faults_after}, Sweep.{Gc, Work, start_work}}
-use Rattle.cni_verbs.specs.Sweep.{work_after}
+use Rattle.gc_sweep.proofs.Names.{◌≡◌, ℕ, ◌+◌, List, [], ◌∷◌, Bool, Some, is_fault, Reply, Host, reply_to, call_of_work}
+use Rattle.gc_sweep.proofs.Names.{faults_after, Gc, Work, start_work, work_after}
 use Rattle.gc_sweep.specs.Trace.{Made, host_on}
 
 -- the work that is left, the calls that were made, and the numbers of those that were faulty

@@ -1,15 +1,11 @@
 -- A share of a list's kinds alone stays so under calls of these kinds, and where objects are removed.
-use Rattle.std.proofs.{Common.{◌≡◌, Bool, true, false, not, List, [], map, refl, ap}, lemmas.Bool.{both_ways, not-true}}
-use Rattle.std.specs.Prelude.{filter}
-use Rattle.cni_addr.proofs.Lists.{list_all-none}
+use Rattle.gc_sweep.proofs.Names.{◌≡◌, Bool, true, false, not, List, [], map, refl, ap, both_ways, not-true, filter}
+use Rattle.gc_sweep.proofs.Names.{list_all-none, is_own, DropsOnly, Call, VethAdd, MacvlanAdd, LinkSet, AddrAdd}
+use Rattle.gc_sweep.proofs.Names.{RouteAdd, RuleAppend, SettingSet, CachePut, Kind, Att, Host, Share, share_of}
+use Rattle.gc_sweep.proofs.Names.{no_objects, share_after_call, empty_none}
 use Rattle.kernel_types.proofs.ListLemmas.{filter_never}
-use Rattle.kernel_types.specs.{Terms.is_own, Touch.DropsOnly, declared.call.Call.{Call, TheVariants.VethAdd}}
-use Rattle.kernel_types.specs.declared.call.Call.TheVariants.{MacvlanAdd, LinkSet, AddrAdd, RouteAdd, RuleAppend}
-use Rattle.kernel_types.specs.declared.{call.{Call.TheVariants.{SettingSet, CachePut}, Kind.Kind}, object.Att.Att}
-use Rattle.kernel_types.specs.declared.object.Host.{Host}
 use Rattle.kernel_types.specs.declared.call.Kind.TheVariants as kinds
-use Rattle.plugin_base.specs.{Calls.{has_kind, is_of_kinds}, Share.{Share, share_of, no_objects, share_after_call}}
-use Rattle.plugin_base.proofs.Deletions.{empty_none}
+use Rattle.plugin_base.specs.Calls.{has_kind, is_of_kinds}
 use Rattle.gc_sweep.specs.Keep.{OnlyRemoves}
 use Rattle.gc_sweep.proofs.Lists.{list_all-drops}
 

@@ -1,17 +1,13 @@
 -- The owners that a kernel names are all that there are.
-use Rattle.std.proofs.Common.{◌≡◌, ℕ, Bool, true, false, not, cond, List, [], ◌∷◌, Some, None, refl, ap, ◌∙◌, arith}
+use Rattle.gc_sweep.proofs.Names.{◌≡◌, ℕ, Bool, true, false, not, cond, List, [], ◌∷◌, Some, None, refl, ap, ◌∙◌, arith}
+use Rattle.gc_sweep.proofs.Names.{list_any, list_all, filter_map, cons_option, filter, ◌&&◌, ◌||◌, is_some, bytes_eq}
+use Rattle.gc_sweep.proofs.Names.{owner_in, att_eq, is_own, Att, Tag, Outside, Base, Own, each_key_once, att_eq-refl}
+use Rattle.gc_sweep.proofs.Names.{att_eq-laws, is_own-one, list_all-weaker, by_bool, ValidAtt, is_valid}
+use Rattle.gc_sweep.proofs.Names.{list_all-each_key_once}
 use Rattle.std.proofs.lemmas.{Bool.and_from, Map.Views.any-filter_same}
-use Rattle.std.specs.{List.{list_any, list_all, filter_map, cons_option}, Prelude.{filter, ◌&&◌, ◌||◌, is_some}}
-use Rattle.std.specs.Str.{bytes_eq}
-use Rattle.kernel_types.specs.{Apply.Calls.owner_in, Equal.att_eq, Terms.is_own, declared.object.{Att.Att, Tag.Tag}}
-use Rattle.kernel_types.specs.declared.object.Tag.TheVariants.{Outside, Base, Own}
-use Rattle.cni_addr.specs.Lists.{each_key_once}
-use Rattle.kernel_types.proofs.{Cases.att_eq-refl, Isolation.{att_eq-laws, is_own-one}, ListLemmas.list_all-kept}
-use Rattle.kernel_types.proofs.{ListLemmas.list_all-weaker, TouchRemoval.by_bool}
-use Rattle.pod_file.specs.declared.command.ValidAtt.{ValidAtt}
-use Rattle.cni_verbs.specs.Sweep.{is_valid}
+use Rattle.kernel_types.proofs.ListLemmas.{list_all-kept}
 use Rattle.gc_sweep.specs.{Bound.stale_owners, Keep.goes}
-use Rattle.plugin_base.proofs.KeyLists.{list_all-each_key_once, list_any-each_key_once}
+use Rattle.plugin_base.proofs.KeyLists.{list_any-each_key_once}
 
 -- the attachment is of the network and stale
 abbrev pub is_stale : List ℕ → List ValidAtt → Att → Bool

@@ -1,22 +1,19 @@
 -- A run's state, by its list and its work.
-use Rattle.std.proofs.Common.{◌≡◌, ℕ, ◌+◌, Bool, true, false, List, [], ◌∷◌, length, Option, Some, None, refl, sym, ◌∙◌}
-use Rattle.std.proofs.{Common.{ap, subst, arith}, lemmas.{Bool.Decides.nat_tests, Option.none-some}}
-use Rattle.std.specs.{Bool.then_some, Prelude.{◌==◌, is_some, option_map}}
+use Rattle.gc_sweep.proofs.Names.{◌≡◌, ℕ, ◌+◌, Bool, true, false, List, [], ◌∷◌, length, Option, Some, None, refl, sym}
+use Rattle.gc_sweep.proofs.Names.{◌∙◌, ap, subst, arith, nat_tests, none-some, ◌==◌, is_some, NetList, Command}
+use Rattle.gc_sweep.proofs.Names.{is_fault, Kind, Reply, Progress, is_gc, State, Collecting, Over, IsOpen, early_ending}
+use Rattle.gc_sweep.proofs.Names.{start_state, advance, next_call, call_of_work, finish_of, finish_of_work, gc_of}
+use Rattle.gc_sweep.proofs.Names.{faults_after, has_no_work, swept, unless_ended, Job, Sweep, Work, start_work}
+use Rattle.gc_sweep.proofs.Names.{work_after, plain_answer, Ending, kinds_of, early_ending-cases}
+use Rattle.std.specs.{Bool.then_some, Prelude.option_map}
 use Rattle.cni_result.specs.declared.version.Version.{Version}
-use Rattle.net_conf.specs.declared.list.NetList.{NetList}
-use Rattle.pod_file.specs.declared.command.{Command.Command, Verb.Verb}
+use Rattle.pod_file.specs.declared.command.Verb.{Verb}
 use Rattle.pod_file.specs.declared.command.Verb.TheVariants as verbs
-use Rattle.kernel_types.specs.{Replies.is_fault, declared.call.{Kind.Kind, Reply.Reply}}
-use Rattle.cni_verbs.specs.{Endings.answer_of, Progress.{Progress, is_gc, advanced, answer_in}, Script.State}
-use Rattle.cni_verbs.specs.Script.{Collecting, Over, IsOpen, collecting, early_ending, start_state, start_of, advance}
-use Rattle.cni_verbs.specs.Script.{next_call, call_of_work, finish_of, finish_of_work, gc_of, faults_after, has_no_work}
-use Rattle.cni_verbs.specs.{Script.{swept, unless_ended}, Sweep.{Job, Sweep, Work, start_work, work_after}}
-use Rattle.cni_errors.specs.{Answers.plain_answer, declared.answer.{Cause.Cause, Ending.Ending, Skip.Skip}}
-use Rattle.plugin_chain.specs.Wanted.{kinds_of}
+use Rattle.cni_verbs.specs.{Endings.answer_of, Progress.{advanced, answer_in}, Script.{collecting, start_of}}
+use Rattle.cni_errors.specs.declared.answer.{Cause.Cause, Skip.Skip}
 use Rattle.cni_errors.specs.declared.answer.Cause.TheVariants as causes
 use Rattle.cni_errors.specs.declared.answer.Ending.TheVariants as endings
 use Rattle.cni_errors.specs.declared.answer.Skip.TheVariants as skips
-use Rattle.cni_verbs.proofs.EarlyEndings.{early_ending-cases}
 use Rattle.gc_sweep.specs.{Sweep.is_early, View.{HasTaken, IsInRange, IsPlace, ending_in, progress_of, work_of}}
 use Rattle.gc_sweep.specs.{View.{jobs_left, sweeps_after}, declared.place.SweepPlace.SweepPlace}
 

@@ -1,14 +1,12 @@
 -- A place's owners and steps, as the jobs that are left.
-use Rattle.std.proofs.Common.{◌≡◌, ℕ, zero, suc, ◌+◌, ◌-◌, ◌<◌, ◌≤◌, Bool, true, false, not, ap, List, [], ◌∷◌, length}
-use Rattle.std.proofs.Common.{drop, Option, Some, slice_get, refl, sym, ◌∙◌, subst, arith, inl, inr}
-use Rattle.std.proofs.{Math.ListN.drop_of_length-le, lemmas.{Bool.{cases_lt, Decides.nat_tests}, Option.same_Some}}
-use Rattle.std.proofs.lemmas.Option.{none-some}
-use Rattle.std.specs.Prelude.{map, nat_lt}
+use Rattle.gc_sweep.proofs.Names.{◌≡◌, ℕ, ◌+◌, ◌<◌, ◌≤◌, Bool, true, false, not, ap, List, [], ◌∷◌, length, Option}
+use Rattle.gc_sweep.proofs.Names.{Some, refl, sym, ◌∙◌, subst, arith, inl, inr, map, nat_tests, same_Some, none-some}
+use Rattle.gc_sweep.proofs.Names.{nat_lt, Kind, Reply, Gone, Fault, Att, call_of_work, has_no_work, Gc, Step, Delete}
+use Rattle.gc_sweep.proofs.Names.{Sweep, Job, Work, step_call, job_of, after_step, work_after}
+use Rattle.std.proofs.{Common.{zero, suc, ◌-◌, drop, slice_get}, Math.ListN.drop_of_length-le, lemmas.Bool.cases_lt}
 use Rattle.cni_result.specs.declared.cached.Cached.{Cached}
-use Rattle.kernel_types.specs.declared.call.{Kind.Kind, Reply.{Reply, TheVariants.{Gone, Owners, Entry, Fault}}}
-use Rattle.kernel_types.specs.declared.object.Att.{Att}
-use Rattle.cni_verbs.specs.{Script.{call_of_work, has_no_work}, Sweep.{Gc, Step, Delete, Sweep, Job, Work, step_call}}
-use Rattle.cni_verbs.specs.Sweep.{job_of, after_step, first_sweep, work_after}
+use Rattle.kernel_types.specs.declared.call.Reply.TheVariants.{Owners, Entry}
+use Rattle.cni_verbs.specs.Sweep.{first_sweep}
 use Rattle.cni_verbs.proofs.PhaseSteps.{left_of}
 use Rattle.gc_sweep.specs.View.{steps_of, jobs_at, jobs_left, sweeps_after, sweep_of, IsPlace}
 use Rattle.gc_sweep.specs.declared.place.SweepPlace.{SweepPlace}

@@ -1,12 +1,10 @@
 -- Hosts that only lost objects, and what makes them lose some: deletions, and changes from outside.
-use Rattle.std.proofs.Common.{◌≡◌, true, false, not, Some, refl, sym, ◌∙◌, subst, inl, inr}
-use Rattle.kernel_types.specs.{Allowed.IsAllowed, Apply.apply, Isolation.{RemovesOwn, deletes_for, is_from_outside}}
-use Rattle.kernel_types.specs.{Sound.IsSound, Terms.is_own, Touch.{AddsNamespace, RemovesUnshared, is_base}}
-use Rattle.kernel_types.specs.declared.{call.{Call.{Call, TheVariants.{NsChange, Outside}}, Kind.Kind}, object.Att.Att}
-use Rattle.kernel_types.specs.declared.object.Host.{Host}
+use Rattle.gc_sweep.proofs.Names.{◌≡◌, true, false, not, Some, refl, sym, ◌∙◌, subst, inl, inr, IsAllowed, apply}
+use Rattle.gc_sweep.proofs.Names.{RemovesOwn, IsSound, is_own, Call, Kind, Att, Host, deletion}
+use Rattle.kernel_types.specs.{Isolation.{deletes_for, is_from_outside}, Touch.{AddsNamespace, RemovesUnshared}}
+use Rattle.kernel_types.specs.{Touch.is_base, declared.call.Call.TheVariants.{NsChange, Outside}}
 use Rattle.kernel_types.specs.declared.call.Kind.TheVariants as kinds
 use Rattle.kernel_types.proofs.{DropsOwn.RemovesOwn-apply, EveryCall.Touches-apply}
-use Rattle.plugin_chain.specs.Wanted.{deletion}
 use Rattle.gc_sweep.specs.Keep.{IsWithin, OnlyRemoves}
 use Rattle.gc_sweep.proofs.Lists.{drops, drops-same, drops-trans}
 

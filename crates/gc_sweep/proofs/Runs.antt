@@ -1,15 +1,9 @@
 -- The runs of a list and a command, as runs of their work.
-use Rattle.std.proofs.Common.{◌≡◌, ℕ, ◌+◌, List, [], ◌∷◌, Option, Some, inl, inr, ◌⊎◌, refl, sym, ◌∙◌, ap, subst, true}
-use Rattle.std.proofs.lemmas.Option.{same_Some, none-some}
-use Rattle.std.specs.Prelude.{is_some}
-use Rattle.kernel_types.specs.declared.object.Host.{Host}
-use Rattle.net_conf.specs.declared.list.NetList.{NetList}
-use Rattle.pod_file.specs.declared.command.Command.{Command}
-use Rattle.cni_verbs.specs.{Progress.is_gc, Script.{State, Collecting, Over, Finish, start_state, state_from, advance}}
-use Rattle.cni_verbs.specs.{Script.{next_call, finish_of, finish_of_work, gc_of, swept, unless_ended}, Sweep.{Gc, Job}}
-use Rattle.cni_verbs.specs.Sweep.{Sweep, start_work}
-use Rattle.cni_errors.specs.declared.answer.Ending.{Ending, TheVariants.Yes}
-use Rattle.cni_verbs.proofs.EarlyEndings.{early_ending-cases}
+use Rattle.gc_sweep.proofs.Names.{◌≡◌, ℕ, ◌+◌, List, [], ◌∷◌, Option, Some, inl, inr, ◌⊎◌, refl, sym, ◌∙◌, ap, subst}
+use Rattle.gc_sweep.proofs.Names.{true, same_Some, none-some, is_some, Host, NetList, Command, is_gc, State, Collecting}
+use Rattle.gc_sweep.proofs.Names.{Over, start_state, advance, next_call, finish_of, finish_of_work, gc_of, swept}
+use Rattle.gc_sweep.proofs.Names.{unless_ended, Gc, Job, Sweep, start_work, Ending, Yes, early_ending-cases}
+use Rattle.cni_verbs.specs.Script.{Finish, state_from}
 use Rattle.gc_sweep.specs.{Sweep.{IsCollected, is_early}, Trace.{Made, host_on, IsRunFrom, IsRun, Ends, replies}}
 use Rattle.gc_sweep.proofs.{Machine.{Point, start_point, point_after, point_from, IsTrail}, Phases.finish_working}
 use Rattle.gc_sweep.proofs.Phases.{late, starts}

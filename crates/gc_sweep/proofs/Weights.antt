@@ -1,7 +1,5 @@
 -- What every call of a GC lowers: m is the most owners that a sweep can name.
-use Rattle.std.specs.Prelude.{ℕ, ◌+◌, ◌*◌, Bool, List, [], ◌∷◌, length, filter}
-use Rattle.kernel_types.specs.declared.object.{Host.Host, Tag.Tag}
-use Rattle.cni_verbs.specs.Sweep.{Job, Sweep, Work}
+use Rattle.gc_sweep.proofs.Names.{ℕ, ◌+◌, ◌*◌, Bool, List, [], ◌∷◌, length, filter, Host, Tag, Job, Sweep, Work}
 
 -- a sweep asks for the owners, and makes its steps for each
 abbrev pub sweep_weight : ℕ → Sweep → ℕ

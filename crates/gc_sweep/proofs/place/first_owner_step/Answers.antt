@@ -1,4 +1,4 @@
-use Rattle.std.proofs.Common.{arith}
+use Rattle.gc_sweep.proofs.Names.{arith}
 use Rattle.gc_sweep.proofs.Places.{first_kind}
 use Rattle.gc_sweep.proofs.place.first_owner_step.Goals as goal
 

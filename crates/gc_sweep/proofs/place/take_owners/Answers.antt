@@ -1,4 +1,4 @@
-use Rattle.std.proofs.Common.{◌∙◌}
+use Rattle.gc_sweep.proofs.Names.{◌∙◌}
 use Rattle.gc_sweep.specs.View.{sweep_of, sweeps_after, jobs_left}
 use Rattle.gc_sweep.proofs.Places.{no_jobs, skipped}
 use Rattle.gc_sweep.proofs.place.take_owners.Goals as goal

@@ -1,5 +1,4 @@
-use Rattle.std.proofs.{Common.{◌≡◌, ◌∙◌, true, length, arith, rules}, lemmas.Bool.Decides.nat_tests}
-use Rattle.std.specs.Prelude.{nat_lt}
+use Rattle.gc_sweep.proofs.Names.{◌≡◌, ◌∙◌, true, length, arith, rules, nat_tests, nat_lt}
 use Rattle.gc_sweep.specs.View.{sweep_of, sweeps_after, jobs_left}
 use Rattle.gc_sweep.proofs.Places.{ends_step, has_job_left, leaves_owner, owner_stays, step_ends}
 use Rattle.gc_sweep.proofs.place.take_step.Goals as goal

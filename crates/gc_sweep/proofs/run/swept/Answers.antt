@@ -1,5 +1,4 @@
-use Rattle.std.proofs.Common.{◌∙◌, ap, sym, List, length}
-use Rattle.std.specs.Prelude.{ℕ, ◌==◌}
+use Rattle.gc_sweep.proofs.Names.{◌∙◌, ap, sym, List, length, ℕ, ◌==◌}
 use Rattle.cni_errors.specs.declared.answer.Cause.TheVariants as causes
 use Rattle.cni_errors.specs.declared.answer.Ending.TheVariants as endings
 use Rattle.gc_sweep.proofs.Phases.{swept_clean, swept_faulty}

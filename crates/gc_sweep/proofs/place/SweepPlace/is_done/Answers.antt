@@ -1,4 +1,4 @@
-use Rattle.std.proofs.Common.{arith}
+use Rattle.gc_sweep.proofs.Names.{arith}
 use Rattle.gc_sweep.proofs.Places.{not_done}
 use Rattle.gc_sweep.proofs.place.SweepPlace.is_done.Goals as goal
 

@@ -1,4 +1,4 @@
-use Rattle.std.proofs.{Common.{arith, ◌∙◌, sym, ap, refl, Some, ◌<◌, length}, lemmas.Bool.Decides.nat_tests}
+use Rattle.gc_sweep.proofs.Names.{arith, ◌∙◌, sym, ap, refl, Some, ◌<◌, length, nat_tests}
 use Rattle.std.proofs.lemmas.Option.{slice_get_read}
 use Rattle.gc_sweep.specs.View.{sweep_of, sweeps_after, step_of}
 use Rattle.gc_sweep.proofs.Places.{next_here}

@@ -1,8 +1,4 @@
-use Rattle.std.proofs.Common.{◌≡◌, ◌∙◌, ap, sym, subst, Some, None}
-use Rattle.net_conf.specs.declared.list.NetList.{NetList}
-use Rattle.cni_errors.specs.Answers.{plain_answer}
-use Rattle.cni_verbs.specs.Progress.{Progress}
-use Rattle.plugin_chain.specs.Wanted.{kinds_of}
+use Rattle.gc_sweep.proofs.Names.{◌≡◌, ◌∙◌, ap, sym, subst, Some, None, NetList, plain_answer, Progress, kinds_of}
 use Rattle.gc_sweep.specs.View.{ending_in, work_of}
 use Rattle.gc_sweep.proofs.Phases.{answers}
 use Rattle.gc_sweep.proofs.run.GcRun.answer.Goals as goal

@@ -1,8 +1,4 @@
-use Rattle.std.proofs.Common.{◌∙◌, true, false, ap, sym, Some}
-use Rattle.std.specs.Prelude.{is_some}
-use Rattle.net_conf.specs.declared.list.NetList.{NetList}
-use Rattle.cni_verbs.specs.Script.{early_ending}
-use Rattle.plugin_chain.specs.Wanted.{kinds_of}
+use Rattle.gc_sweep.proofs.Names.{◌∙◌, true, false, ap, sym, Some, is_some, NetList, early_ending, kinds_of}
 use Rattle.gc_sweep.specs.{Sweep.is_early, View.work_of}
 use Rattle.gc_sweep.proofs.Phases.{ends_early, ends_late}
 use Rattle.gc_sweep.proofs.run.GcRun.ending.Goals as goal

@@ -1,6 +1,4 @@
-use Rattle.std.proofs.Common.{◌∙◌, ap, sym}
-use Rattle.net_conf.specs.declared.list.NetList.{NetList}
-use Rattle.plugin_chain.specs.Wanted.{kinds_of}
+use Rattle.gc_sweep.proofs.Names.{◌∙◌, ap, sym, NetList, kinds_of}
 use Rattle.cni_verbs.proofs.NextCalls.{ok_by}
 use Rattle.gc_sweep.specs.{Sweep.is_early, View.work_of}
 use Rattle.gc_sweep.proofs.Phases.{next_early, next_late}

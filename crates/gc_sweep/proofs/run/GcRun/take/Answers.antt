@@ -1,5 +1,4 @@
-use Rattle.std.proofs.Common.{◌∙◌, ◌+◌, ap, sym, subst}
-use Rattle.cni_verbs.specs.{Progress.Progress, Script.{IsOpen, faults_after}}
+use Rattle.gc_sweep.proofs.Names.{◌∙◌, ◌+◌, ap, sym, subst, Progress, IsOpen, faults_after}
 use Rattle.gc_sweep.proofs.Phases.{taken}
 use Rattle.gc_sweep.proofs.run.GcRun.take.Goals as goal
 

@@ -1,5 +1,5 @@
-use Rattle.std.proofs.{Common.{rules, ap, subst, sym, ◌∙◌}, lemmas.Fn.always_returns_same}
-use Rattle.cni_verbs.specs.Sweep.{is_valid}
+use Rattle.gc_sweep.proofs.Names.{rules, ap, subst, sym, ◌∙◌, is_valid}
+use Rattle.std.proofs.lemmas.Fn.{always_returns_same}
 use Rattle.gc_sweep.specs.Valid.{AreInOrder, names_cmp, names_of}
 use Rattle.gc_sweep.proofs.Indexed.{found-valid}
 use Rattle.gc_sweep.proofs.valid.ValidIndex.has.Goals as goal

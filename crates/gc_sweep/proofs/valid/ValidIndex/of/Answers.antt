@@ -1,7 +1,6 @@
-use Rattle.std.proofs.{Common.{rules, ◌∙◌, ap, sym}, lemmas.List.Sorted.{answers_always, list_any-IsPermutation}}
-use Rattle.std.proofs.lemmas.List.Sorted.{ranks_by}
+use Rattle.gc_sweep.proofs.Names.{rules, ◌∙◌, ap, sym, is_named, is_valid}
+use Rattle.std.proofs.lemmas.List.Sorted.{answers_always, list_any-IsPermutation, ranks_by}
 use Rattle.std.specs.Ordering.{is_lt}
-use Rattle.cni_verbs.specs.Sweep.{is_named, is_valid}
 use Rattle.gc_sweep.specs.Valid.{names_cmp, names_of}
 use Rattle.gc_sweep.proofs.Indexed.{names_total}
 use Rattle.gc_sweep.proofs.valid.ValidIndex.of.Goals as goal

@@ -1,0 +1,7 @@
+-- The names of other crates that several proofs take.
+mod Kernel
+mod Std
+mod Verbs
+unfoldable pub use Kernel.*
+unfoldable pub use Std.*
+unfoldable pub use Verbs.*
