@@ -1,29 +1,21 @@
 -- What the calls of an ADD are: its attachment's, well formed, of the kinds that its list's plugins name, and together
 -- what makes the wanted objects.
-use Rattle.std.proofs.Common.{◌≡◌, ℕ, ◌+◌, Bool, true, not, List, [], ◌∷◌, ◌++◌, Option, Some, None, refl, sym, ap, ◌∙◌}
-use Rattle.std.proofs.lemmas.Bool.{and_from, and_parts}
-use Rattle.std.specs.{List.{AllByRecursion, list_all}, Prelude.is_some}
-use Rattle.cni_addr.specs.declared.{address.Addr.Addr, range.RangeSet.RangeSet}
-use Rattle.cni_result.specs.declared.cached.PortMapping.{PortMapping}
-use Rattle.ip_pool.specs.Pool.{are_apart}
-use Rattle.net_conf.specs.declared.{chained.Chained.Chained, first.{First.First, HostLocalConf.HostLocalConf}}
-use Rattle.net_conf.specs.declared.list.NetList.{NetList}
-use Rattle.kernel_types.proofs.{Cases.att_eq-refl, ListLemmas.{list_all-weaker, list_any-append_left}}
-use Rattle.kernel_types.proofs.ListLemmas.{list_any-append_right}
-use Rattle.kernel_types.specs.{Codes.kind_eq, declared.call.Call.{Call, TheVariants.{VethAdd, MacvlanAdd, AddrAdd}}}
-use Rattle.kernel_types.specs.declared.call.Call.TheVariants.{RouteAdd, RuleAppend, SettingSet, LeaseNext, CachePut}
-use Rattle.kernel_types.specs.declared.{call.Kind.Kind, object.Att.Att}
+use Rattle.pod_workers.proofs.Names.{◌≡◌, ℕ, ◌+◌, Bool, true, not, List, [], ◌∷◌, ◌++◌, Option, Some, None, refl, sym}
+use Rattle.pod_workers.proofs.Names.{ap, ◌∙◌, and_from, and_parts, AllByRecursion, list_all, is_some, Addr, RangeSet}
+use Rattle.pod_workers.proofs.Names.{PortMapping, are_apart, Chained, First, HostLocalConf, NetList, list_all-weaker}
+use Rattle.pod_workers.proofs.Names.{Call, VethAdd, MacvlanAdd, AddrAdd, RouteAdd, RuleAppend, SettingSet, LeaseNext}
+use Rattle.pod_workers.proofs.Names.{CachePut, Kind, Att, IsWellFormedCall, is_plugin_call_of, Share, range_sets_of}
+use Rattle.pod_workers.proofs.Names.{lease_calls_from, lease_calls_of, back_calls, bridge_of, calls_after, calls_before}
+use Rattle.pod_workers.proofs.Names.{chained_calls, ipam_of, kinds_of, sets_of, PassesChained, passes-back, own-back}
+use Rattle.pod_workers.proofs.Names.{chained_laws, first_laws}
+use Rattle.kernel_types.proofs.{Cases.att_eq-refl, ListLemmas.{list_any-append_left, list_any-append_right}}
+use Rattle.kernel_types.specs.Codes.{kind_eq}
 use Rattle.kernel_types.specs.declared.call.Kind.TheVariants as kinds
-use Rattle.plugin_base.specs.Calls.{IsWellFormedCall, has_kind, is_beside_plugins, is_call_of, is_of_kinds}
-use Rattle.plugin_base.specs.{Calls.is_plugin_call_of, PluginCalls.makes_interface, Share.{Share, no_objects}}
-use Rattle.plugin_base.specs.Share.{share_after_calls}
+use Rattle.plugin_base.specs.{Calls.{has_kind, is_beside_plugins, is_call_of, is_of_kinds}, PluginCalls.makes_interface}
+use Rattle.plugin_base.specs.Share.{no_objects, share_after_calls}
 use Rattle.plugin_base.proofs.{CallLists.share_after_calls-then, KeyLists.list_all-append, PluginCalls.interface-kinds}
-use Rattle.host_local.specs.{Conf.range_sets_of, Leases.{lease_calls_from, lease_calls_of}}
-use Rattle.plugin_chain.specs.Wanted.{back_calls, bridge_of, calls_after, calls_before, chained_calls, chained_kinds}
-use Rattle.plugin_chain.specs.Wanted.{chained_kinds_reversed, first_kinds, ipam_of, kinds_of, sets_of, wanted}
-use Rattle.plugin_chain.proofs.{BackCalls.{PassesChained, passes-back}, OwnCalls.{own-back, own-before}}
-use Rattle.plugin_chain.proofs.{PluginLaws.{chained_laws, first_laws}, WantedShare.{adds-links, makes-wanted}}
-use Rattle.plugin_chain.proofs.WantedShare.{share_with_leases}
+use Rattle.plugin_chain.specs.Wanted.{chained_kinds, chained_kinds_reversed, first_kinds, wanted}
+use Rattle.plugin_chain.proofs.{OwnCalls.own-before, WantedShare.{adds-links, makes-wanted, share_with_leases}}
 use Rattle.pod_workers.specs.AddCalls.{AddCallsMakeTheWanted, only_leases}
 use Rattle.pod_workers.proofs.{Each.each-append, PluginCalls.{AllOfPlugins, of_plugins-back, of_plugins-before}}
 use Rattle.pod_workers.proofs.{Splits.split_nil, WellFormedPlans.first_apart}

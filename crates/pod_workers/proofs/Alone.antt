@@ -1,10 +1,9 @@
 -- Exclusive commands of well-formed pods have their rounds for themselves.
-use Rattle.std.proofs.Common.{◌≡◌, ◌+◌, ℕ, zero, suc, true, List, [], ◌∷◌, ◌∙◌, ap, arith, inl, inr, Some, slice_get}
-use Rattle.std.proofs.lemmas.{List.Elements.{All-drop, All-get_or}, Option.{same_Some, none-some, slice_get_within}}
-use Rattle.std.specs.List.{All, list_any}
+use Rattle.pod_workers.proofs.Names.{◌≡◌, ◌+◌, ℕ, zero, suc, true, List, [], ◌∷◌, ◌∙◌, ap, arith, inl, inr, Some}
+use Rattle.pod_workers.proofs.Names.{slice_get, All-drop, All-get_or, same_Some, none-some, slice_get_within, All}
+use Rattle.pod_workers.proofs.Names.{list_any, is_exclusive, IsWellFormedPods, Command}
 use Rattle.pod_file.proofs.CommandFacts.{one_alone}
-use Rattle.pod_file.specs.{Rounds.is_exclusive, WellFormed.{IsWellFormedPods, IsWellFormedRound}}
-use Rattle.pod_file.specs.declared.command.Command.{Command}
+use Rattle.pod_file.specs.WellFormed.{IsWellFormedRound}
 use Rattle.pod_workers.specs.{Plans.{Placed, commands_of, placed_from}, declared.plan.Plan.Plan}
 use Rattle.pod_workers.proofs.Rounds.{here_or_later, round-of}
 

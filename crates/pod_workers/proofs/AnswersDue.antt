@@ -1,14 +1,11 @@
 -- Each answer of a legal world is its script's, a stop, or out of memory.
-use Rattle.std.proofs.Common.{◌≡◌, ◌≢◌, ℕ, ◌+◌, ◌≤◌, ◌==◌, Bool, true, false, List, [], ◌∷◌, ◌++◌, length, Option, Some}
-use Rattle.std.proofs.Common.{None, slice_get, slice_set, refl, sym, ◌∙◌, ap, subst, inl, inr, ◌⊎◌, arith}
-use Rattle.std.proofs.lemmas.{Bool.{and_parts, eqb-true, or_cases, Decides.{eqb_tells, nat_tests}}, List.append_assoc}
-use Rattle.std.proofs.lemmas.{List.length_push, Option.{same_Some, none-some, slice_get_within}}
-use Rattle.std.specs.Prelude.{if◌then◌else◌, ◌||◌}
-use Rattle.cni_verbs.specs.{Progress.{turn_by, answer_by}, Script.{Turn, Calls, Finishes, Finish}}
-use Rattle.cni_errors.specs.declared.answer.Answer.{Answer, TheVariants.{OutOfMemory, Stopped}}
-use Rattle.kernel_types.specs.declared.call.Call.{Call}
-use Rattle.net_conf.specs.declared.list.NetList.{NetList}
-use Rattle.pod_file.specs.declared.command.Command.{Command}
+use Rattle.pod_workers.proofs.Names.{◌≡◌, ◌≢◌, ℕ, ◌+◌, ◌≤◌, ◌==◌, Bool, true, false, List, [], ◌∷◌, ◌++◌, length}
+use Rattle.pod_workers.proofs.Names.{Option, Some, None, slice_get, slice_set, refl, sym, ◌∙◌, ap, subst, inl, inr, ◌⊎◌}
+use Rattle.pod_workers.proofs.Names.{arith, append_assoc, if◌then◌else◌, and_parts, eqb-true, eqb_tells, nat_tests}
+use Rattle.pod_workers.proofs.Names.{length_push, same_Some, none-some, slice_get_within, ◌||◌, turn_by, answer_by}
+use Rattle.pod_workers.proofs.Names.{Turn, Calls, Finishes, Finish, Answer, OutOfMemory, Stopped, Call, NetList}
+use Rattle.pod_workers.proofs.Names.{Command}
+use Rattle.std.proofs.lemmas.Bool.{or_cases}
 use Rattle.pod_workers.specs.Facts.{EachFollows, EntryIsInRound, IsScripts, IsStopped, AnswerIsDue, IsDue}
 use Rattle.pod_workers.specs.{Legal.{Legal, starts, steps, refused_memory, turns}, Plans.{Placed, commands_of}}
 use Rattle.pod_workers.specs.{Plans.list_for, World.{World, IsReady, IsUpToStop, own_replies, host_of, is_faulty}}

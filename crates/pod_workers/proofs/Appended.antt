@@ -1,9 +1,8 @@
 -- What a round by one thread appends is in file order.
-use Rattle.std.proofs.Common.{◌≡◌, ℕ, ◌+◌, ◌<◌, ◌≤◌, List, [], ◌∷◌, ◌++◌, Result, Ok, Err, refl, sym, ◌∙◌, ap, subst}
-use Rattle.std.proofs.{Common.{inl, inr, arith}, lemmas.List.{append-nil, append_assoc, Elements.All-append}}
-use Rattle.std.proofs.lemmas.List.Elements.{All-cons, All-head, All-nil, All-push, All-tail, All-weaker}
-use Rattle.std.specs.List.{All}
-use Rattle.cni_addr.specs.declared.memory.NoMemory.{NoMemory}
+use Rattle.pod_workers.proofs.Names.{◌≡◌, ℕ, ◌+◌, ◌<◌, ◌≤◌, List, [], ◌∷◌, ◌++◌, Result, Ok, Err, refl, sym, ◌∙◌, ap}
+use Rattle.pod_workers.proofs.Names.{subst, inl, inr, arith, append_assoc, append-nil, All-append, All-cons, All-nil}
+use Rattle.pod_workers.proofs.Names.{All, NoMemory}
+use Rattle.std.proofs.lemmas.List.Elements.{All-head, All-push, All-tail, All-weaker}
 use Rattle.pod_workers.specs.{Extends.Appends, Order.{AppendsInFileOrder, IsEntryBy, StandInFileOrder}, World.World}
 use Rattle.pod_workers.specs.World.{IsReadyNumber, done, entry_of, host_of, next_of, next_round, own_replies}
 use Rattle.pod_workers.specs.declared.plan.{Entry.Entry, Next.Next, Plan.Plan, StepEnd.StepEnd}

@@ -1,18 +1,16 @@
 -- Each question of a CHECK or a STATUS looks for an object, or asks for a pool of the list.
-use Rattle.std.proofs.Common.{◌≡◌, ℕ, ◌+◌, List, [], ◌∷◌, ◌++◌, map, length, Option, Some, None, slice_get, refl, sym}
-use Rattle.std.proofs.Common.{◌∙◌, ap, append_assoc}
-use Rattle.std.specs.List.{AllByRecursion}
-use Rattle.cni_addr.specs.declared.{mac.Mac.Mac, range.RangeSet.RangeSet}
-use Rattle.cni_result.specs.declared.{cached.Cached.Cached, result.Interface.Interface}
-use Rattle.kernel_types.specs.declared.{call.Call.{Call, TheVariants.{HasObj, PoolFree}}, rule.Rule.Rule}
-use Rattle.net_conf.specs.declared.list.NetList.{NetList}
-use Rattle.pod_file.specs.declared.command.Command.{Command}
-use Rattle.plugin_base.specs.Share.{Share}
+use Rattle.pod_workers.proofs.Names.{◌≡◌, ℕ, ◌+◌, List, [], ◌∷◌, ◌++◌, map, length, Option, Some, None, slice_get, refl}
+use Rattle.pod_workers.proofs.Names.{sym, ◌∙◌, ap, append_assoc, AllByRecursion, RangeSet, Cached, Call, HasObj}
+use Rattle.pod_workers.proofs.Names.{PoolFree, NetList, Command, Share, Question, check_questions, status_questions}
+use Rattle.pod_workers.proofs.Names.{bridge_of, sets_of}
+use Rattle.cni_addr.specs.declared.mac.Mac.{Mac}
+use Rattle.cni_result.specs.declared.result.Interface.{Interface}
+use Rattle.kernel_types.specs.declared.rule.Rule.{Rule}
 use Rattle.cni_errors.specs.ObjectQuestions.{address_question, lease_question, link_question, route_question}
-use Rattle.cni_errors.specs.{ObjectQuestions.{rule_questions, setting_question}, declared.answer.Question.Question}
-use Rattle.cni_verbs.specs.Questions.{bridge_by_mac, bridge_questions, cached_share, check_questions, first_interface}
-use Rattle.cni_verbs.specs.Questions.{master_questions, pool_questions, share_questions, status_questions}
-use Rattle.plugin_chain.specs.Wanted.{bridge_of, master_of, sets_of}
+use Rattle.cni_errors.specs.ObjectQuestions.{rule_questions, setting_question}
+use Rattle.cni_verbs.specs.Questions.{bridge_by_mac, bridge_questions, cached_share, first_interface, master_questions}
+use Rattle.cni_verbs.specs.Questions.{pool_questions, share_questions}
+use Rattle.plugin_chain.specs.Wanted.{master_of}
 use Rattle.pod_workers.proofs.{Each.{each-append, each-map}, Elements.slice_get-middle}
 
 -- it looks for an object, or asks for one of the list's pools

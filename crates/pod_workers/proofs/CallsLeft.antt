@@ -1,13 +1,9 @@
 -- The most calls that a run still makes, by what is left to do and by what its attachment has.
-use Rattle.std.specs.Prelude.{ℕ, ◌+◌, ◌-◌, ◌*◌, List, [], ◌∷◌, length}
-use Rattle.kernel_types.specs.declared.object.CachedObj.{CachedObj}
-use Rattle.net_conf.specs.declared.list.NetList.{NetList}
-use Rattle.pod_file.specs.declared.command.Command.{Command}
-use Rattle.plugin_base.specs.Share.{Share}
-use Rattle.cni_verbs.specs.{Questions.check_questions, Script.{State, AtBegin, BeforeLeases, Leasing, AfterLeases}}
-use Rattle.cni_verbs.specs.Script.{ReadingCache, Deleting, FindingEntry, Asking, Changing, Collecting, Over, before_of}
-use Rattle.plugin_chain.specs.Wanted.{kinds_of, sets_of}
-use Rattle.gc_sweep.specs.Deletions.{deletions_of}
+use Rattle.pod_workers.proofs.Names.{ℕ, ◌+◌, ◌-◌, List, [], ◌∷◌, length, CachedObj, NetList, Command, Share}
+use Rattle.pod_workers.proofs.Names.{check_questions, State, AtBegin, BeforeLeases, Leasing, AfterLeases, ReadingCache}
+use Rattle.pod_workers.proofs.Names.{Deleting, FindingEntry, Asking, Changing, Collecting, Over, before_of, kinds_of}
+use Rattle.pod_workers.proofs.Names.{sets_of, deletions_of}
+use Rattle.std.specs.Prelude.{◌*◌}
 
 -- of so many calls of an ADD, those after its last lease
 abbrev pub most_after : ℕ → NetList → Command → ℕ

@@ -1,5 +1,5 @@
 -- A legal world meets each clause.
-use Rattle.std.proofs.Common.{◌≡◌, ℕ, ◌+◌, ◌≤◌, length, sym, ap, subst, arith}
+use Rattle.pod_workers.proofs.Names.{◌≡◌, ℕ, ◌+◌, ◌≤◌, length, sym, ap, subst, arith}
 use Rattle.pod_workers.specs.{Facts.IsLegalByClauses, Legal.{Legal, starts, steps, refused_memory, turns}, World.World}
 use Rattle.pod_workers.specs.{World.{own_replies, done, next_of}, declared.plan.Next.Next}
 use Rattle.pod_workers.specs.declared.plan.Next.TheVariants as next

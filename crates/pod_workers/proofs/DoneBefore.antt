@@ -1,7 +1,6 @@
 -- Where a command made a call, each earlier one of its container is done.
-use Rattle.std.proofs.Common.{◌≡◌, ◌≢◌, ℕ, ◌+◌, ◌<◌, false, Option, Some, None, slice_get, refl, sym, ◌∙◌, ap, subst}
-use Rattle.std.proofs.{Common.{inl, inr, arith}, lemmas.Bool.Decides.eqb_tells}
-use Rattle.cni_errors.specs.declared.answer.Answer.{Answer, TheVariants.OutOfMemory}
+use Rattle.pod_workers.proofs.Names.{◌≡◌, ◌≢◌, ℕ, ◌+◌, ◌<◌, false, Option, Some, None, slice_get, refl, sym, ◌∙◌, ap}
+use Rattle.pod_workers.proofs.Names.{subst, inl, inr, arith, eqb_tells, Answer, OutOfMemory}
 use Rattle.pod_workers.specs.Facts.{EntryIsInRound, IsDone, EachIsDoneBefore, AreOfOneContainer, GoesOneByOne}
 use Rattle.pod_workers.specs.{Legal.{Legal, starts, steps, refused_memory, turns}, Plans.{Placed, commands_of}}
 use Rattle.pod_workers.specs.World.{World, IsReady, IsAnswered, own_replies, replies_of, host_of, is_cut, done}

@@ -1,7 +1,7 @@
 -- What holds of each element of a list, where lists are joined and made by a map.
-use Rattle.std.proofs.{Common.{◌≡◌, Bool, true, List, [], ◌∷◌, ◌++◌, map, get_or}, lemmas.Bool.and_parts}
-use Rattle.std.proofs.lemmas.List.Elements.{All-append, All-from_recursion, All-map, recursion_from_All}
-use Rattle.std.specs.List.{AllByRecursion, list_all}
+use Rattle.pod_workers.proofs.Names.{◌≡◌, Bool, true, List, [], ◌∷◌, ◌++◌, map, get_or, and_parts, All-append}
+use Rattle.pod_workers.proofs.Names.{AllByRecursion, list_all}
+use Rattle.std.proofs.lemmas.List.Elements.{All-from_recursion, All-map, recursion_from_All}
 
 pub each-append : {X : Type 0} (P : X → Type 0) (xs ys : List X) → AllByRecursion P xs → AllByRecursion P ys
     → AllByRecursion P (xs ++ ys)

@@ -1,8 +1,7 @@
 -- Lists: an element by its place and by its number, in two lists joined and after a map, and the first that passes.
-use Rattle.std.proofs.Common.{◌≡◌, ℕ, zero, suc, ◌+◌, ◌-◌, ◌<◌, ◌⊎◌, Bool, true, false, List, [], ◌∷◌, ◌++◌, length}
-use Rattle.std.proofs.Common.{map, Option, Some, None, slice_get, if◌then◌else◌, refl, sym, ap, ◌∙◌, arith, inl, inr}
-use Rattle.std.proofs.lemmas.{Bool.Decides.eqb_tells, Option.{same_Some, none-some}}
-use Rattle.std.specs.Prelude.{find, filter}
+use Rattle.pod_workers.proofs.Names.{◌≡◌, ℕ, zero, suc, ◌+◌, ◌-◌, ◌<◌, ◌⊎◌, Bool, true, false, List, [], ◌∷◌, ◌++◌}
+use Rattle.pod_workers.proofs.Names.{length, map, Option, Some, None, slice_get, if◌then◌else◌, refl, sym, ap, ◌∙◌}
+use Rattle.pod_workers.proofs.Names.{arith, inl, inr, eqb_tells, same_Some, none-some, find, filter}
 use Rattle.pod_workers.specs.World.{at_number}
 
 pub at_number-is : {X : Type 0} (xs : List X) (number n : ℕ) → number ≡ n + 1 → at_number xs number ≡ slice_get xs n

@@ -1,9 +1,7 @@
 -- Each entry of a legal world follows, entries stand in their order, and stops are kept.
-use Rattle.std.proofs.Common.{◌≡◌, ◌≢◌, ℕ, ◌+◌, ◌<◌, ◌≤◌, ◌==◌, Bool, false, List, [], ◌∷◌, ◌++◌, length, Option, Some}
-use Rattle.std.proofs.{Common.{None, slice_get, refl, sym, ◌∙◌, ap, subst, inl, inr, arith}, lemmas.Bool.cases_lt}
-use Rattle.std.proofs.lemmas.{Bool.Decides.{eqb_tells, nat_tests}, List.{append_assoc, length_push}, Option.same_Some}
-use Rattle.std.specs.Prelude.{◌&&◌}
-use Rattle.kernel_types.specs.declared.call.Call.{Call}
+use Rattle.pod_workers.proofs.Names.{◌≡◌, ◌≢◌, ℕ, ◌+◌, ◌<◌, ◌≤◌, ◌==◌, Bool, false, List, [], ◌∷◌, ◌++◌, length, Option}
+use Rattle.pod_workers.proofs.Names.{Some, None, slice_get, refl, sym, ◌∙◌, ap, subst, inl, inr, arith, append_assoc}
+use Rattle.pod_workers.proofs.Names.{cases_lt, eqb_tells, nat_tests, length_push, same_Some, ◌&&◌, Call}
 use Rattle.pod_workers.specs.Facts.{Follows, EachFollows, IsEntryOf, EachTwo, EntryIsInRound, AreInRoundOrder}
 use Rattle.pod_workers.specs.Facts.{AreOfOneContainer, AreInContainerOrder, GoesByRounds, KeepsStop, IsAfterStop, Stops}
 use Rattle.pod_workers.specs.{Legal.{Legal, starts, steps, refused_memory, turns}, Plans.{Placed, commands_of}}

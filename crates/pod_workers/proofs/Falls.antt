@@ -1,24 +1,16 @@
 -- Each reply lowers the calls that are left to a run.
-use Rattle.std.proofs.Common.{◌≡◌, ℕ, ◌+◌, ◌<◌, ◌≤◌, Bool, true, false, List, [], ◌∷◌, ◌++◌, length, Option, Some, None}
-use Rattle.std.proofs.{Common.{refl, sym, ◌∙◌, ap, subst, inl, inr, ◌⊎◌, arith}, lemmas.Option.same_Some}
-use Rattle.std.specs.{Option.option_map, Prelude.{find, filter}}
-use Rattle.cni_addr.specs.declared.{address.Addr.Addr, range.RangeSet.RangeSet}
-use Rattle.cni_result.specs.declared.cached.Cached.{Cached}
-use Rattle.kernel_types.specs.{Allowed.IsAllowed, Apply.apply, Sound.IsSound, Terms.is_own, declared.call.Call.Call}
-use Rattle.kernel_types.specs.declared.call.{Call.TheVariants.{Begin, LeaseNext, CacheGet}, Kind.Kind, Reply.Reply}
-use Rattle.kernel_types.specs.declared.call.Reply.TheVariants.{Done, Leased, Gone, Has, Entry, Fault}
-use Rattle.kernel_types.specs.declared.object.{CachedObj.CachedObj, Host.Host}
-use Rattle.net_conf.specs.{Sets.one_if, declared.list.NetList.NetList}
-use Rattle.pod_file.specs.declared.command.Command.{Command}
-use Rattle.plugin_base.specs.{Calls.is_plugin_call_of, Share.{Share, share_of}}
-use Rattle.cni_errors.specs.{CommandFields.att_of, declared.answer.{Ending.Ending, Question.Question}}
-use Rattle.cni_verbs.specs.{Questions.check_questions, Script.{State, AtBegin, BeforeLeases, Leasing, AfterLeases}}
-use Rattle.cni_verbs.specs.Script.{ReadingCache, Deleting, FindingEntry, Asking, Changing, Collecting, Over, Calls}
-use Rattle.cni_verbs.specs.Script.{turn, advance, at_begin, at_cache, at_call_after, at_call_before, at_deletion}
-use Rattle.cni_verbs.specs.Script.{at_entry, at_lease, at_question, after_leases, leasing, before_leases, deleting}
-use Rattle.cni_verbs.specs.Script.{asking, checking, back_of, before_of}
-use Rattle.plugin_chain.specs.Wanted.{deletion, kinds_of, sets_of}
-use Rattle.gc_sweep.specs.Deletions.{deletions_of}
+use Rattle.pod_workers.proofs.Names.{◌≡◌, ℕ, ◌+◌, ◌<◌, ◌≤◌, Bool, true, false, List, [], ◌∷◌, ◌++◌, length, Option}
+use Rattle.pod_workers.proofs.Names.{Some, None, refl, sym, ◌∙◌, ap, subst, inl, inr, ◌⊎◌, arith, option_map, same_Some}
+use Rattle.pod_workers.proofs.Names.{find, filter, Addr, RangeSet, Cached, IsAllowed, apply, IsSound, is_own, Call}
+use Rattle.pod_workers.proofs.Names.{Begin, LeaseNext, CacheGet, Kind, Reply, Done, Leased, Gone, Has, Entry, Fault}
+use Rattle.pod_workers.proofs.Names.{CachedObj, Host, NetList, Command, is_plugin_call_of, Share, share_of, att_of}
+use Rattle.pod_workers.proofs.Names.{Ending, Question, check_questions, State, AtBegin, BeforeLeases, Leasing}
+use Rattle.pod_workers.proofs.Names.{AfterLeases, ReadingCache, Deleting, FindingEntry, Asking, Changing, Collecting}
+use Rattle.pod_workers.proofs.Names.{Over, Calls, turn, advance, at_begin, at_cache, at_call_after, at_call_before}
+use Rattle.pod_workers.proofs.Names.{at_deletion, at_entry, at_lease, at_question, after_leases, leasing, before_leases}
+use Rattle.pod_workers.proofs.Names.{deleting, asking, checking, back_of, before_of, deletion, kinds_of, sets_of}
+use Rattle.pod_workers.proofs.Names.{deletions_of}
+use Rattle.net_conf.specs.Sets.{one_if}
 use Rattle.gc_sweep.proofs.Deletable.{begin-none, call-more, deletion-falls, lease-more}
 use Rattle.pod_workers.specs.CallCounts.{AddsInAtMost}
 use Rattle.pod_workers.proofs.{CallsLeft.{calls_left, making, most_after, questions_by}, Elements.find-first}

@@ -1,7 +1,6 @@
 -- A step of the first open command in file order keeps the file's order.
-use Rattle.std.proofs.Common.{◌≡◌, ℕ, ◌+◌, ◌≤◌, false, List, [], ◌∷◌, ◌++◌, refl, ◌∙◌, ap, inl, inr, arith}
-use Rattle.std.proofs.lemmas.Bool.{cases_lt}
-use Rattle.cni_errors.specs.declared.answer.Answer.{Answer}
+use Rattle.pod_workers.proofs.Names.{◌≡◌, ℕ, ◌+◌, ◌≤◌, false, List, [], ◌∷◌, ◌++◌, refl, ◌∙◌, ap, inl, inr, arith}
+use Rattle.pod_workers.proofs.Names.{cases_lt, Answer}
 use Rattle.pod_workers.specs.{Facts.IsEntryOf, Legal.Legal, Order.{AreInFileOrder, IsInFileOrder, EarlierAreAnswered}}
 use Rattle.pod_workers.specs.{Plans.Placed, World.{World, IsReady, own_replies, replies_of, host_of, is_cut, done}}
 use Rattle.pod_workers.specs.World.{answered, with_entry, entry_of, next_of, next_round, stepped}

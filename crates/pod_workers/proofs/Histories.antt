@@ -1,10 +1,9 @@
 -- Histories with one entry more, and answers with one that is written.
-use Rattle.std.proofs.Common.{◌≡◌, ◌≢◌, ℕ, zero, suc, ◌+◌, ◌-◌, ◌<◌, ◌≤◌, true, false, List, [], ◌∷◌, ◌++◌, length}
-use Rattle.std.proofs.Common.{Some, slice_get, slice_set, refl, sym, ◌∙◌, ap, inl, inr, ◌⊎◌, arith}
-use Rattle.std.proofs.lemmas.{Bool.Decides.eqb_tells, List.{length-append, map-append, map_push, length-map}}
-use Rattle.std.proofs.lemmas.{List.{Elements.filter-append, Sums.{count_by-le-length, length-filter}}, Option.same_Some}
-use Rattle.std.proofs.lemmas.Option.{none-some}
-use Rattle.kernel_types.specs.declared.{call.{Call.Call, Reply.Reply}, object.Host.Host}
+use Rattle.pod_workers.proofs.Names.{◌≡◌, ◌≢◌, ℕ, zero, suc, ◌+◌, ◌-◌, ◌<◌, ◌≤◌, true, false, List, [], ◌∷◌, ◌++◌}
+use Rattle.pod_workers.proofs.Names.{length, Some, slice_get, slice_set, refl, sym, ◌∙◌, ap, inl, inr, ◌⊎◌, arith}
+use Rattle.pod_workers.proofs.Names.{eqb_tells, length-append, map-append, length-map, same_Some, none-some, Call}
+use Rattle.pod_workers.proofs.Names.{Reply, Host}
+use Rattle.std.proofs.lemmas.List.{map_push, Elements.filter-append, Sums.{count_by-le-length, length-filter}}
 use Rattle.plugin_base.proofs.KeyLists.{filter-push_dropped, filter-push_kept}
 use Rattle.pod_workers.specs.World.{is_of, own_entries, replies_in, replies_of, after, after_entry, last_entry}
 use Rattle.pod_workers.specs.declared.plan.Entry.{Entry}

@@ -1,12 +1,12 @@
 -- What the index of a plan says of one more command, and of who may step.
-use Rattle.std.proofs.Common.{◌≡◌, ℕ, suc, ◌+◌, ◌<◌, ◌≤◌, Bool, true, false, cond, List, [], ◌∷◌, ◌++◌, length, get_or}
-use Rattle.std.proofs.Common.{map, take, Option, Some, None, option_and_then, slice_get, refl, sym, ◌∙◌, ap, subst}
-use Rattle.std.proofs.{Common.{arith, inl, inr, Bor}, lemmas.{Bool.false≢true, List.{append-nil, append_assoc}}}
-use Rattle.std.proofs.lemmas.{List.{length-append, map-append, length-take-le, take_more, take_all}, Option.none-some}
-use Rattle.std.proofs.lemmas.{Option.{slice_get_read, slice_get-get_or}, Slice.Eq.bytes_eq-Decides}
+use Rattle.pod_workers.proofs.Names.{◌≡◌, ℕ, suc, ◌+◌, ◌<◌, ◌≤◌, Bool, true, false, cond, List, [], ◌∷◌, ◌++◌, length}
+use Rattle.pod_workers.proofs.Names.{get_or, map, take, Option, Some, None, slice_get, refl, sym, ◌∙◌, ap, subst, arith}
+use Rattle.pod_workers.proofs.Names.{inl, inr, append_assoc, false≢true, append-nil, length-append, map-append}
+use Rattle.pod_workers.proofs.Names.{take_more, none-some, slice_get-get_or, bytes_eq-Decides, slice_cmp, nat_cmp}
+use Rattle.pod_workers.proofs.Names.{bytes_eq, Command}
+use Rattle.std.proofs.{Common.{option_and_then, Bor}, lemmas.{List.{length-take-le, take_all}, Option.slice_get_read}}
 use Rattle.std.specs.BTreeMap as tree
-use Rattle.std.specs.{BTreeMap.BTreeMap, Cmp.Lexicographic.slice_cmp, Ordering.nat_cmp, Str.bytes_eq}
-use Rattle.pod_file.specs.declared.command.Command.{Command}
+use Rattle.std.specs.BTreeMap.{BTreeMap}
 use Rattle.pod_workers.specs.{Index.{AreBefore, IsIndex, IsLatest, IsPlaced, NoneOf}, Plans.{Placed, in_round}}
 use Rattle.pod_workers.specs.{Plans.{placed_from, IsOf}, declared.index.Place.Place}
 use Rattle.pod_workers.proofs.{Elements.{at_snoc, slice_get-before, slice_get-middle}, Rounds.placed-fits}

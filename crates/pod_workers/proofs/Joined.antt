@@ -1,11 +1,10 @@
 -- A plan that was joined is well formed.
-use Rattle.std.proofs.Common.{◌≡◌, ℕ, ◌+◌, ◌<◌, Bool, true, false, not, cond, List, [], ◌∷◌, ◌++◌, length, take, drop}
-use Rattle.std.proofs.Common.{get_or, Option, Some, None, Ok, refl, sym, ◌∙◌, ap, subst, arith}
-use Rattle.std.proofs.lemmas.{Iterator.Adapters.position_from-zero, List.{drop_more, take_more}, Option.none-some}
-use Rattle.std.specs.{List.{list_any, list_all, position_from}, Option.option_or, Prelude.{if◌then◌else◌, ◌&&◌}}
-use Rattle.std.specs.{Prelude.{option_map, position}, Str.bytes_eq}
+use Rattle.pod_workers.proofs.Names.{◌≡◌, ℕ, ◌+◌, ◌<◌, Bool, true, false, not, cond, List, [], ◌∷◌, ◌++◌, length, take}
+use Rattle.pod_workers.proofs.Names.{drop, get_or, Option, Some, None, Ok, refl, sym, ◌∙◌, ap, subst, arith}
+use Rattle.pod_workers.proofs.Names.{if◌then◌else◌, option_map, position_from-zero, drop_more, take_more, none-some}
+use Rattle.pod_workers.proofs.Names.{list_any, list_all, position_from, ◌&&◌, position, bytes_eq, NetList}
+use Rattle.std.specs.Option.{option_or}
 use Rattle.cni_addr.specs.Lists.{distinct}
-use Rattle.net_conf.specs.declared.list.NetList.{NetList}
 use Rattle.ip_pool.proofs.Lists.{is_some-find}
 use Rattle.pod_workers.specs.Join.{joined, plan_unless, first_repeat_after, first_without_list}
 use Rattle.pod_workers.specs.{Laws.JoinedPlansAreWellFormed, Plans.{Placed, placed_from, IsWellFormed, commands_of}}

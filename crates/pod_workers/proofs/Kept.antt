@@ -1,16 +1,13 @@
 -- Each change of a step keeps what a book keeps.
-use Rattle.std.proofs.Common.{◌≡◌, ℕ, ◌+◌, ◌-◌, ◌<◌, ◌≤◌, ◌^◌, Bool, true, List, [], ◌∷◌, ◌++◌, length, Option, Some}
-use Rattle.std.proofs.Common.{None, slice_get, slice_set, refl, sym, ◌∙◌, ap, subst, arith, inl, inr}
-use Rattle.std.proofs.lemmas.{Bool.Decides.eqb_tells, List.{length-set, length_push}, Option.{same_Some, none-some}}
-use Rattle.std.proofs.lemmas.Option.{slice_get_within}
+use Rattle.pod_workers.proofs.Names.{◌≡◌, ℕ, ◌+◌, ◌-◌, ◌<◌, ◌≤◌, ◌^◌, Bool, true, List, [], ◌∷◌, ◌++◌, length, Option}
+use Rattle.pod_workers.proofs.Names.{Some, None, slice_get, slice_set, refl, sym, ◌∙◌, ap, subst, arith, inl, inr}
+use Rattle.pod_workers.proofs.Names.{eqb_tells, length-set, length_push, same_Some, none-some, slice_get_within}
+use Rattle.pod_workers.proofs.Names.{Progress, RunView, advanced, turn_by, State, turn, state_from, start_state}
+use Rattle.pod_workers.proofs.Names.{advance, outside_advance, outside_start, Answer, OutOfMemory, Reply, Host, NetList}
+use Rattle.pod_workers.proofs.Names.{Command}
 use Rattle.std.specs.Prelude.{IsSome}
-use Rattle.cni_verbs.specs.{Progress.{Progress, RunView, progress, advanced, turn_by}, Script.{State, turn, state_from}}
-use Rattle.cni_verbs.specs.Script.{start_state, advance, outside_advance, outside_from, outside_start}
+use Rattle.cni_verbs.specs.{Progress.progress, Script.outside_from}
 use Rattle.cni_verbs.proofs.AfterReplies.{after_replies-append}
-use Rattle.cni_errors.specs.declared.answer.Answer.{Answer, TheVariants.OutOfMemory}
-use Rattle.kernel_types.specs.declared.{call.Reply.Reply, object.Host.Host}
-use Rattle.net_conf.specs.declared.list.NetList.{NetList}
-use Rattle.pod_file.specs.declared.command.Command.{Command}
 use Rattle.pod_workers.specs.{Index.{command_at_place, is_cut_by}, Legal.{Legal, steps, refused_memory}, Plans.Placed}
 use Rattle.pod_workers.specs.{Plans.{commands_of, list_for}, Slots.{Fits, IsKept, MayBeMade, MayStepTask, DoesNext}}
 use Rattle.pod_workers.specs.{Slots.{begun_by, begun_with, next_in}, World.{World, IsReady, IsReadyNumber, IsUpToStop}}

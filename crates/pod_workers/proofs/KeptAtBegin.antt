@@ -1,13 +1,8 @@
 -- A book as it is begun keeps what a book keeps.
-use Rattle.std.proofs.Common.{◌≡◌, ℕ, zero, suc, List, [], ◌∷◌, length, map, Option, Some, None, slice_get, refl, sym}
-use Rattle.std.proofs.{Common.{◌∙◌, ap, subst, arith}, lemmas.{List.{length-map, length-replicate}, Option.same_Some}}
-use Rattle.std.proofs.lemmas.Option.{none-some}
-use Rattle.std.specs.Prelude.{replicate}
-use Rattle.cni_verbs.specs.Progress.{RunView}
-use Rattle.cni_errors.specs.declared.answer.Answer.{Answer}
-use Rattle.kernel_types.specs.declared.object.Host.{Host}
-use Rattle.net_conf.specs.declared.list.NetList.{NetList}
-use Rattle.pod_file.specs.declared.command.Command.{Command}
+use Rattle.pod_workers.proofs.Names.{◌≡◌, ℕ, zero, suc, List, [], ◌∷◌, length, map, Option, Some, None, slice_get, refl}
+use Rattle.pod_workers.proofs.Names.{sym, ◌∙◌, ap, subst, arith, length-map, same_Some, none-some, replicate, RunView}
+use Rattle.pod_workers.proofs.Names.{Answer, Host, NetList, Command}
+use Rattle.std.proofs.lemmas.List.{length-replicate}
 use Rattle.pod_workers.specs.{Index.IsIndex, Legal.{IsBegun, starts}, Plans.{IsWellFormed, Placed, commands_of}}
 use Rattle.pod_workers.specs.{Plans.placed_from, Slots.{Fits, IsKept}, World.begun, declared.index.Place.Place}
 use Rattle.pod_workers.specs.declared.plan.{Entry.Entry, Plan.Plan}

@@ -7,6 +7,7 @@ pub mod Each
 pub mod Elements
 pub mod Facts
 pub mod Falls
+pub mod GoesWell
 pub mod Histories
 pub mod Kept
 pub mod Listed
@@ -29,6 +30,8 @@ mod FileOrder
 mod Indexed
 mod Joined
 mod KeptAtBegin
+mod Lasts
+mod Names
 mod OneOutcome
 mod Positions
 mod Reached

@@ -1,15 +1,12 @@
 -- The list of a command's network.
-use Rattle.std.proofs.Common.{◌≡◌, ℕ, Bool, true, false, not, List, Option, Some, None, slice_get, refl, sym, ap, subst}
-use Rattle.std.proofs.lemmas.Bool.{false≢true}
-use Rattle.std.specs.Prelude.{◌&&◌, is_some, if◌then◌else◌}
-use Rattle.cni_verbs.specs.Progress.{RunView, is_gc}
-use Rattle.kernel_types.specs.declared.object.Host.{Host}
-use Rattle.net_conf.specs.declared.list.NetList.{NetList}
-use Rattle.pod_file.specs.{Commands.is_of_network, declared.command.{Command.Command, Verb.Verb}}
+use Rattle.pod_workers.proofs.Names.{◌≡◌, ℕ, Bool, true, false, not, List, Option, Some, None, slice_get, refl, sym, ap}
+use Rattle.pod_workers.proofs.Names.{subst, if◌then◌else◌, false≢true, ◌&&◌, is_some, RunView, Host, NetList}
+use Rattle.pod_workers.proofs.Names.{is_of_network, Command, Verb}
+use Rattle.cni_verbs.specs.Progress.{is_gc}
 use Rattle.pod_file.specs.declared.command.Verb.TheVariants as verbs
 use Rattle.pod_workers.specs.{Laws.EachNetworkCommandHasItsList, Legal.Legal, Plans.{Placed, commands_of, list_for}}
 use Rattle.pod_workers.specs.{Plans.{list_named, lacks_list}, Tasks.IsListed, World.World, declared.index.Place.Place}
-use Rattle.pod_workers.proofs.{Kept.IsFound, Sound.{fine, list_all-at}}
+use Rattle.pod_workers.proofs.{Kept.IsFound, Lasts.list_all-at, Sound.fine}
 
 named-list : (b : Bool) (o : Option NetList) → b ≡ true → not (b && not (is_some o)) ≡ true
     → (list : NetList) × ((if b then o else None) ≡ Some list)

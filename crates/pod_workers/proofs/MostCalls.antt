@@ -1,20 +1,19 @@
 -- An ADD makes no more calls than its list has room for, whatever addresses it is leased.
-use Rattle.std.proofs.Common.{◌≡◌, ℕ, ◌+◌, ◌≤◌, List, [], ◌∷◌, ◌++◌, length, Option, Some, None, sym, ◌∙◌, ap, arith}
-use Rattle.std.proofs.lemmas.List.{length-append, length-map, Sums.sum_by-cons}
+use Rattle.pod_workers.proofs.Names.{◌≡◌, ℕ, ◌+◌, ◌≤◌, List, [], ◌∷◌, ◌++◌, length, Option, Some, None, sym, ◌∙◌, ap}
+use Rattle.pod_workers.proofs.Names.{arith, length-append, length-map, Addr, RangeSet, PortMapping, lease_calls_from}
+use Rattle.pod_workers.proofs.Names.{lease_calls_of, CachePut, LeaseNext, Att, Chained, NetList, Command, chained_laws}
+use Rattle.pod_workers.proofs.Names.{first_laws, att_of, back_of, before_of, back_calls, calls_after, chained_calls}
+use Rattle.pod_workers.proofs.Names.{ipam_of, sets_of}
+use Rattle.std.proofs.lemmas.List.Sums.{sum_by-cons}
 use Rattle.std.specs.{List.cons_option, Prelude.sum_by}
-use Rattle.cni_addr.specs.declared.{address.Addr.Addr, range.RangeSet.RangeSet}
-use Rattle.cni_result.specs.declared.{cached.PortMapping.PortMapping, result.{AddResult.AddResult, IpEntry.IpEntry}}
-use Rattle.host_local.specs.Leases.{given_by_set, given_of, lease_calls_from, lease_calls_of}
-use Rattle.kernel_types.specs.declared.{call.{Call.TheVariants.{CachePut, LeaseNext}, Given.Given}, object.Att.Att}
-use Rattle.net_conf.specs.declared.{chained.Chained.Chained, list.NetList.NetList}
+use Rattle.cni_result.specs.declared.result.{AddResult.AddResult, IpEntry.IpEntry}
+use Rattle.host_local.specs.Leases.{given_by_set, given_of}
+use Rattle.kernel_types.specs.declared.call.Given.{Given}
 use Rattle.pod_file.proofs.CommandFacts.{length-scan}
-use Rattle.pod_file.specs.declared.command.Command.{Command}
-use Rattle.plugin_chain.proofs.{GivenAddresses.{chained-ips, first-addresses}, PluginLaws.{chained_laws, first_laws}}
-use Rattle.cni_errors.specs.CommandFields.{att_of}
-use Rattle.cni_verbs.specs.{Mappings.mappings_of, Script.{back_of, before_of}}
-use Rattle.plugin_chain.specs.{Plugins.plugin_of, Wanted.{add_calls, all_chained_calls, back_calls, cached_of}}
-use Rattle.plugin_chain.specs.Wanted.{calls_after, chained_calls, chained_result, first_plugin_result, given_by_list}
-use Rattle.plugin_chain.specs.Wanted.{ipam_of, sets_of}
+use Rattle.plugin_chain.proofs.GivenAddresses.{chained-ips, first-addresses}
+use Rattle.cni_verbs.specs.Mappings.{mappings_of}
+use Rattle.plugin_chain.specs.{Plugins.plugin_of, Wanted.{add_calls, all_chained_calls, cached_of, chained_result}}
+use Rattle.plugin_chain.specs.Wanted.{first_plugin_result, given_by_list}
 use Rattle.pod_workers.specs.CallCounts.{AddsInAtMost, most_calls, most_of_chained}
 use Rattle.pod_workers.proofs.CallsLeft.{most_after}
 

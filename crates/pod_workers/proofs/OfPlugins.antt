@@ -1,25 +1,20 @@
 -- Every call that is left to a run may be made, whatever the host; a lease and a question about a pool ask for the pool
 -- of their set besides.
-use Rattle.std.proofs.Common.{◌≡◌, ℕ, ◌+◌, Bool, true, false, not, List, [], ◌∷◌, ◌++◌, length, Option, Some, None}
-use Rattle.std.proofs.{Common.{refl, sym, ◌∙◌, ap, arith}, lemmas.{List.{append_assoc, length_push}, Option.none-some}}
-use Rattle.std.specs.Prelude.{if◌then◌else◌, ◌||◌}
-use Rattle.cni_addr.specs.declared.{address.Addr.Addr, range.RangeSet.RangeSet}
-use Rattle.net_conf.specs.{Names.is_interface_name, declared.list.NetList.NetList}
-use Rattle.pod_file.specs.{Commands.is_of_network, declared.command.{Command.Command, Verb.Verb}}
+use Rattle.pod_workers.proofs.Names.{◌≡◌, ℕ, ◌+◌, Bool, true, false, not, List, [], ◌∷◌, ◌++◌, length, Option, Some}
+use Rattle.pod_workers.proofs.Names.{None, refl, sym, ◌∙◌, ap, arith, append_assoc, if◌then◌else◌, length_push}
+use Rattle.pod_workers.proofs.Names.{none-some, ◌||◌, Addr, RangeSet, NetList, is_of_network, Command, Verb, is_host_ns}
+use Rattle.pod_workers.proofs.Names.{Call, NsChange, Outside, Reply, att_of, add_refusal, Question, check_questions}
+use Rattle.pod_workers.proofs.Names.{status_questions, State, AtBegin, BeforeLeases, Leasing, AfterLeases, ReadingCache}
+use Rattle.pod_workers.proofs.Names.{Deleting, FindingEntry, Asking, Changing, Collecting, Over, before_of, back_of}
+use Rattle.pod_workers.proofs.Names.{after_leases, leasing, before_leases, asking, state_after, outside_start}
+use Rattle.pod_workers.proofs.Names.{outside_advance, outside_after, after_replies-keeps, sets_of}
+use Rattle.net_conf.specs.Names.{is_interface_name}
 use Rattle.pod_file.specs.declared.command.Verb.TheVariants as verbs
-use Rattle.kernel_types.specs.{Allowed.IsAllowedChange, Terms.is_host_ns, declared.call.Call.Call}
-use Rattle.kernel_types.specs.declared.call.{Call.TheVariants.{NsChange, Outside}, Change.TheVariants.DropLink}
-use Rattle.kernel_types.specs.declared.{call.Reply.Reply, rule.Table.Table}
+use Rattle.kernel_types.specs.{Allowed.IsAllowedChange, declared.{call.Change.TheVariants.DropLink, rule.Table.Table}}
 use Rattle.kernel_types.proofs.Cases.{none-option_or}
-use Rattle.cni_errors.specs.CommandFields.{att_of, add_refusal, any_wrong, wrong_for_add, drop_refusal, netns_refusal}
-use Rattle.cni_errors.specs.{CommandFields.{none_wrong, refusal_by}, declared.answer.Question.Question}
-use Rattle.cni_errors.specs.declared.answer.WrongFields.{WrongFields}
-use Rattle.cni_verbs.specs.{Questions.{check_questions, status_questions}, Script.{State, AtBegin, BeforeLeases}}
-use Rattle.cni_verbs.specs.Script.{Leasing, AfterLeases, ReadingCache, Deleting, FindingEntry, Asking, Changing}
-use Rattle.cni_verbs.specs.Script.{Collecting, Over, before_of, back_of, after_leases, leasing, before_leases, asking}
-use Rattle.cni_verbs.specs.Script.{state_after, flush_by, outside_of, outside_start, outside_advance, outside_after}
-use Rattle.cni_verbs.proofs.AfterReplies.{after_replies-keeps}
-use Rattle.plugin_chain.specs.Wanted.{sets_of}
+use Rattle.cni_errors.specs.CommandFields.{any_wrong, wrong_for_add, drop_refusal, netns_refusal, none_wrong}
+use Rattle.cni_errors.specs.{CommandFields.refusal_by, declared.answer.WrongFields.WrongFields}
+use Rattle.cni_verbs.specs.Script.{flush_by, outside_of}
 use Rattle.pod_workers.proofs.{Asked.{AreQuestionsOf, check-asks, status-asks}, PluginCalls.AllOfPlugins}
 use Rattle.pod_workers.proofs.{PluginCalls.{of_plugins-back, of_plugins-before}, Replies.{StaysTrue, by-unless}}
 use Rattle.pod_workers.proofs.Replies.{true-after}

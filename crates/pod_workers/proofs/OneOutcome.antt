@@ -1,11 +1,8 @@
 -- A plan that is carried out in file order has one history and one list of answers.
-use Rattle.std.proofs.Common.{◌≡◌, ℕ, zero, suc, ◌+◌, ◌<◌, ◌≤◌, true, List, [], ◌∷◌, ◌++◌, length, Option, Some, None}
-use Rattle.std.proofs.{Common.{slice_get, refl, sym, ◌∙◌, ap, subst, inl, inr, ◌⊎◌, arith}, lemmas.Bool.cases_lt}
-use Rattle.std.proofs.lemmas.{Bool.{cases_order, Decides.eqb_tells}, List.{append-nil, append_assoc}, Option.same_Some}
-use Rattle.std.proofs.lemmas.Option.{slice_get_within}
-use Rattle.cni_verbs.specs.{Progress.{turn_by, answer_by}, Script.{Turn, Calls, Finishes, Finish}}
-use Rattle.cni_errors.specs.declared.answer.Answer.{Answer, TheVariants.Stopped}
-use Rattle.kernel_types.specs.declared.call.{Call.Call, Reply.Reply}
+use Rattle.pod_workers.proofs.Names.{◌≡◌, ℕ, zero, suc, ◌+◌, ◌<◌, ◌≤◌, true, List, [], ◌∷◌, ◌++◌, length, Option, Some}
+use Rattle.pod_workers.proofs.Names.{None, slice_get, refl, sym, ◌∙◌, ap, subst, inl, inr, ◌⊎◌, arith, append_assoc}
+use Rattle.pod_workers.proofs.Names.{cases_lt, cases_order, eqb_tells, append-nil, same_Some, slice_get_within, turn_by}
+use Rattle.pod_workers.proofs.Names.{answer_by, Turn, Calls, Finishes, Finish, Answer, Stopped, Call, Reply}
 use Rattle.pod_workers.specs.{Facts.{Follows, IsEntryOf, EntryIsInRound}, Legal.Legal, Order.IsInFileOrder}
 use Rattle.pod_workers.specs.{Order.{IsDoneInFileOrder, OneOutcome}, Plans.{Placed, commands_of, list_for}, World.World}
 use Rattle.pod_workers.specs.World.{replies_of, own_replies, reply_to, after, is_faulty, is_stop}

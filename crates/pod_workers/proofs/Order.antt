@@ -1,11 +1,9 @@
 -- In which order commands go: round after round, and in a round one after another in each container.
-use Rattle.std.proofs.Common.{◌≡◌, ◌≢◌, ℕ, zero, suc, ◌+◌, ◌<◌, true, List, [], ◌∷◌, length, map, Option, Some, None}
-use Rattle.std.proofs.{Common.{slice_get, refl, sym, ◌∙◌, ap, subst, inl, inr, ◌⊎◌, arith}, lemmas.Bool.cases_Bool}
-use Rattle.std.proofs.lemmas.{Bool.{cases_order, Decides.eqb_tells}, List.{length-map, length-set}, Option.same_Some}
-use Rattle.std.proofs.lemmas.{Option.{none-some, slice_get_within, slice_get-get_or}, Slice.Eq.bytes_eq-Decides}
-use Rattle.std.specs.Str.{bytes_eq}
-use Rattle.cni_errors.specs.declared.answer.Answer.{Answer, TheVariants.OutOfMemory}
-use Rattle.pod_file.specs.Rounds.{is_exclusive}
+use Rattle.pod_workers.proofs.Names.{◌≡◌, ◌≢◌, ℕ, zero, suc, ◌+◌, ◌<◌, true, List, [], ◌∷◌, length, map, Option, Some}
+use Rattle.pod_workers.proofs.Names.{None, slice_get, refl, sym, ◌∙◌, ap, subst, inl, inr, ◌⊎◌, arith, cases_Bool}
+use Rattle.pod_workers.proofs.Names.{cases_order, eqb_tells, length-map, length-set, same_Some, none-some}
+use Rattle.pod_workers.proofs.Names.{slice_get_within, slice_get-get_or, bytes_eq-Decides, bytes_eq, Answer}
+use Rattle.pod_workers.proofs.Names.{OutOfMemory, is_exclusive}
 use Rattle.pod_workers.specs.{Facts.{EachWaits, IsUntouched, LaterAreUntouched, PastAreAnswered}, Legal.Legal}
 use Rattle.pod_workers.specs.{Legal.{IsBegun, starts, steps, refused_memory, turns}, Plans.{Placed, commands_of}}
 use Rattle.pod_workers.specs.World.{World, IsAnswered, IsReady, IsRoundOver, own_replies, answered, with_entry}

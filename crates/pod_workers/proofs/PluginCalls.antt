@@ -1,20 +1,15 @@
 -- The calls that an ADD's plugins make: each is its attachment's or ensures what all share, and is well formed.
-use Rattle.std.proofs.{Common.{◌≡◌, ℕ, Bool, true, false, not, List, [], ◌∷◌, refl, ap, ◌∙◌}, lemmas.Bool.and_parts}
-use Rattle.std.proofs.lemmas.{Bool.not-true, Slice.Eq.bytes_eq-Decides}
-use Rattle.std.specs.List.{AllByRecursion, list_all}
-use Rattle.cni_addr.specs.declared.address.Addr.{Addr}
+use Rattle.pod_workers.proofs.Names.{◌≡◌, ℕ, Bool, true, false, not, List, [], ◌∷◌, refl, ap, ◌∙◌, and_parts}
+use Rattle.pod_workers.proofs.Names.{bytes_eq-Decides, AllByRecursion, list_all, Addr, PortMapping, First, NetList}
+use Rattle.pod_workers.proofs.Names.{is_host_ns, is_own, Call, VethAdd, MacvlanAdd, AddrAdd, RouteAdd, RuleAppend}
+use Rattle.pod_workers.proofs.Names.{SettingSet, LeaseNext, PoolFree, NsChange, Outside, Att, Tag, list_all-weaker}
+use Rattle.pod_workers.proofs.Names.{IsWellFormedCall, is_plugin_call_of, PassesChained, passes-back, own-back}
+use Rattle.pod_workers.proofs.Names.{chained_laws, first_laws, back_calls, calls_after, calls_before, chained_calls}
+use Rattle.std.proofs.lemmas.Bool.{not-true}
 use Rattle.cni_result.proofs.ReadAgain.{each_of}
-use Rattle.cni_result.specs.declared.cached.PortMapping.{PortMapping}
-use Rattle.net_conf.specs.declared.{first.First.First, list.NetList.NetList}
-use Rattle.kernel_types.specs.{Terms.{is_host_ns, is_own, is_owned}, declared.call.Call.{Call, TheVariants.VethAdd}}
-use Rattle.kernel_types.specs.declared.call.Call.TheVariants.{MacvlanAdd, AddrAdd, RouteAdd, RuleAppend, SettingSet}
-use Rattle.kernel_types.specs.declared.{call.Call.TheVariants.{LeaseNext, PoolFree, NsChange, Outside}, object.Att.Att}
-use Rattle.kernel_types.specs.declared.object.Tag.{Tag}
-use Rattle.kernel_types.proofs.{Isolation.is_own-one, ListLemmas.list_all-weaker}
-use Rattle.plugin_base.specs.{Calls.{IsWellFormedCall, is_plugin_call_of}, PluginCalls.is_later_call}
-use Rattle.plugin_chain.proofs.{BackCalls.{PassesChained, passes-back}, OwnCalls.own-back, PluginLaws.chained_laws}
-use Rattle.plugin_chain.proofs.PluginLaws.{first_laws}
-use Rattle.plugin_chain.specs.Wanted.{back_calls, calls_after, calls_before, chained_calls}
+use Rattle.kernel_types.specs.Terms.{is_owned}
+use Rattle.kernel_types.proofs.Isolation.{is_own-one}
+use Rattle.plugin_base.specs.PluginCalls.{is_later_call}
 use Rattle.pod_workers.proofs.Each.{each-both}
 
 -- ---- one call

@@ -1,10 +1,8 @@
 -- The first command that passes a test, looked for round by round.
-use Rattle.std.proofs.Common.{◌≡◌, ℕ, ◌+◌, ◌<◌, ◌≤◌, Bool, true, false, cond, List, [], ◌∷◌, ◌++◌, map, length, get_or}
-use Rattle.std.proofs.Common.{drop, Some, None, refl, sym, ◌∙◌, ap, arith}
-use Rattle.std.proofs.lemmas.{Iterator.Adapters.position_from-zero, List.{drop_more, drop_all, length-append}}
-use Rattle.std.proofs.lemmas.{List.{length-map, Quantifiers.position-Some}, Option.{same_Some, none-some}}
-use Rattle.std.specs.{List.position_from, Prelude.position}
-use Rattle.pod_file.specs.declared.command.Command.{Command}
+use Rattle.pod_workers.proofs.Names.{◌≡◌, ℕ, ◌+◌, ◌<◌, ◌≤◌, Bool, true, false, cond, List, [], ◌∷◌, ◌++◌, map, length}
+use Rattle.pod_workers.proofs.Names.{get_or, drop, Some, None, refl, sym, ◌∙◌, ap, arith, position_from-zero, drop_more}
+use Rattle.pod_workers.proofs.Names.{length-append, length-map, same_Some, none-some, position_from, position, Command}
+use Rattle.std.proofs.lemmas.List.{drop_all, Quantifiers.position-Some}
 use Rattle.pod_workers.specs.Plans.{Placed, in_round, placed_from}
 
 position_from-none : {X : Type 0} (t : X → Bool) (i : ℕ) (xs ys : List X) → position_from t i xs ≡ None

@@ -1,9 +1,7 @@
 -- The moments of a legal history: each prefix is the history of a legal world.
-use Rattle.std.proofs.Common.{◌≡◌, ◌≢◌, ℕ, ◌+◌, ◌≤◌, Bool, List, [], ◌∷◌, ◌++◌, Some, None, slice_get, slice_set, refl}
-use Rattle.std.proofs.{Common.{sym, ◌∙◌, ap, subst, inl, inr, ◌⊎◌, arith}, lemmas.Bool.Decides.eqb_tells}
-use Rattle.std.proofs.lemmas.{List.{append-nil, append_assoc}, Option.{same_Some, none-some, slice_get_within}}
-use Rattle.cni_errors.specs.declared.answer.Answer.{Answer, TheVariants.OutOfMemory}
-use Rattle.kernel_types.specs.declared.call.Call.{Call}
+use Rattle.pod_workers.proofs.Names.{◌≡◌, ◌≢◌, ℕ, ◌+◌, ◌≤◌, Bool, List, [], ◌∷◌, ◌++◌, Some, None, slice_get, slice_set}
+use Rattle.pod_workers.proofs.Names.{refl, sym, ◌∙◌, ap, subst, inl, inr, ◌⊎◌, arith, append_assoc, eqb_tells}
+use Rattle.pod_workers.proofs.Names.{append-nil, same_Some, none-some, slice_get_within, Answer, OutOfMemory, Call}
 use Rattle.pod_workers.specs.{Extends.KeepsAnswers, Facts.{HasPrefix, IsMadeAt, IsOpenAfter, IsAnsweredAt}, Legal.Legal}
 use Rattle.pod_workers.specs.{Legal.{starts, steps, refused_memory, turns}, Plans.{Placed, commands_of}, World.World}
 use Rattle.pod_workers.specs.World.{IsReady, own_replies, host_of, done, answered, with_entry, entry_of, next_of}

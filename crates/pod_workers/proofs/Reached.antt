@@ -1,8 +1,7 @@
 -- Each world that meets the clauses is reached by allowed steps: event after event is taken back.
-use Rattle.std.proofs.Common.{◌≡◌, ◌≢◌, ℕ, zero, suc, ◌+◌, ◌<◌, ◌≤◌, List, [], ◌∷◌, ◌++◌, length, map, Option, Some}
-use Rattle.std.proofs.Common.{None, slice_get, slice_set, refl, sym, ◌∙◌, ap, subst, inl, inr, ◌⊎◌, arith}
-use Rattle.std.proofs.lemmas.{Bool.Decides.eqb_tells, List.length_push, Option.{same_Some, none-some, slice_get_within}}
-use Rattle.cni_errors.specs.declared.answer.Answer.{Answer}
+use Rattle.pod_workers.proofs.Names.{◌≡◌, ◌≢◌, ℕ, zero, suc, ◌+◌, ◌<◌, ◌≤◌, List, [], ◌∷◌, ◌++◌, length, map, Option}
+use Rattle.pod_workers.proofs.Names.{Some, None, slice_get, slice_set, refl, sym, ◌∙◌, ap, subst, inl, inr, ◌⊎◌, arith}
+use Rattle.pod_workers.proofs.Names.{eqb_tells, length_push, same_Some, none-some, slice_get_within, Answer}
 use Rattle.pod_workers.specs.{Facts.{IsEntryOf, IsUntouched, AreOfOneContainer, IsLegalByClauses}, Legal.Legal}
 use Rattle.pod_workers.specs.{Legal.{IsBegun, starts}, Plans.{Placed, commands_of}, World.{World, IsAnswered}}
 use Rattle.pod_workers.specs.World.{own_replies, replies_of, answered, begun, with_entry, next_round}

@@ -1,13 +1,11 @@
 -- Who may step, by the index.
-use Rattle.std.proofs.Common.{◌≡◌, ◌≢◌, ℕ, ◌+◌, ◌-◌, ◌<◌, ◌==◌, Bool, true, false, List, [], ◌∷◌, length, get_or}
-use Rattle.std.proofs.Common.{Option, Some, None, slice_get, refl, sym, ◌∙◌, ap, subst, arith, inl, inr}
-use Rattle.std.proofs.lemmas.{Bool.{false≢true, and_parts, cases_order, eqb-true, eq-eqb}, Option.same_Some}
-use Rattle.std.proofs.lemmas.Option.{none-some, slice_get-get_or, slice_get_within}
-use Rattle.std.specs.{Option.{option_flatten, option_map_or}, Prelude.{MatchBool, ◌&&◌, is_some, if◌then◌else◌}}
-use Rattle.cni_verbs.specs.Progress.{RunView}
-use Rattle.cni_errors.specs.declared.answer.Answer.{Answer}
-use Rattle.kernel_types.specs.declared.object.Host.{Host}
-use Rattle.pod_file.specs.declared.command.Command.{Command}
+use Rattle.pod_workers.proofs.Names.{◌≡◌, ◌≢◌, ℕ, ◌+◌, ◌-◌, ◌<◌, ◌==◌, Bool, true, false, List, [], ◌∷◌, length, get_or}
+use Rattle.pod_workers.proofs.Names.{Option, Some, None, slice_get, refl, sym, ◌∙◌, ap, subst, arith, inl, inr}
+use Rattle.pod_workers.proofs.Names.{if◌then◌else◌, false≢true, and_parts, cases_order, eqb-true, same_Some, none-some}
+use Rattle.pod_workers.proofs.Names.{slice_get-get_or, slice_get_within, option_map_or, ◌&&◌, is_some, RunView, Answer}
+use Rattle.pod_workers.proofs.Names.{Host, Command}
+use Rattle.std.proofs.lemmas.Bool.{eq-eqb}
+use Rattle.std.specs.{Option.option_flatten, Prelude.MatchBool}
 use Rattle.pod_workers.specs.Index.{IsIndex, IsLatest, IsPlaced, is_cut_after, is_cut_by, is_entry_in, is_open}
 use Rattle.pod_workers.specs.{Index.{lets_through, may_step_by}, Plans.{Placed, commands_of, IsOf}, Slots.IsKept}
 use Rattle.pod_workers.specs.World.{World, Blocks, IsAnswered, IsReady, IsReadyNumber, at_number, is_cut, is_cut_at}

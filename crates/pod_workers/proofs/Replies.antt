@@ -1,24 +1,19 @@
 -- A fact about the state of a run that each reply keeps holds whatever the run was replied.
-use Rattle.std.proofs.Common.{◌≡◌, ℕ, Bool, true, false, List, [], ◌∷◌, ◌++◌, Option, Some, None, refl}
-use Rattle.std.specs.Prelude.{if◌then◌else◌}
-use Rattle.cni_addr.specs.declared.{address.Addr.Addr, range.RangeSet.RangeSet}
-use Rattle.cni_result.specs.declared.{cached.Cached.Cached, version.Version.Version}
-use Rattle.net_conf.specs.declared.list.NetList.{NetList}
-use Rattle.pod_file.specs.declared.command.{Command.Command, Verb.Verb}
+use Rattle.pod_workers.proofs.Names.{◌≡◌, ℕ, Bool, true, false, List, [], ◌∷◌, ◌++◌, Option, Some, None, refl}
+use Rattle.pod_workers.proofs.Names.{if◌then◌else◌, Addr, RangeSet, Cached, NetList, Command, Verb, Call, Kind, Reply}
+use Rattle.pod_workers.proofs.Names.{Done, Leased, Gone, Has, Entry, Fault, add_refusal, Ending, Yes, Skipped, Versions}
+use Rattle.pod_workers.proofs.Names.{Refused, Question, check_questions, status_questions, State, AtBegin, BeforeLeases}
+use Rattle.pod_workers.proofs.Names.{Leasing, AfterLeases, ReadingCache, Deleting, FindingEntry, Asking, Changing}
+use Rattle.pod_workers.proofs.Names.{Collecting, Over, before_of, after_leases, leasing, before_leases, deleting}
+use Rattle.pod_workers.proofs.Names.{asking, gc_of, at_begin, at_call_before, at_lease, at_call_after, at_cache}
+use Rattle.pod_workers.proofs.Names.{at_deletion, checking, at_entry, at_question, advance, start_state, state_from}
+use Rattle.pod_workers.proofs.Names.{state_after, Work, after_replies-keeps, kinds_of}
+use Rattle.cni_result.specs.declared.version.Version.{Version}
 use Rattle.pod_file.specs.declared.command.Verb.TheVariants as verbs
-use Rattle.kernel_types.specs.declared.call.{Call.Call, Kind.Kind, Reply.{Reply, TheVariants.{Done, Leased, Gone, Has}}}
-use Rattle.kernel_types.specs.declared.call.Reply.TheVariants.{Entry, Fault}
-use Rattle.cni_errors.specs.{CommandFields.{add_refusal, del_refusal}, declared.answer.{Cause.Cause, Ending.Ending}}
-use Rattle.cni_errors.specs.declared.answer.{Ending.TheVariants.{Yes, Skipped, Versions, Refused}, Question.Question}
-use Rattle.cni_verbs.specs.{Questions.{check_questions, status_questions}, Script.{State, AtBegin, BeforeLeases}}
-use Rattle.cni_verbs.specs.Script.{Leasing, AfterLeases, ReadingCache, Deleting, FindingEntry, Asking, Changing}
-use Rattle.cni_verbs.specs.Script.{Collecting, Over, before_of, after_leases, leasing, before_leases, deleting, asking}
-use Rattle.cni_verbs.specs.Script.{gc_of, faulted, at_begin, at_call_before, at_lease, at_call_after, at_cache}
-use Rattle.cni_verbs.specs.Script.{at_deletion, checking, at_entry, at_question, changed, advance, unless_refused}
-use Rattle.cni_verbs.specs.Script.{unless_ended, old_ending, early_ending, start_of, start_state, state_from}
-use Rattle.cni_verbs.specs.{Script.state_after, Sweep.{Work, start_work}}
-use Rattle.cni_verbs.proofs.{AfterReplies.after_replies-keeps, EarlyEndings.{early_ending-cases, old_ending-cases}}
-use Rattle.plugin_chain.specs.Wanted.{kinds_of}
+use Rattle.cni_errors.specs.{CommandFields.del_refusal, declared.answer.Cause.Cause}
+use Rattle.cni_verbs.specs.Script.{faulted, changed, unless_refused, unless_ended, old_ending, early_ending, start_of}
+use Rattle.cni_verbs.specs.Sweep.{start_work}
+use Rattle.cni_verbs.proofs.EarlyEndings.{early_ending-cases, old_ending-cases}
 use Rattle.cni_errors.specs.declared.answer.Skip.TheVariants as skips
 
 -- ---- one reply

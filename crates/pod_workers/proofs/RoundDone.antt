@@ -1,15 +1,10 @@
 -- A round's commands are stepped to their answers one after another, and the next round is current.
-use Rattle.std.proofs.Common.{◌≡◌, ℕ, zero, suc, ◌+◌, ◌-◌, ◌<◌, ◌≤◌, true, List, [], ◌∷◌, ◌++◌, length, map, take}
-use Rattle.std.proofs.Common.{Option, Some, None, Result, Ok, Err, IfOk, OnErr, slice_get, refl, sym, ◌∙◌, ap, subst}
-use Rattle.std.proofs.{Common.{arith, inl, inr}, lemmas.{Bool.{cases_lt, Decides.eqb_tells}, List.append-nil}}
-use Rattle.std.proofs.lemmas.List.{append_assoc, length-append, length-map, Elements.{All-append, All-cons, All-nil}}
-use Rattle.std.proofs.lemmas.Option.{same_Some, none-some, slice_get_within}
-use Rattle.std.specs.List.{All}
-use Rattle.cni_addr.specs.declared.memory.NoMemory.{NoMemory}
-use Rattle.cni_verbs.specs.Progress.{RunView}
-use Rattle.cni_errors.specs.declared.answer.Answer.{Answer, TheVariants.OutOfMemory}
-use Rattle.kernel_types.specs.declared.object.Host.{Host}
-use Rattle.pod_file.specs.{Rounds.file_limit, declared.command.Command.Command}
+use Rattle.pod_workers.proofs.Names.{◌≡◌, ℕ, zero, suc, ◌+◌, ◌-◌, ◌<◌, ◌≤◌, true, List, [], ◌∷◌, ◌++◌, length, map}
+use Rattle.pod_workers.proofs.Names.{take, Option, Some, None, Result, Ok, Err, slice_get, refl, sym, ◌∙◌, ap, subst}
+use Rattle.pod_workers.proofs.Names.{arith, inl, inr, append_assoc, cases_lt, eqb_tells, append-nil, length-append}
+use Rattle.pod_workers.proofs.Names.{length-map, All-append, All-cons, All-nil, same_Some, none-some, slice_get_within}
+use Rattle.pod_workers.proofs.Names.{All, NoMemory, RunView, Answer, OutOfMemory, Host, file_limit, Command}
+use Rattle.std.proofs.Common.{IfOk, OnErr}
 use Rattle.pod_workers.specs.{Extends.{Appends, Extends, IsOfRound, Rounds}, Legal.{Legal, turns}}
 use Rattle.pod_workers.specs.{Order.{EarlierAreAnswered, IsInFileOrder}, Plans.{Placed, commands_of, in_round}}
 use Rattle.pod_workers.specs.{Plans.placed_from, Slots.{AreNumbersOf, IsKept}, World.{World, IsAnswered, IsReady}}

@@ -1,10 +1,9 @@
 -- The commands of a plan, round by round.
-use Rattle.std.proofs.Common.{◌≡◌, ◌==◌, ℕ, Bool, false, Option, zero, suc, ◌+◌, ◌<◌, ◌≤◌, ◌⊎◌, List, [], ◌∷◌, ◌++◌}
-use Rattle.std.proofs.Common.{length, map, take, Some, slice_get, refl, sym, ◌∙◌, ap, arith, inl, inr}
-use Rattle.std.proofs.{Math.Nat.min-le_left, lemmas.List.{append-nil, append_assoc, length-append, length-map}}
-use Rattle.std.proofs.lemmas.{List.length-take, Option.{same_Some, none-some}}
-use Rattle.std.specs.Option.{option_map_or}
-use Rattle.pod_file.specs.declared.command.Command.{Command}
+use Rattle.pod_workers.proofs.Names.{◌≡◌, ◌==◌, ℕ, Bool, false, Option, zero, suc, ◌+◌, ◌<◌, ◌≤◌, ◌⊎◌, List, [], ◌∷◌}
+use Rattle.pod_workers.proofs.Names.{◌++◌, length, map, take, Some, slice_get, refl, sym, ◌∙◌, ap, arith, inl, inr}
+use Rattle.pod_workers.proofs.Names.{append_assoc, append-nil, length-append, length-map, same_Some, none-some}
+use Rattle.pod_workers.proofs.Names.{option_map_or, Command}
+use Rattle.std.proofs.{Math.Nat.min-le_left, lemmas.List.length-take}
 use Rattle.pod_workers.specs.{Index.AreBefore, Plans.{Placed, in_round, placed_from}}
 use Rattle.pod_workers.proofs.Elements.{slice_get-map_some}
 

@@ -1,7 +1,7 @@
 -- The commands of a plan stand in the order of their rounds.
-use Rattle.std.proofs.Common.{◌≡◌, ℕ, ◌+◌, ◌<◌, ◌≤◌, List, [], ◌∷◌, length, Some, slice_get, inl, inr, arith}
-use Rattle.std.proofs.lemmas.Option.{none-some, slice_get_cases, slice_get_within}
-use Rattle.pod_file.specs.declared.command.Command.{Command}
+use Rattle.pod_workers.proofs.Names.{◌≡◌, ℕ, ◌+◌, ◌<◌, ◌≤◌, List, [], ◌∷◌, length, Some, slice_get, inl, inr, arith}
+use Rattle.pod_workers.proofs.Names.{none-some, slice_get_within, Command}
+use Rattle.std.proofs.lemmas.Option.{slice_get_cases}
 use Rattle.pod_workers.specs.{Plans.{Placed, commands_of, placed_from}, World.{World, IsAnswered}}
 use Rattle.pod_workers.specs.declared.plan.Plan.{Plan}
 use Rattle.pod_workers.proofs.{Order.IsInOrder, Rounds.{here_or_later, round-of}}

@@ -1,24 +1,15 @@
 -- The steps that are left to a command: as many as the calls of its run, and one for its answer.
-use Rattle.std.proofs.Common.{◌≡◌, ℕ, ◌+◌, ◌-◌, ◌<◌, Bool, true, false, List, [], ◌∷◌, ◌++◌, length, Option, Some, None}
-use Rattle.std.proofs.Common.{Result, Ok, Err, slice_get, refl, sym, ◌∙◌, ap, subst, arith}
-use Rattle.std.proofs.lemmas.Option.{slice_get_within}
-use Rattle.std.specs.Prelude.{if◌then◌else◌}
-use Rattle.cni_addr.specs.declared.{address.Addr.Addr, memory.NoMemory.NoMemory, range.RangeSet.RangeSet}
-use Rattle.cni_errors.specs.{CommandFields.att_of, declared.answer.Answer.{Answer, TheVariants.OutOfMemory}}
-use Rattle.cni_errors.specs.declared.answer.Question.{Question}
-use Rattle.cni_verbs.specs.{Progress.turn_by, Questions.check_questions, Script.{State, AtBegin, BeforeLeases, Leasing}}
-use Rattle.cni_verbs.specs.Script.{AfterLeases, ReadingCache, Deleting, FindingEntry, Asking, Changing, Collecting}
-use Rattle.cni_verbs.specs.Script.{Over, Calls, turn, turn_of_work, call_of_work, gc_of, advance, start_state}
-use Rattle.cni_verbs.specs.Script.{state_after, outside_advance, outside_start, outside_after, after_leases, leasing}
-use Rattle.cni_verbs.specs.{Script.{before_leases, asking, back_of, before_of}, Sweep.{Gc, Job, Sweep, Work}}
-use Rattle.cni_verbs.specs.Sweep.{work_after}
-use Rattle.plugin_chain.specs.Wanted.{sets_of}
-use Rattle.kernel_types.specs.{Allowed.IsAllowed, Apply.apply, Sound.IsSound, declared.call.{Call.Call, Reply.Reply}}
-use Rattle.kernel_types.specs.declared.{call.Reply.TheVariants.Fault, object.Host.Host}
-use Rattle.kernel_types.proofs.Replies.{IsReplyOf-apply}
-use Rattle.net_conf.specs.declared.list.NetList.{NetList}
-use Rattle.pod_file.specs.declared.command.Command.{Command}
-use Rattle.plugin_base.specs.Share.{share_of}
+use Rattle.pod_workers.proofs.Names.{◌≡◌, ℕ, ◌+◌, ◌-◌, ◌<◌, Bool, true, false, List, [], ◌∷◌, ◌++◌, length, Option}
+use Rattle.pod_workers.proofs.Names.{Some, None, Result, Ok, Err, slice_get, refl, sym, ◌∙◌, ap, subst, arith}
+use Rattle.pod_workers.proofs.Names.{if◌then◌else◌, slice_get_within, Addr, NoMemory, RangeSet, att_of, Answer}
+use Rattle.pod_workers.proofs.Names.{OutOfMemory, Question, turn_by, check_questions, State, AtBegin, BeforeLeases}
+use Rattle.pod_workers.proofs.Names.{Leasing, AfterLeases, ReadingCache, Deleting, FindingEntry, Asking, Changing}
+use Rattle.pod_workers.proofs.Names.{Collecting, Over, Calls, turn, turn_of_work, gc_of, advance, start_state}
+use Rattle.pod_workers.proofs.Names.{state_after, outside_advance, outside_start, outside_after, after_leases, leasing}
+use Rattle.pod_workers.proofs.Names.{before_leases, asking, back_of, before_of, Job, Sweep, Work, sets_of, IsAllowed}
+use Rattle.pod_workers.proofs.Names.{apply, IsSound, Call, Reply, Fault, Host, IsReplyOf-apply, NetList, Command}
+use Rattle.pod_workers.proofs.Names.{share_of}
+use Rattle.cni_verbs.specs.{Script.call_of_work, Sweep.{Gc, work_after}}
 use Rattle.gc_sweep.proofs.{Collected.{fault-falls, work-falls}, Weights.collection_left}
 use Rattle.pod_workers.specs.{CallCounts.{AddsInAtMost, most_calls}, Legal.Legal, Plans.{Placed, commands_of, list_for}}
 use Rattle.pod_workers.specs.World.{World, IsReady, IsReadyNumber, answered, done, entry_of, host_of, after_entry}

@@ -1,14 +1,10 @@
 -- A stopped command is answered how many calls it made, and they are no more than what stopped it allows.
-use Rattle.std.proofs.Common.{◌≡◌, ℕ, ◌+◌, ◌≤◌, ◌⊎◌, List, [], ◌∷◌, ◌++◌, length, Option, Some, None, slice_get, refl}
-use Rattle.std.proofs.{Common.{sym, ◌∙◌, ap, subst, arith, inl, inr}, lemmas.List.{append-nil, append_assoc}}
-use Rattle.std.proofs.lemmas.List.{length_push}
-use Rattle.cni_addr.specs.declared.address.Addr.{Addr}
-use Rattle.cni_verbs.specs.{Endings.{answer_of, answer_of_ending, answer_outside, outside_by}, Progress.answer_by}
-use Rattle.cni_verbs.specs.Script.{Finish}
-use Rattle.cni_errors.specs.declared.answer.{Answer.TheVariants.{OutOfMemory, Stopped}, Ending.Ending}
-use Rattle.cni_errors.specs.declared.answer.Ending.TheVariants.{Added, Yes, Skipped, Versions, Refused}
-use Rattle.net_conf.specs.declared.list.NetList.{NetList}
-use Rattle.pod_file.specs.declared.command.Command.{Command}
+use Rattle.pod_workers.proofs.Names.{◌≡◌, ℕ, ◌+◌, ◌≤◌, ◌⊎◌, List, [], ◌∷◌, ◌++◌, length, Option, Some, None, slice_get}
+use Rattle.pod_workers.proofs.Names.{refl, sym, ◌∙◌, ap, subst, arith, inl, inr, append_assoc, append-nil, length_push}
+use Rattle.pod_workers.proofs.Names.{Addr, answer_by, Finish, OutOfMemory, Stopped, Ending, Yes, Skipped, Versions}
+use Rattle.pod_workers.proofs.Names.{Refused, NetList, Command}
+use Rattle.cni_verbs.specs.Endings.{answer_of, answer_of_ending, answer_outside, outside_by}
+use Rattle.cni_errors.specs.declared.answer.Ending.TheVariants.{Added}
 use Rattle.pod_workers.specs.Facts.{EachStopIsCounted, EntryIsInRound, IsEntryOf, IsStopped, IsWithinStop, Stops}
 use Rattle.pod_workers.specs.{Plans.{Placed, commands_of, list_for}, World.{World, own_replies, replies_of}}
 use Rattle.pod_workers.specs.declared.plan.Entry.{Entry}

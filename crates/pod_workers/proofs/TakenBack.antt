@@ -1,10 +1,9 @@
 -- Of a world that meets the clauses, an answer, an entry or a round is taken back.
-use Rattle.std.proofs.Common.{◌≡◌, ◌≢◌, ℕ, ◌+◌, ◌<◌, ◌≤◌, ◌==◌, Bool, true, false, List, [], ◌∷◌, ◌++◌, length, Option}
-use Rattle.std.proofs.Common.{Some, None, slice_get, slice_set, refl, sym, ◌∙◌, ap, subst, inl, inr, ◌⊎◌, arith}
-use Rattle.std.proofs.lemmas.{Bool.{cases_Bool, or_right, Decides.{eqb_tells, nat_tests}}, List.append_assoc}
-use Rattle.std.proofs.lemmas.{List.{length-set, length_push}, Option.{same_Some, none-some, slice_get_within}}
-use Rattle.std.specs.Prelude.{if◌then◌else◌, ◌||◌, ◌&&◌}
-use Rattle.cni_errors.specs.declared.answer.Answer.{Answer, TheVariants.Stopped}
+use Rattle.pod_workers.proofs.Names.{◌≡◌, ◌≢◌, ℕ, ◌+◌, ◌<◌, ◌≤◌, ◌==◌, Bool, true, false, List, [], ◌∷◌, ◌++◌, length}
+use Rattle.pod_workers.proofs.Names.{Option, Some, None, slice_get, slice_set, refl, sym, ◌∙◌, ap, subst, inl, inr, ◌⊎◌}
+use Rattle.pod_workers.proofs.Names.{arith, append_assoc, if◌then◌else◌, cases_Bool, eqb_tells, nat_tests, length-set}
+use Rattle.pod_workers.proofs.Names.{length_push, same_Some, none-some, slice_get_within, ◌||◌, ◌&&◌, Answer, Stopped}
+use Rattle.std.proofs.lemmas.Bool.{or_right}
 use Rattle.pod_workers.specs.Facts.{Follows, IsEntryOf, EachTwo, EntryIsInRound, IsUntouched, AreInRoundOrder}
 use Rattle.pod_workers.specs.Facts.{AreOfOneContainer, AreInContainerOrder, IsAfterStop, IsScripts, IsStopOf, IsDone}
 use Rattle.pod_workers.specs.{Facts.{IsLegalByClauses, IsDue}, Legal.{Legal, steps, refused_memory, turns}}

@@ -1,16 +1,12 @@
 -- What a run does next, by its state.
-use Rattle.std.proofs.Common.{◌≡◌, ℕ, Bool, true, false, List, [], ◌∷◌, ◌++◌, Option, Some, None, refl, sym, ◌∙◌, ap}
-use Rattle.std.proofs.{Common.{subst, inl, inr, ◌⊎◌}, lemmas.{Bool.false≢true, Option.{same_Some, none-some}}}
-use Rattle.std.specs.Prelude.{option_map, if◌then◌else◌, ◌||◌}
+use Rattle.pod_workers.proofs.Names.{◌≡◌, ℕ, Bool, true, false, List, [], ◌∷◌, ◌++◌, Option, Some, None, refl, sym, ◌∙◌}
+use Rattle.pod_workers.proofs.Names.{ap, subst, inl, inr, ◌⊎◌, option_map, if◌then◌else◌, false≢true, same_Some}
+use Rattle.pod_workers.proofs.Names.{none-some, ◌||◌, Progress, RunView, advanced, answer_by, IsOpen, State, Turn}
+use Rattle.pod_workers.proofs.Names.{Calls, Finishes, Finish, turn, next_call, finish_of, Answer, Stopped, IsAllowed}
+use Rattle.pod_workers.proofs.Names.{apply, is_fault, Call, Reply, Host, IsReplyOf-apply, NetList, Command}
 use Rattle.cni_verbs.proofs.CallsOrOver.{calls_or_over}
-use Rattle.cni_verbs.specs.{Progress.{Progress, RunView, advanced, answer_by}, Replies.{host_after, reply_to}}
-use Rattle.cni_verbs.specs.Script.{IsOpen, State, Turn, Calls, Finishes, Finish, turn, next_call, finish_of}
-use Rattle.cni_errors.specs.declared.answer.Answer.{Answer, TheVariants.Stopped}
-use Rattle.kernel_types.specs.{Allowed.IsAllowed, Apply.apply, Replies.{holds_text_or_list, is_fault}}
-use Rattle.kernel_types.specs.declared.{call.{Call.Call, Reply.Reply}, object.Host.Host}
-use Rattle.kernel_types.proofs.Replies.{IsReplyOf-apply}
-use Rattle.net_conf.specs.declared.list.NetList.{NetList}
-use Rattle.pod_file.specs.declared.command.Command.{Command}
+use Rattle.cni_verbs.specs.Replies.{host_after, reply_to}
+use Rattle.kernel_types.specs.Replies.{holds_text_or_list}
 use Rattle.pod_workers.specs.{Slots.{MayBeMade, DoesNext, next_in}, World.{after_entry, entry_by, is_faulty, is_stop}}
 use Rattle.pod_workers.specs.{World.next_by, declared.plan.{Entry.Entry, Next.Next}}
 use Rattle.pod_workers.specs.declared.plan.Next.TheVariants as next

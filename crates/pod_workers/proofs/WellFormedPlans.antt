@@ -1,18 +1,13 @@
 -- What a well-formed plan keeps: pools of addresses apart, commands numbered from 1, exclusive ones alone in their
 -- rounds, and bounds.
-use Rattle.std.proofs.Common.{◌≡◌, ◌∙◌, ◌≤◌, ◌+◌, ◌++◌, ℕ, Bool, true, List, [], ◌∷◌, map, length, refl, sym, ap, arith}
-use Rattle.std.proofs.{Common.{Option, Some, None, slice_get, option_map}, lemmas.{Bool.and_from, List.length-map}}
-use Rattle.std.proofs.lemmas.{List.{map-append, Elements.{All-drop, All-get_or}}, Option.slice_get-map}
-use Rattle.std.specs.List.{All, list_all}
-use Rattle.cni_addr.specs.declared.range.RangeSet.{RangeSet}
-use Rattle.host_local.specs.Conf.{range_sets_of}
-use Rattle.ip_pool.specs.Pool.{are_apart}
+use Rattle.pod_workers.proofs.Names.{◌≡◌, ◌∙◌, ◌≤◌, ◌+◌, ◌++◌, ℕ, Bool, true, List, [], ◌∷◌, map, length, refl, sym, ap}
+use Rattle.pod_workers.proofs.Names.{arith, Option, Some, None, slice_get, option_map, and_from, length-map, map-append}
+use Rattle.pod_workers.proofs.Names.{All-drop, All-get_or, All, list_all, RangeSet, range_sets_of, are_apart, First}
+use Rattle.pod_workers.proofs.Names.{HostLocalConf, NetList, file_limit, IsWellFormedPods, Command, ipam_of, sets_of}
+use Rattle.std.proofs.lemmas.Option.{slice_get-map}
 use Rattle.net_conf.specs.WellFormed.{IsWellFormedFirst, IsWellFormedIpam, IsWellFormedList, IsWellFormedSet}
-use Rattle.net_conf.specs.declared.{first.{First.First, HostLocalConf.HostLocalConf}, list.NetList.NetList}
-use Rattle.pod_file.specs.{Rounds.{file_limit, in_file_order}, WellFormed.{AreWellFormedRounds, IsWellFormedPods}}
-use Rattle.pod_file.specs.declared.command.Command.{Command}
+use Rattle.pod_file.specs.{Rounds.in_file_order, WellFormed.AreWellFormedRounds}
 use Rattle.pod_workers.specs.{Plans.{IsWellFormed, Placed, commands_of, in_round, placed_from}, declared.plan.Plan.Plan}
-use Rattle.plugin_chain.specs.Wanted.{ipam_of, sets_of}
 use Rattle.plugin_chain.proofs.PluginLaws.{formed_ipam}
 use Rattle.pod_workers.proofs.Alone.{AreAlone, are_alone}
 

@@ -1,5 +1,4 @@
-use Rattle.std.proofs.Common.{◌∙◌}
-use Rattle.pod_file.specs.Rounds.{file_limit}
+use Rattle.pod_workers.proofs.Names.{◌∙◌, file_limit}
 use Rattle.pod_workers.proofs.Indexed.{index-fits, index-is-whole, index-nothing, index-round-more}
 use Rattle.pod_workers.proofs.index.index_of.Goals as goal
 

@@ -1,4 +1,4 @@
-use Rattle.std.proofs.Common.{take}
+use Rattle.pod_workers.proofs.Names.{take}
 use Rattle.pod_workers.specs.{Index.IsIndex, Plans.placed_from}
 use Rattle.pod_workers.proofs.index.index_of.Given as goal
 

@@ -1,5 +1,6 @@
-use Rattle.std.proofs.{Common.{◌≡◌, ℕ, List, Some, cond, length, ◌∙◌, ap, arith}, lemmas.Map.Text.btree_map_updates_str}
-use Rattle.std.specs.{BTreeMap.is_at, Cmp.Lexicographic.slice_cmp, Map.lookup, Ordering.nat_cmp, Str.bytes_eq}
+use Rattle.pod_workers.proofs.Names.{◌≡◌, ℕ, List, Some, cond, length, ◌∙◌, ap, arith, slice_cmp, nat_cmp, bytes_eq}
+use Rattle.std.proofs.lemmas.Map.Text.{btree_map_updates_str}
+use Rattle.std.specs.{BTreeMap.is_at, Map.lookup}
 use Rattle.pod_workers.specs.declared.index.Place.{Place}
 use Rattle.pod_workers.proofs.Indexed.{all-indexed, at_text, count-more, indexed-more, nothing-indexed}
 use Rattle.pod_workers.proofs.index.index_round.Goals as goal

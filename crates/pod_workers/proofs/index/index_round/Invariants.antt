@@ -1,5 +1,4 @@
-use Rattle.std.proofs.Common.{◌≡◌, ◌+◌, List, Some, length, take, slice_get}
-use Rattle.pod_file.specs.declared.command.Command.{Command}
+use Rattle.pod_workers.proofs.Names.{◌≡◌, ◌+◌, List, Some, length, take, slice_get, Command}
 use Rattle.pod_workers.specs.{Index.{AreBefore, IsIndex}, Plans.Placed}
 use Rattle.pod_workers.proofs.Indexed.{IsIndexedTo, at_text}
 use Rattle.pod_workers.proofs.index.index_round.Given as goal

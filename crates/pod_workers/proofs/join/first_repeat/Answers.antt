@@ -1,4 +1,4 @@
-use Rattle.std.proofs.Common.{sym, ◌∙◌}
+use Rattle.pod_workers.proofs.Names.{sym, ◌∙◌}
 use Rattle.pod_workers.proofs.Joined.{repeats-here, repeats-later}
 use Rattle.pod_workers.proofs.join.first_repeat.Goals as goal
 

@@ -1,4 +1,4 @@
-use Rattle.std.proofs.Common.{◌≡◌, [], take, drop}
+use Rattle.pod_workers.proofs.Names.{◌≡◌, [], take, drop}
 use Rattle.pod_workers.specs.Join.{first_repeat_after}
 use Rattle.pod_workers.proofs.join.first_repeat.Given as goal
 

@@ -1,4 +1,4 @@
-use Rattle.std.proofs.Common.{sym, ◌∙◌}
+use Rattle.pod_workers.proofs.Names.{sym, ◌∙◌}
 use Rattle.pod_workers.proofs.Positions.{scanned-found, scanned-more, scanned-none}
 use Rattle.pod_workers.proofs.join.first_without_list.Goals as goal
 

@@ -1,4 +1,4 @@
-use Rattle.std.proofs.Common.{arith}
+use Rattle.pod_workers.proofs.Names.{arith}
 use Rattle.pod_workers.specs.Plans.{lacks_list, placed_from}
 use Rattle.pod_workers.proofs.Positions.{found-within}
 use Rattle.pod_workers.proofs.join.refusal.Goals as goal

@@ -1,5 +1,4 @@
-use Rattle.std.proofs.Common.{◌≡◌, None}
-use Rattle.std.specs.Prelude.{replicate}
+use Rattle.pod_workers.proofs.Names.{◌≡◌, None, replicate}
 use Rattle.pod_workers.proofs.slots.blanks.Given as goal
 
 abbrev pub invariant-loop-made : goal.invariant-loop-made

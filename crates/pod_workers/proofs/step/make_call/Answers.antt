@@ -1,4 +1,4 @@
-use Rattle.std.proofs.lemmas.Bool.{false≢true}
+use Rattle.pod_workers.proofs.Names.{false≢true}
 use Rattle.pod_workers.proofs.Turns.{refused-reply}
 use Rattle.pod_workers.proofs.step.make_call.Goals as goal
 

@@ -1,7 +1,5 @@
-use Rattle.std.proofs.Common.{sym, ◌∙◌, ap, subst}
-use Rattle.std.specs.Prelude.{option_map, ◌||◌}
-use Rattle.cni_verbs.specs.{Progress.{Progress, answer_by}, Script.{IsOpen, next_call, finish_of}}
-use Rattle.cni_errors.specs.declared.answer.Answer.TheVariants.{Stopped}
+use Rattle.pod_workers.proofs.Names.{sym, ◌∙◌, ap, subst, option_map, ◌||◌, Progress, answer_by, IsOpen, next_call}
+use Rattle.pod_workers.proofs.Names.{finish_of, Stopped}
 use Rattle.pod_workers.specs.World.{is_faulty, is_stop}
 use Rattle.pod_workers.specs.declared.plan.Next.TheVariants as next
 use Rattle.pod_workers.proofs.Turns.{next-is-answer, next-is-call, next-is-stop, over-answers, open-has-next}

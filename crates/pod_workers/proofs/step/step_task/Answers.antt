@@ -1,5 +1,4 @@
-use Rattle.std.proofs.Common.{refl, sym, ◌∙◌, ap}
-use Rattle.cni_verbs.specs.Progress.{advanced}
+use Rattle.pod_workers.proofs.Names.{refl, sym, ◌∙◌, ap, advanced}
 use Rattle.pod_workers.specs.World.{reply_to}
 use Rattle.pod_workers.proofs.Turns.{may-call, open-before-call, steps-answered, steps-called}
 use Rattle.pod_workers.proofs.step.step_task.Goals as goal

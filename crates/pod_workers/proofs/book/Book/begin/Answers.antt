@@ -1,4 +1,4 @@
-use Rattle.std.proofs.Common.{◌≡◌, length, arith}
+use Rattle.pod_workers.proofs.Names.{◌≡◌, length, arith}
 use Rattle.pod_workers.specs.Plans.{commands_of}
 use Rattle.pod_workers.proofs.{FileOrder.file_order_begun, KeptAtBegin.{begun-here, begun-is}}
 use Rattle.pod_workers.proofs.WellFormedPlans.{few_commands}

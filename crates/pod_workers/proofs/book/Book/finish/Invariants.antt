@@ -1,4 +1,4 @@
-use Rattle.std.proofs.Common.{◌≡◌, ℕ, ◌+◌}
+use Rattle.pod_workers.proofs.Names.{◌≡◌, ℕ, ◌+◌}
 use Rattle.pod_workers.specs.{Extends.Extends, Order.{EarlierAreAnswered, IsInFileOrder}}
 use Rattle.pod_workers.proofs.{Appended.AppendsOwn, StepsLeft.steps_left}
 use Rattle.pod_workers.proofs.book.Book.finish.Given as goal

@@ -1,4 +1,4 @@
-use Rattle.std.proofs.Common.{sym, subst, arith}
+use Rattle.pod_workers.proofs.Names.{sym, subst, arith}
 use Rattle.pod_workers.specs.World.{IsRoundOver}
 use Rattle.pod_workers.proofs.RoundDone.{round-fits, round-there, turned-keeps}
 use Rattle.pod_workers.proofs.book.Book.next_round.Goals as goal

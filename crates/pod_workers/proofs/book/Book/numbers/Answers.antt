@@ -1,5 +1,4 @@
-use Rattle.std.proofs.Common.{◌≡◌, ◌+◌, ◌≤◌, length, subst, arith}
-use Rattle.pod_file.specs.Rounds.{file_limit}
+use Rattle.pod_workers.proofs.Names.{◌≡◌, ◌+◌, ◌≤◌, length, subst, arith, file_limit}
 use Rattle.pod_workers.specs.Slots.{AreNumbersOf}
 use Rattle.pod_workers.proofs.{RoundDone.{numbers-of, round-fits, round-there}, book.Book.numbers.Given.Over}
 use Rattle.pod_workers.proofs.book.Book.numbers.Goals.{After-self}

@@ -1,4 +1,4 @@
-use Rattle.std.proofs.Common.{◌≡◌, ◌+◌, ◌-◌, sym, ◌∙◌, ap, arith}
+use Rattle.pod_workers.proofs.Names.{◌≡◌, ◌+◌, ◌-◌, sym, ◌∙◌, ap, arith}
 use Rattle.std.specs.Option.{option_copied}
 use Rattle.pod_workers.specs.{Index.may_step_by, World.at_number}
 use Rattle.pod_workers.proofs.{Elements.numbered, ReadyByIndex.{place-answered, ready-nowhere, ready-tells}}

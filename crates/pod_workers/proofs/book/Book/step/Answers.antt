@@ -1,5 +1,5 @@
-use Rattle.std.proofs.Common.{◌≡◌, ◌-◌, ◌<◌, ◌^◌, length, slice_get, sym, ◌∙◌, ap, subst, arith}
-use Rattle.std.proofs.lemmas.List.{length-set, set-set}
+use Rattle.pod_workers.proofs.Names.{◌≡◌, ◌-◌, ◌<◌, ◌^◌, length, slice_get, sym, ◌∙◌, ap, subst, arith, length-set}
+use Rattle.std.proofs.lemmas.List.{set-set}
 use Rattle.pod_workers.specs.{Index.is_cut_by, World.World}
 use Rattle.pod_workers.proofs.Kept.{IsFound, cut-by, found, found-may, found-over, found-refused, found-went}
 use Rattle.pod_workers.proofs.{Kept.{left-steps, number-command, number-within, refused-runs_out}, Listed.found-listed}
