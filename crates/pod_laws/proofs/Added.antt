@@ -2,5 +2,6 @@
 pub mod Achieved
 pub mod Bridges
 pub mod Footing
+pub mod HostBridges
 pub mod Prefixes
 pub mod Stands

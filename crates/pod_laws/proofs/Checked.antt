@@ -1,5 +1,6 @@
 -- What a CHECK is answered.
 pub mod CachedBridges
+pub mod OutsideBridges
 pub mod OwnWanted
 pub mod Questions
 pub mod Runs

@@ -2,4 +2,5 @@
 pub mod Entries
 pub mod FirstEntries
 pub mod InTurn
+pub mod Removals
 pub mod Repeated

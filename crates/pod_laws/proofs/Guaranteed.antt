@@ -1,14 +1,10 @@
 -- Every legal history is guaranteed.
-use Rattle.std.proofs.Common.{◌≡◌, ℕ, true, List, ◌++◌, Some, slice_get, refl, ◌∙◌, ap, subst, inl, inr}
-use Rattle.std.proofs.lemmas.Bool.{cases_Bool}
-use Rattle.cni_errors.specs.declared.answer.Answer.{Answer}
+use Rattle.pod_laws.proofs.Names.{◌≡◌, ℕ, true, List, ◌++◌, Some, slice_get, refl, ◌∙◌, ap, subst, inl, inr, cases_Bool}
+use Rattle.pod_laws.proofs.Names.{Answer, NetList, is_of_network, Command, Verb, Legal, Placed, commands_of, list_for}
+use Rattle.pod_laws.proofs.Names.{World, Entry, Plan, listed_network, each_prefix, sound_host}
 use Rattle.cni_errors.specs.declared.answer.Answer.TheVariants as answers
-use Rattle.net_conf.specs.declared.list.NetList.{NetList}
-use Rattle.pod_file.specs.{Commands.is_of_network, declared.command.{Command.Command, Verb.Verb}}
 use Rattle.pod_file.specs.declared.command.Verb.TheVariants as verbs
-use Rattle.pod_workers.specs.{Legal.Legal, Plans.{Placed, commands_of, list_for}, World.World}
-use Rattle.pod_workers.specs.declared.plan.{Entry.Entry, Plan.Plan}
-use Rattle.pod_workers.proofs.{Listed.listed_network, Prefixes.each_prefix, Sound.{no_address_twice, sound_host}}
+use Rattle.pod_workers.proofs.Sound.{no_address_twice}
 use Rattle.pod_laws.specs.{Answers.is_cut_off, CachedResults.EachCachedResultIsItsAdds, Collected.IsAnswerOfGc}
 use Rattle.pod_laws.specs.Guaranteed.{AreAnswers, EveryLegalHistoryIsGuaranteed, IsAnswerOfAdd, IsAnswerOfCheck}
 use Rattle.pod_laws.specs.Guaranteed.{IsAnswerOfDel, IsWellKept}

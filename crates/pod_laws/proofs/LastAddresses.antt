@@ -1,5 +1,5 @@
 -- Each address that a pool leased last is a candidate of its set.
-use Rattle.pod_workers.proofs.Sound.{fine}
+use Rattle.pod_laws.proofs.Names.{fine}
 use Rattle.pod_laws.specs.Lasts.{EachLastIsCandidate}
 
 pub each_last_is_candidate : EachLastIsCandidate

@@ -10,6 +10,7 @@ mod Given
 mod Guaranteed
 mod Histories
 mod LastAddresses
+mod Names
 mod Outside
 mod Questions
 mod Refused

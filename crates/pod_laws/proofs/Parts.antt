@@ -1,9 +1,7 @@
 -- Parts of lists: what is left of a list, in its order.
-use Rattle.std.proofs.Common.{Bool, true, false, List, [], ◌∷◌, ◌++◌, refl, sym, ◌∙◌, ap, subst, inl, inr}
-use Rattle.std.specs.Prelude.{filter, if◌then◌else◌}
-use Rattle.cni_addr.specs.Lists.{IsAmong}
+use Rattle.pod_laws.proofs.Names.{Bool, true, false, List, [], ◌∷◌, ◌++◌, refl, sym, ◌∙◌, ap, subst, inl, inr, filter}
+use Rattle.pod_laws.proofs.Names.{if◌then◌else◌, IsAmong, DropsOnly}
 use Rattle.gc_sweep.proofs.Lists.{drops-trans}
-use Rattle.kernel_types.specs.Touch.{DropsOnly}
 use Rattle.pod_laws.specs.{Apart.GrowsAtEnd, AskedFor.IsPart}
 
 -- ---- what stands at the front of a list is a part of it

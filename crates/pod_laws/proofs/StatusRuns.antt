@@ -1,24 +1,18 @@
 -- A STATUS asks of one host, and its answer is what that host has to give.
-use Rattle.std.proofs.Common.{◌≡◌, ℕ, ◌+◌, Bool, true, false, List, [], ◌∷◌, ◌++◌, length, refl, sym, ◌∙◌, ap, subst}
-use Rattle.std.proofs.{Common.{Option, Some, None}, Math.Bool.and-true, lemmas.List.length_push}
-use Rattle.std.proofs.lemmas.List.Folds.{list_all-append}
-use Rattle.std.specs.{List.{AllByRecursion, list_all}, Prelude.{◌&&◌, MatchBool}}
-use Rattle.cni_addr.specs.declared.range.RangeSet.{RangeSet}
+use Rattle.pod_laws.proofs.Names.{◌≡◌, ℕ, ◌+◌, Bool, true, false, List, [], ◌∷◌, ◌++◌, length, refl, sym, ◌∙◌, ap}
+use Rattle.pod_laws.proofs.Names.{subst, Option, Some, None, and-true, length_push, list_all-append, AllByRecursion}
+use Rattle.pod_laws.proofs.Names.{list_all, ◌&&◌, RangeSet, NetList, is_exclusive_verb, Command, Verb, apply}
+use Rattle.pod_laws.proofs.Names.{has_master, leased_addresses, is_fault, Host, IsReplyOf-apply, master_questions}
+use Rattle.pod_laws.proofs.Names.{pool_questions, status_questions, State, Asking, Over, Calls, advance, asking}
+use Rattle.pod_laws.proofs.Names.{at_question, start_of, turn, unless_ended, master_of, sets_of, Ending, Refused}
+use Rattle.pod_laws.proofs.Names.{Question, too_old, entry_of, host_of, reply_to, Entry, each-append, each-at}
+use Rattle.std.specs.Prelude.{MatchBool}
 use Rattle.cni_result.specs.Versions.{is_before_1_1}
-use Rattle.net_conf.specs.declared.list.NetList.{NetList}
-use Rattle.pod_file.specs.{Commands.is_exclusive_verb, declared.command.{Command.Command, Verb.Verb}}
 use Rattle.pod_file.specs.declared.command.Verb.TheVariants as verbs
 use Rattle.ip_pool.specs.Pool.{has_free_of}
-use Rattle.kernel_types.specs.{Apply.{apply, Calls.{has_master, leased_addresses}}, Replies.is_fault}
-use Rattle.kernel_types.specs.declared.object.Host.{Host}
-use Rattle.kernel_types.proofs.Replies.{IsReplyOf-apply}
-use Rattle.cni_verbs.specs.{Questions.{master_questions, pool_questions, status_questions}, Script.{State, Asking}}
-use Rattle.cni_verbs.specs.Script.{Over, Calls, advance, asking, at_question, start_of, turn, old_ending, unless_ended}
-use Rattle.plugin_chain.specs.Wanted.{master_of, sets_of}
+use Rattle.cni_verbs.specs.Script.{old_ending}
 use Rattle.cni_errors.specs.declared.answer.Cause.TheVariants as causes
-use Rattle.cni_errors.specs.declared.answer.{Ending.{Ending, TheVariants.Refused}, Question.Question}
-use Rattle.cni_verbs.proofs.EarlyEndings.{old_ending-cases, too_old}
-use Rattle.pod_workers.specs.{World.{entry_of, host_of, reply_to}, declared.plan.Entry.Entry}
+use Rattle.cni_verbs.proofs.EarlyEndings.{old_ending-cases}
 use Rattle.pod_laws.specs.{Answers.{EndsByFault, EndsByTest}, Available.{EndsStatus, IsUnavailable, LacksService}}
 use Rattle.pod_laws.specs.{Available.{WasAvailable, is_available}, Granted.{grants, only_asks}, Moments.has_fault}
 use Rattle.pod_laws.specs.Moments.{host_at_end, own_entries}
@@ -27,7 +21,6 @@ use Rattle.pod_laws.proofs.{Histories.{RunFacts.each-run, Runs.own-state}, Quest
 use Rattle.pod_laws.proofs.Questions.Asking.{IsAsking, asked-all, asked-none, asked-reply, by-asked, no_fault-more}
 use Rattle.pod_laws.proofs.Questions.{Asking.{fault-last, tells}, Entries.question-entered, SteadyHosts.KeepsAsked}
 use Rattle.pod_laws.proofs.Questions.SteadyHosts.{asked-kept}
-use Rattle.pod_workers.proofs.Each.{each-append, each-at}
 
 -- ---- its questions
 

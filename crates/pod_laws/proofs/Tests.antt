@@ -1,7 +1,6 @@
 -- Tests of one and of many.
-use Rattle.std.proofs.{Common.{◌≡◌, Bool, true, List, [], ◌∷◌, ◌++◌, sym, ◌∙◌, ap, arith}, lemmas.Bool.and_parts}
-use Rattle.std.proofs.lemmas.{Bool.both_ways, List.Folds.list_all-append}
-use Rattle.std.specs.{List.{list_all, list_any}, Prelude.filter}
+use Rattle.pod_laws.proofs.Names.{◌≡◌, Bool, true, List, [], ◌∷◌, ◌++◌, sym, ◌∙◌, ap, arith, and_parts, both_ways}
+use Rattle.pod_laws.proofs.Names.{list_all-append, list_all, list_any, filter}
 use Rattle.pod_laws.specs.Answers.{IsFirstToFail}
 
 -- what passes among some passes among all

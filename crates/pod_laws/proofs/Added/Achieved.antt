@@ -1,34 +1,25 @@
 -- What an ADD was leased, and what it has of its objects, after each of its entries.
-use Rattle.std.proofs.Common.{◌≡◌, ℕ, ◌+◌, Bool, true, false, List, [], ◌∷◌, ◌++◌, map, length, Option, Some, None}
-use Rattle.std.proofs.{Common.{refl, sym, ◌∙◌, ap, subst, append_assoc}, lemmas.List.{append-nil, map-append}}
-use Rattle.std.proofs.lemmas.Slice.Zip.{all_zipped_more}
+use Rattle.pod_laws.proofs.Names.{◌≡◌, ℕ, ◌+◌, Bool, true, false, List, [], ◌∷◌, ◌++◌, map, length, Option, Some, None}
+use Rattle.pod_laws.proofs.Names.{refl, sym, ◌∙◌, ap, subst, append_assoc, append-nil, map-append, all_zipped_more}
+use Rattle.pod_laws.proofs.Names.{Addr, RangeSet, AreCandidates, is_candidate, First, NetList, Command, apply, lease_of}
+use Rattle.pod_laws.proofs.Names.{Call, Begin, LeaseNext, Kind, Reply, Done, Leased, Fault, Att, Host}
+use Rattle.pod_laws.proofs.Names.{is_plugin_call_of, Share, share_of, no_objects, share_after_call, share_after_calls}
+use Rattle.pod_laws.proofs.Names.{share_after_calls-append, share-own, share-lease, att_of, Ending, Added, Yes, Skipped}
+use Rattle.pod_laws.proofs.Names.{Versions, Refused, mappings_of, State, AtBegin, BeforeLeases, Leasing, AfterLeases}
+use Rattle.pod_laws.proofs.Names.{ReadingCache, Deleting, FindingEntry, Asking, Changing, Collecting, Over, Calls}
+use Rattle.pod_laws.proofs.Names.{before_of, back_of, after_leases, leasing, before_leases, deleting, faulted, at_begin}
+use Rattle.pod_laws.proofs.Names.{at_call_before, at_lease, at_call_after, at_cache, at_deletion, advance, turn}
+use Rattle.pod_laws.proofs.Names.{leases_in, sets_of, calls_before, kinds_of, wanted, entry_of, host_of, after_entry}
+use Rattle.pod_laws.proofs.Names.{reply_to, Entry, LeftAreOfPlugins, by-cache, by-deletion, host-made, adds-links}
+use Rattle.pod_laws.proofs.Names.{makes-wanted}
 use Rattle.std.specs.List.{cons_option}
-use Rattle.cni_addr.specs.declared.{address.Addr.Addr, range.RangeSet.RangeSet}
-use Rattle.host_local.specs.Laws.{AreCandidates}
-use Rattle.ip_pool.specs.NextAddress.{is_candidate}
-use Rattle.net_conf.specs.declared.{first.First.First, list.NetList.NetList}
-use Rattle.pod_file.specs.declared.command.Command.{Command}
-use Rattle.kernel_types.specs.{Apply.apply, Terms.lease_of, declared.call.Call.{Call, TheVariants.{Begin, LeaseNext}}}
-use Rattle.kernel_types.specs.declared.call.{Kind.Kind, Reply.{Reply, TheVariants.{Done, Leased, Fault}}}
-use Rattle.kernel_types.specs.declared.object.{Att.Att, Host.Host}
 use Rattle.kernel_types.proofs.LeasedAddress.{leased-candidate}
-use Rattle.plugin_base.specs.{Calls.is_plugin_call_of, Share.{Share, share_of, no_objects, share_after_call}}
-use Rattle.plugin_base.specs.Share.{share_after_calls}
-use Rattle.plugin_base.proofs.{CallLists.share_after_calls-append, OwnCalls.{share-own, share-begin, share-lease}}
-use Rattle.cni_errors.specs.{CommandFields.att_of, declared.answer.Ending.{Ending, TheVariants.{Added, Yes, Skipped}}}
-use Rattle.cni_errors.specs.declared.answer.Ending.TheVariants.{Versions, Refused}
-use Rattle.cni_verbs.specs.{Mappings.mappings_of, Script.{State, AtBegin, BeforeLeases, Leasing, AfterLeases}}
-use Rattle.cni_verbs.specs.Script.{ReadingCache, Deleting, FindingEntry, Asking, Changing, Collecting, Over, Calls}
-use Rattle.cni_verbs.specs.Script.{before_of, back_of, after_leases, leasing, before_leases, deleting, faulted}
-use Rattle.cni_verbs.specs.Script.{at_begin, at_call_before, at_lease, at_call_after, at_cache, at_deletion, advance}
-use Rattle.cni_verbs.specs.Script.{turn, leased_by, leases_in}
-use Rattle.plugin_chain.specs.Wanted.{sets_of, calls_before, kinds_of, wanted}
-use Rattle.pod_workers.specs.{World.{entry_of, host_of, after_entry, reply_to}, declared.plan.Entry.Entry}
-use Rattle.pod_workers.proofs.{OfPlugins.LeftAreOfPlugins, Replies.{by-cache, by-deletion}, StepsLeft.host-made}
+use Rattle.plugin_base.proofs.OwnCalls.{share-begin}
+use Rattle.cni_verbs.specs.Script.{leased_by}
 use Rattle.pod_laws.specs.Moments.{own_entries}
 use Rattle.pod_laws.proofs.Histories.{Entries.replies_in, Runs.{AfterEntry, IsRunFact, StartsWith, own-state}}
 use Rattle.pod_laws.proofs.Histories.States.{IsAside, IsNoResult, aside-advance, by-aside, by-start, faulted-no_result}
-use Rattle.plugin_chain.proofs.WantedShare.{adds-links, makes-wanted, share_with_leases}
+use Rattle.plugin_chain.proofs.WantedShare.{share_with_leases}
 
 -- the addresses that these entries leased, in order
 abbrev pub leased_in : List Entry → List Addr

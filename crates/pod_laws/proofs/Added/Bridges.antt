@@ -1,140 +1,26 @@
 -- The bridge of a list is there from the moment when its plugin ensured it.
-use Rattle.std.proofs.Common.{◌≡◌, ◌≢◌, ℕ, ◌+◌, Bool, true, false, not, List, [], ◌∷◌, ◌++◌, length, Option, Some, None}
-use Rattle.std.proofs.{Common.{slice_get, refl, sym, ◌∙◌, ap, subst, inl, inr, ◌⊎◌, arith}, Math.Bool.and-false}
-use Rattle.std.proofs.{Math.Bool.and-true, lemmas.Bool.{and_parts, both_ways, cases_Bool, false_from_ne_true}}
-use Rattle.std.proofs.lemmas.{Bool.Decides.eqb_tells, Slice.Eq.bytes_eq-Decides}
-use Rattle.std.specs.{Cmp.Lexicographic.nat_list_eq_equiv, List.list_any, Prelude.{find, ◌&&◌, if◌then◌else◌}}
-use Rattle.std.specs.Str.{bytes_eq}
-use Rattle.cni_addr.specs.declared.{address.Addr.Addr, range.RangeSet.RangeSet}
-use Rattle.net_conf.specs.declared.{first.First.First, list.NetList.NetList}
-use Rattle.pod_file.specs.declared.command.Command.{Command}
-use Rattle.kernel_types.specs.{Allowed.IsAllowed, Apply.{apply, Calls.{bridge_or_new, new_bridge}}}
-use Rattle.kernel_types.specs.{Apply.Calls.master_is_bridge_or_none, Isolation.{ensures_shared, is_from_outside}}
-use Rattle.kernel_types.specs.{Sound.{IsSound, link_fits_tag}, Terms.{is_bridge, is_host_bridge, is_host_link}}
-use Rattle.kernel_types.specs.{Terms.{is_owned, has_host_bridge}, declared.call.Call.{Call, TheVariants.BridgeEnsure}}
-use Rattle.kernel_types.specs.declared.call.Call.TheVariants.{GatewayEnsure, ForwardEnsure, NsChange, Outside}
-use Rattle.kernel_types.specs.declared.{call.{Kind.Kind, Reply.{Reply, TheVariants.{Done, Taken}}}, object.Att.Att}
-use Rattle.kernel_types.specs.declared.object.{Host.Host, Link.Link, Tag.Tag}
-use Rattle.kernel_types.proofs.{EveryCall.Touches-apply, Isolation.KeepsUnowned-Touches}
-use Rattle.kernel_types.proofs.ListLemmas.{list_any-append_left, list_any-append_right, list_any-kept, passes-find}
-use Rattle.kernel_types.proofs.TouchRemoval.{owned_no_bridge}
-use Rattle.kernel_types.specs.declared.object.Tag.TheVariants as tags
-use Rattle.kernel_types.specs.declared.call.Kind.TheVariants as kinds
+use Rattle.pod_laws.proofs.Names.{◌≡◌, ◌≢◌, ℕ, ◌+◌, Bool, true, false, List, [], ◌∷◌, ◌++◌, length, Option, Some, None}
+use Rattle.pod_laws.proofs.Names.{slice_get, refl, sym, ◌∙◌, ap, subst, inl, inr, ◌⊎◌, arith, cases_Bool, eqb_tells}
+use Rattle.pod_laws.proofs.Names.{bytes_eq-Decides, nat_list_eq_equiv, list_any, find, if◌then◌else◌, bytes_eq, Addr}
+use Rattle.pod_laws.proofs.Names.{RangeSet, First, NetList, Command, apply, bridge_or_new, new_bridge}
+use Rattle.pod_laws.proofs.Names.{master_is_bridge_or_none, is_bridge, is_host_bridge, is_host_link, has_host_bridge}
+use Rattle.pod_laws.proofs.Names.{Call, BridgeEnsure, Kind, Reply, Done, Taken, Att, Host, Link, Tag}
+use Rattle.pod_laws.proofs.Names.{list_any-append_right, passes-find, ensures_bridge, att_of, Ending, State, AtBegin}
+use Rattle.pod_laws.proofs.Names.{BeforeLeases, Leasing, AfterLeases, ReadingCache, Deleting, FindingEntry, Asking}
+use Rattle.pod_laws.proofs.Names.{Changing, Collecting, Over, Calls, before_of, back_of, after_leases, leasing}
+use Rattle.pod_laws.proofs.Names.{before_leases, deleting, at_call_before, advance, turn, bridge_of, calls_before}
+use Rattle.pod_laws.proofs.Names.{kinds_of, sets_of, first_laws, Legal, Placed, commands_of, list_for, World, after}
+use Rattle.pod_laws.proofs.Names.{entry_of, host_of, after_entry, replies_of, reply_to, Entry, Plan, after-append}
+use Rattle.pod_laws.proofs.Names.{replies_of-other, other_number, by-cache, by-deletion, host-made}
 use Rattle.gc_sweep.proofs.Lists.{any-found}
-use Rattle.plugin_base.specs.{Calls.is_call_of, PluginCalls.{ensures_bridge, is_ensured}}
-use Rattle.cni_errors.specs.{CommandFields.att_of, declared.answer.Ending.Ending}
-use Rattle.cni_verbs.specs.Script.{State, AtBegin, BeforeLeases, Leasing, AfterLeases, ReadingCache, Deleting}
-use Rattle.cni_verbs.specs.Script.{FindingEntry, Asking, Changing, Collecting, Over, Calls, before_of, back_of}
-use Rattle.cni_verbs.specs.Script.{after_leases, leasing, before_leases, deleting, at_call_before, advance, turn}
-use Rattle.plugin_chain.specs.Wanted.{bridge_of, calls_before, deletion, kinds_of, sets_of}
-use Rattle.plugin_chain.proofs.PluginLaws.{first_laws}
-use Rattle.pod_workers.specs.{Legal.Legal, Plans.{Placed, commands_of, list_for}, World.{World, after, entry_of}}
-use Rattle.pod_workers.specs.{World.{host_of, after_entry, replies_of, reply_to}, declared.plan.Entry.Entry}
-use Rattle.pod_workers.specs.declared.plan.Plan.{Plan}
-use Rattle.pod_workers.proofs.{Histories.{after-append, replies_of-other}, Order.other_number, Replies.by-begin}
-use Rattle.pod_workers.proofs.{Replies.{by-lease, by-call_after, by-cache, by-deletion}, Sound.sound_host}
-use Rattle.pod_workers.proofs.StepsLeft.{host-made}
+use Rattle.plugin_base.specs.PluginCalls.{is_ensured}
+use Rattle.pod_workers.proofs.Replies.{by-begin, by-lease, by-call_after}
 use Rattle.pod_laws.specs.Moments.{is_of, own_entries}
-use Rattle.pod_laws.proofs.Histories.Entries.{apart-entry, is_of-own, no-entries, own_entries-own, own_entries-other}
-use Rattle.pod_laws.proofs.Histories.{RunFacts.{state_by, state_by-append}, Runs.own-state, States.IsAside}
-use Rattle.pod_laws.proofs.Histories.{States.{aside-advance, by-aside, is_question, by-start}, Steps.{AllOpen, Changes}}
-use Rattle.pod_laws.proofs.Histories.Steps.{GoesOn, IsOpenKept, OpenFact, at_its_place, by-open, no_list_there}
-use Rattle.pod_laws.proofs.{Histories.{Steps.on-entry, Turns.{IsTurnOf, alone-outside, turn-of}}, Tests.any-filtered}
-use Rattle.plugin_base.proofs.KeyLists.{none-by}
-
--- ---- a bridge of the host stays
-
--- bridges alone pass this test
-abbrev pub PassesBridges : (Link → Bool) → Type 0
-PassesBridges p = (l : Link) → p l ≡ true → is_bridge l.kind ≡ true
-
-pub passes-host_bridges : (name : List ℕ) → PassesBridges (is_host_bridge name)
-passes-host_bridges name = λ l is. (and_parts (is_host_link name l) (is_bridge l.kind) is).1
-
-bridge-unowned : (p : Link → Bool) → PassesBridges p → (l : Link) (t : Tag) → link_fits_tag l t ≡ true
-    → (p l && not (not (is_owned t))) ≡ false
-bridge-unowned p bridges l tags.Outside h = and-false (p l)
-bridge-unowned p bridges l tags.Base h = and-false (p l)
-bridge-unowned p bridges l (tags.Own att) h = and-true (p l) ∙ false_from_ne_true (p l) (λ passes. both_ways (is_bridge l.kind) (owned_no_bridge l.ns l.kind h) (bridges l passes))
-
-stays-unshared : (p : Link → Bool) → PassesBridges p → (host : Host) (call : Call) → IsSound host → IsAllowed host call
-    → is_from_outside call ≡ false → ensures_shared call ≡ false → list_any p host.links ≡ true
-    → list_any p (apply host call).0.links ≡ true
-stays-unshared p bridges host call sound allowed inside own there =
-    let new = (apply host call).0 in
-    let keeps = KeepsUnowned-Touches call host new inside own (Touches-apply host call sound allowed) in
-    let none : list_any (λ l. p l && not (not (is_owned l.tag))) host.links ≡ false =
-    none-by (λ l. link_fits_tag l l.tag) (λ l. p l && not (not (is_owned l.tag))) (λ l h. bridge-unowned p bridges l l.tag h) host.links sound.links.tags in
-    let kept = list_any-kept p (λ l. not (is_owned l.tag)) host.links there none in
-    any-filtered p (λ l. not (is_owned l.tag)) new.links (ap (list_any p) keeps.links ∙ kept)
-
-same-links : (p : Link → Bool) (old new : Host) → new.links ≡ old.links → list_any p old.links ≡ true
-    → list_any p new.links ≡ true
-same-links p old new e there = ap (list_any p) e ∙ there
-
-pub bridge-stays : (p : Link → Bool) → PassesBridges p → (host : Host) (call : Call) → IsSound host
-    → IsAllowed host call → is_from_outside call ≡ false → list_any p host.links ≡ true
-    → list_any p (apply host call).0.links ≡ true
-bridge-stays p bridges host (BridgeEnsure bridge mtu promisc) sound allowed inside there =
-    elim (Touches-apply host (BridgeEnsure bridge mtu promisc) sound allowed) [
-      | inl e ↦ same-links p host (apply host (BridgeEnsure bridge mtu promisc)).0 (ap (λ (k : Host). k.links) e) there
-      | inr more ↦ ap (λ (k : Host). list_any p k.links) more.2 ∙ list_any-append_left p host.links (more.0 ∷ []) there
-    ]
-bridge-stays p bridges host (GatewayEnsure bridge cidr) sound allowed inside there =
-    elim (Touches-apply host (GatewayEnsure bridge cidr) sound allowed) [
-      | inl e ↦ same-links p host (apply host (GatewayEnsure bridge cidr)).0 (ap (λ (k : Host). k.links) e) there
-      | inr more ↦ same-links p host (apply host (GatewayEnsure bridge cidr)).0 (ap (λ (k : Host). k.links) more.2) there
-    ]
-bridge-stays p bridges host (ForwardEnsure family) sound allowed inside there =
-    elim (Touches-apply host (ForwardEnsure family) sound allowed) [
-      | inl e ↦ same-links p host (apply host (ForwardEnsure family)).0 (ap (λ (k : Host). k.links) e) there
-      | inr more ↦ same-links p host (apply host (ForwardEnsure family)).0 (ap (λ (k : Host). k.links) more.2) there
-    ]
-bridge-stays p bridges host call sound allowed inside there = stays-unshared p bridges host call sound allowed inside refl there
-
--- a call of one attachment doesn't come from outside
-pub call-inside : (att : Att) (call : Call) → is_call_of att call ≡ true → is_from_outside call ≡ false
-call-inside att (NsChange name add) is = cc
-call-inside att (Outside change) is = cc
-call-inside att _ is = refl
-
--- ---- the bridge of a list
-
--- the bridge, if the list has one, is there
-abbrev pub BridgeIn : First → Host → Type 0
-BridgeIn first host = master_is_bridge_or_none host (bridge_of first) ≡ true
-
-bridge-in-stays : (o : Option (List ℕ)) (host : Host) (call : Call) → IsSound host → IsAllowed host call
-    → is_from_outside call ≡ false → master_is_bridge_or_none host o ≡ true
-    → master_is_bridge_or_none (apply host call).0 o ≡ true
-bridge-in-stays None host call sound allowed inside there = refl
-bridge-in-stays (Some name) host call sound allowed inside there = bridge-stays (is_host_bridge name) (passes-host_bridges name) host call sound allowed inside there
-
--- so is a call that only asks
-question-inside : (call : Call) → is_question call ≡ true → is_from_outside call ≡ false
-question-inside (NsChange name add) is = cc
-question-inside (Outside change) is = cc
-question-inside _ is = refl
-
-deletion-inside : (att : Att) (kind : Kind) → is_from_outside (deletion att kind) ≡ false
-deletion-inside att kinds.Links = refl
-deletion-inside att kinds.Rules = refl
-deletion-inside att kinds.Settings = refl
-deletion-inside att kinds.Leases = refl
-deletion-inside att kinds.Cached = refl
-
--- and each call of a command with a list
-pub turn-inside : (c : Command) (call : Call) → IsTurnOf c call → is_from_outside call ≡ false
-turn-inside c call (inl own) = call-inside (att_of c) call own
-turn-inside c call (inr (inl asked)) = question-inside call asked
-turn-inside c call (inr (inr collected)) = ap is_from_outside (sym collected.deletes) ∙ deletion-inside collected.att collected.kind
-
-pub bridge-entered : (first : First) (w : World) (n : ℕ) (c : Placed) (list : NetList) (call : Call) (faulty : Bool)
-    → GoesOn w n c list call faulty → BridgeIn first (host_of w)
-    → BridgeIn first (after_entry (host_of w) (entry_of (host_of w) n call faulty))
-bridge-entered first w n c list call faulty on there =
-    on-entry (BridgeIn first) (host_of w) n call faulty there
-    (λ f. bridge-in-stays (bridge_of first) (host_of w) call (sound_host w on.legal) (on.allowed f) (turn-inside c.command call (turn-of w n c list call faulty on)) there)
+use Rattle.pod_laws.proofs.{Added.HostBridges.{BridgeIn, bridge-entered}, Histories.Entries.{apart-entry, is_of-own}}
+use Rattle.pod_laws.proofs.Histories.{Entries.{no-entries, own_entries-own, own_entries-other}, RunFacts.state_by}
+use Rattle.pod_laws.proofs.Histories.{RunFacts.state_by-append, Runs.own-state, States.{IsAside, aside-advance}}
+use Rattle.pod_laws.proofs.Histories.{States.{by-aside, by-start}, Steps.{AllOpen, Changes, GoesOn, IsOpenKept}}
+use Rattle.pod_laws.proofs.Histories.{Steps.{OpenFact, at_its_place, by-open, no_list_there}, Turns.alone-outside}
 
 -- ---- until it is ensured
 

@@ -1,28 +1,19 @@
 -- A plugin's call finds what it stands on, unless it is `macvlan`'s: its links are there, and so is the list's bridge.
-use Rattle.std.proofs.Common.{◌≡◌, ℕ, Bool, true, false, List, [], ◌∷◌, Option, Some, None, refl, ◌∙◌}
-use Rattle.std.proofs.lemmas.Bool.{and_parts, both_ways}
-use Rattle.std.specs.{List.{list_any, list_all}, Option.{option_map, option_or}, Prelude.{find, if◌then◌else◌}}
-use Rattle.cni_addr.specs.declared.{address.Addr.Addr, mac.Mac.Mac}
-use Rattle.cni_result.proofs.ReadAgain.{each_of}
-use Rattle.cni_result.specs.declared.cached.PortMapping.{PortMapping}
-use Rattle.net_conf.specs.declared.{first.First.First, list.NetList.NetList}
-use Rattle.kernel_types.specs.Apply.{apply, Calls.{append_unless_taken, bridge_or_new, new_bridge}}
-use Rattle.kernel_types.specs.Apply.Calls.{master_is_bridge_or_none, has_link_of, is_own_at, is_same_addr}
-use Rattle.kernel_types.specs.Apply.Calls.{is_same_route, is_same_setting, set_link, with_values, new_gateway}
-use Rattle.kernel_types.specs.{Apply.Calls.new_forward, Equal.rule_eq, Terms.{is_own, is_host_link, is_bridge}}
-use Rattle.kernel_types.specs.{Terms.{is_link_of, has_named_ns, has_host_bridge, link_at}, declared.call.Call.Call}
-use Rattle.kernel_types.specs.declared.call.Call.TheVariants.{BridgeEnsure, GatewayEnsure, ForwardEnsure, VethAdd}
-use Rattle.kernel_types.specs.declared.call.Call.TheVariants.{MacvlanAdd, LinkSet, AddrAdd, RouteAdd, RuleAppend}
-use Rattle.kernel_types.specs.declared.call.{Call.TheVariants.{SettingSet, CachePut}, Reply.{Reply, TheVariants.Done}}
-use Rattle.kernel_types.specs.declared.{call.Reply.TheVariants.{NoLink, Taken}, object.{Att.Att, Host.Host, Link.Link}}
-use Rattle.kernel_types.specs.declared.object.{LinkKey.LinkKey, Tag.Tag}
-use Rattle.cni_addr.proofs.Cases.{by_test}
-use Rattle.kernel_types.proofs.ListLemmas.{list_all-weaker, list_any-append_left, list_any-map, list_any-same_test}
-use Rattle.plugin_base.specs.{Calls.is_plugin_call_of, PluginCalls.{bridge_for, is_none_or, lies_on, makes_interface}}
-use Rattle.plugin_base.specs.{PluginCalls.stands_on, Share.{Share, share_of, share_after_call, share_after_calls}}
+use Rattle.pod_laws.proofs.Names.{◌≡◌, ℕ, Bool, true, false, List, [], ◌∷◌, Option, Some, None, refl, ◌∙◌, and_parts}
+use Rattle.pod_laws.proofs.Names.{both_ways, list_any, list_all, option_or, option_map, find, if◌then◌else◌, Addr, Mac}
+use Rattle.pod_laws.proofs.Names.{each_of, PortMapping, First, NetList, apply, append_unless_taken, bridge_or_new}
+use Rattle.pod_laws.proofs.Names.{new_bridge, master_is_bridge_or_none, has_link_of, is_own_at, is_same_addr}
+use Rattle.pod_laws.proofs.Names.{is_same_route, is_same_setting, set_link, new_gateway, new_forward, rule_eq, is_own}
+use Rattle.pod_laws.proofs.Names.{is_host_link, is_bridge, has_named_ns, has_host_bridge, link_at, Call, BridgeEnsure}
+use Rattle.pod_laws.proofs.Names.{GatewayEnsure, ForwardEnsure, VethAdd, MacvlanAdd, LinkSet, AddrAdd, RouteAdd}
+use Rattle.pod_laws.proofs.Names.{RuleAppend, SettingSet, CachePut, Reply, Done, NoLink, Taken, Att, Host, Link}
+use Rattle.pod_laws.proofs.Names.{LinkKey, Tag, by_test, list_all-weaker, list_any-append_left, list_any-map}
+use Rattle.pod_laws.proofs.Names.{list_any-same_test, is_plugin_call_of, bridge_for, is_none_or, lies_on}
+use Rattle.pod_laws.proofs.Names.{makes_interface, stands_on, Share, share_of, share_after_call, share_after_calls}
+use Rattle.pod_laws.proofs.Names.{back_calls, bridge_of, calls_after, calls_before, chained_calls, links_made}
+use Rattle.pod_laws.proofs.Names.{PassesChained, passes-back, chained_laws, first_laws}
+use Rattle.kernel_types.specs.{Apply.Calls.with_values, Terms.is_link_of}
 use Rattle.plugin_base.proofs.PluginCalls.{interface-lies}
-use Rattle.plugin_chain.specs.Wanted.{back_calls, bridge_of, calls_after, calls_before, chained_calls, links_made}
-use Rattle.plugin_chain.proofs.{BackCalls.{PassesChained, passes-back}, PluginLaws.{chained_laws, first_laws}}
 use Rattle.pod_laws.proofs.Tests.{any-filtered}
 
 -- ---- what a call stands on

@@ -1,27 +1,15 @@
 -- What the calls so far have made is a prefix of what all of them make.
-use Rattle.std.proofs.Common.{◌≡◌, ℕ, Bool, true, false, List, [], ◌∷◌, ◌++◌, map, Option, refl, sym, ◌∙◌, ap, subst}
-use Rattle.std.proofs.{Common.{inl, inr, append_assoc}, lemmas.{Bool.and_parts, List.append-nil}}
-use Rattle.std.proofs.lemmas.List.Folds.{list_all-append}
-use Rattle.std.specs.{List.list_all, Prelude.{filter, if◌then◌else◌}}
-use Rattle.cni_addr.specs.{Lists.IsAmong, declared.address.Addr.Addr}
+use Rattle.pod_laws.proofs.Names.{◌≡◌, ℕ, Bool, true, false, List, [], ◌∷◌, ◌++◌, map, Option, refl, sym, ◌∙◌, ap}
+use Rattle.pod_laws.proofs.Names.{subst, inl, inr, append_assoc, and_parts, append-nil, list_all-append, list_all}
+use Rattle.pod_laws.proofs.Names.{filter, if◌then◌else◌, IsAmong, Addr, First, NetList, Command, set_link, is_own}
+use Rattle.pod_laws.proofs.Names.{DropsOnly, Call, VethAdd, MacvlanAdd, LinkSet, AddrAdd, RouteAdd, RuleAppend}
+use Rattle.pod_laws.proofs.Names.{SettingSet, CachePut, Att, Host, Own, list_all-weaker, makes_interface, Share}
+use Rattle.pod_laws.proofs.Names.{share_of, no_objects, share_after_call, share_after_calls, share_after_calls-append}
+use Rattle.pod_laws.proofs.Names.{att_of, mappings_of, before_of, back_of, bridge_of, calls_before, links_made}
+use Rattle.pod_laws.proofs.Names.{OnlyRemoves, first_laws, adds-links, makes-wanted}
 use Rattle.cni_result.proofs.ReadAgain.{everywhere}
-use Rattle.net_conf.specs.declared.{first.First.First, list.NetList.NetList}
-use Rattle.pod_file.specs.declared.command.Command.{Command}
-use Rattle.kernel_types.specs.{Apply.Calls.set_link, Terms.is_own, Touch.DropsOnly, declared.call.Call.Call}
-use Rattle.kernel_types.specs.declared.call.Call.TheVariants.{VethAdd, MacvlanAdd, LinkSet, AddrAdd, RouteAdd}
-use Rattle.kernel_types.specs.declared.{call.Call.TheVariants.{RuleAppend, SettingSet, CachePut}, object.Att.Att}
-use Rattle.kernel_types.specs.declared.object.{Host.Host, Tag.TheVariants.Own}
-use Rattle.kernel_types.proofs.ListLemmas.{list_all-weaker}
-use Rattle.plugin_base.specs.{PluginCalls.makes_interface, Share.{Share, share_of, no_objects, share_after_call}}
-use Rattle.plugin_base.specs.Share.{share_after_calls}
-use Rattle.plugin_base.proofs.CallLists.{share_after_calls-append}
-use Rattle.cni_errors.specs.CommandFields.{att_of}
-use Rattle.cni_verbs.specs.{Mappings.mappings_of, Script.{before_of, back_of}}
-use Rattle.plugin_chain.specs.Wanted.{bridge_of, calls_before, links_made}
 use Rattle.pod_laws.specs.{Apart.GrowsAtEnd, AskedFor.{AreAmong, links_after_part, AreLinksOf, AreAskedFor}}
 use Rattle.pod_laws.proofs.{Added.Achieved.{with_leases, wanted_by, no_leases}, Parts.{part-left, part-prefix}}
-use Rattle.gc_sweep.specs.Keep.{OnlyRemoves}
-use Rattle.plugin_chain.proofs.{PluginLaws.first_laws, WantedShare.{adds-links, makes-wanted}}
 
 -- ---- lists
 

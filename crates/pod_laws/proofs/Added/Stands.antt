@@ -1,33 +1,21 @@
 -- Each call that a run makes finds the links and the bridge that it stands on.
-use Rattle.std.proofs.Common.{◌≡◌, ℕ, Bool, true, not, List, [], ◌∷◌, ◌++◌, length, Option, Some, None, refl, sym, ◌∙◌}
-use Rattle.std.proofs.{Common.{ap, subst, inl, inr, ◌⊎◌}, lemmas.Bool.{and_parts, both_ways, not-true}}
-use Rattle.std.proofs.lemmas.Slice.Eq.{bytes_eq-Decides}
-use Rattle.std.specs.{List.{list_any, list_all}, Prelude.{◌&&◌, ◌||◌, is_none}}
-use Rattle.cni_addr.specs.declared.address.Addr.{Addr}
-use Rattle.cni_result.proofs.ReadAgain.{each_of}
-use Rattle.cni_result.specs.declared.cached.PortMapping.{PortMapping}
-use Rattle.net_conf.specs.declared.{first.First.First, list.NetList.NetList}
-use Rattle.pod_file.specs.declared.command.Command.{Command}
-use Rattle.kernel_types.specs.{Apply.{apply, Calls.master_is_bridge_or_none}, Terms.has_host_bridge}
-use Rattle.kernel_types.specs.declared.call.Call.{Call, TheVariants.{Begin, LeaseNext, CacheGet, HasObj, OwnersOf}}
-use Rattle.kernel_types.specs.declared.call.{Call.TheVariants.PoolFree, Kind.Kind, Reply.TheVariants.NoLink}
-use Rattle.kernel_types.specs.declared.object.{Att.Att, Host.Host, Link.Link}
-use Rattle.kernel_types.proofs.ListLemmas.{list_all-weaker}
+use Rattle.pod_laws.proofs.Names.{◌≡◌, ℕ, Bool, true, not, List, [], ◌∷◌, ◌++◌, length, Option, Some, None, refl, sym}
+use Rattle.pod_laws.proofs.Names.{◌∙◌, ap, subst, inl, inr, ◌⊎◌, and_parts, both_ways, not-true, bytes_eq-Decides}
+use Rattle.pod_laws.proofs.Names.{list_any, list_all, ◌&&◌, ◌||◌, Addr, each_of, PortMapping, First, NetList, Command}
+use Rattle.pod_laws.proofs.Names.{apply, master_is_bridge_or_none, has_host_bridge, Call, Begin, LeaseNext, CacheGet}
+use Rattle.pod_laws.proofs.Names.{HasObj, OwnersOf, PoolFree, Kind, NoLink, Att, Host, Link, list_all-weaker}
+use Rattle.pod_laws.proofs.Names.{is_plugin_call_of, bridge_for, ensures_bridge, is_none_or, lies_on, stands_on, Share}
+use Rattle.pod_laws.proofs.Names.{share_of, att_of, mappings_of, State, AtBegin, BeforeLeases, Leasing, AfterLeases}
+use Rattle.pod_laws.proofs.Names.{ReadingCache, Deleting, FindingEntry, Asking, Changing, Collecting, Over, Calls, turn}
+use Rattle.pod_laws.proofs.Names.{back_calls, bridge_of, calls_after, calls_before, chained_calls, deletion, links_made}
+use Rattle.pod_laws.proofs.Names.{PassesChained, passes-back, chained_laws, first_laws, Placed, World, host_of, Entry}
+use Rattle.std.specs.Prelude.{is_none}
 use Rattle.kernel_types.specs.declared.call.Kind.TheVariants as kinds
-use Rattle.plugin_base.specs.{Calls.is_plugin_call_of, PluginCalls.{bridge_for, ensures_bridge, is_ensured_first}}
-use Rattle.plugin_base.specs.{PluginCalls.{is_none_or, lies_on, stands_on}, Share.{Share, share_of}}
-use Rattle.cni_errors.specs.CommandFields.{att_of}
-use Rattle.cni_verbs.specs.{Mappings.mappings_of, Script.{State, AtBegin, BeforeLeases, Leasing, AfterLeases}}
-use Rattle.cni_verbs.specs.Script.{ReadingCache, Deleting, FindingEntry, Asking, Changing, Collecting, Over, Calls}
-use Rattle.cni_verbs.specs.Script.{turn}
-use Rattle.plugin_chain.specs.Wanted.{back_calls, bridge_of, calls_after, calls_before, chained_calls, deletion}
-use Rattle.plugin_chain.specs.Wanted.{links_made}
-use Rattle.plugin_chain.proofs.{BackCalls.{PassesChained, passes-back}, PluginLaws.{chained_laws, first_laws}}
-use Rattle.pod_workers.specs.{Plans.Placed, World.{World, host_of}, declared.plan.Entry.Entry}
+use Rattle.plugin_base.specs.PluginCalls.{is_ensured_first}
 use Rattle.pod_laws.specs.Moments.{own_entries}
-use Rattle.pod_laws.proofs.Added.{Achieved.{Achieved, achieved-start, achieved-step, with_leases}, Bridges.BridgeIn}
-use Rattle.pod_laws.proofs.Added.{Bridges.{BridgeComes, HasBridge, all-bridges}, Footing.{IsMacvlan, lies-calls}}
-use Rattle.pod_laws.proofs.Added.Footing.{lies-host, lie-back, lie-before, no_link-macvlan}
+use Rattle.pod_laws.proofs.Added.{Achieved.{Achieved, achieved-start, achieved-step, with_leases}, Bridges.BridgeComes}
+use Rattle.pod_laws.proofs.Added.{Bridges.{HasBridge, all-bridges}, Footing.{IsMacvlan, lies-calls, lies-host}}
+use Rattle.pod_laws.proofs.Added.{Footing.{lie-back, lie-before, no_link-macvlan}, HostBridges.BridgeIn}
 use Rattle.pod_laws.proofs.{Added.Prefixes.links_made-leased, Histories.{RunFacts.state_by, Runs.every-run-now}}
 use Rattle.pod_laws.proofs.Histories.{Runs.own-state, States.{LeftFit, is_question, asked-is_question}, Steps.GoesOn}
 use Rattle.pod_laws.proofs.{Histories.Turns.{AsksOrCollects, work-turn}, Tests.middle-passes}

@@ -1,23 +1,16 @@
 -- A GC takes from stale attachments alone.
-use Rattle.std.proofs.Common.{◌≡◌, ℕ, ◌+◌, Bool, true, false, List, [], ◌∷◌, length, refl, ◌∙◌, ap, subst, arith}
-use Rattle.std.specs.List.{list_all}
-use Rattle.net_conf.specs.declared.list.NetList.{NetList}
-use Rattle.pod_file.specs.{Commands.is_of_network, declared.command.{Command.Command, Verb.Verb}}
+use Rattle.pod_laws.proofs.Names.{◌≡◌, ℕ, ◌+◌, Bool, true, false, List, [], ◌∷◌, length, refl, ◌∙◌, ap, subst, arith}
+use Rattle.pod_laws.proofs.Names.{list_all, NetList, is_of_network, Command, Verb, IsAllowed, apply, KeepsWhere}
+use Rattle.pod_laws.proofs.Names.{IsSound, is_own, Call, OwnersOf, Reply, Gone, Kept, Fault, Att, Host, Tag}
+use Rattle.pod_laws.proofs.Names.{KeepsWhere-nothing, Share, State, Collecting, Over, Calls, gc_of, advance, start_of}
+use Rattle.pod_laws.proofs.Names.{turn, turn_of_work, Job, Step, AskCached, Delete, Sweep, start_work, step_call}
+use Rattle.pod_laws.proofs.Names.{work_after, deletion, stays, host_of, reply_to, Entry, by-unless_early, sound_host}
 use Rattle.pod_file.specs.declared.command.Verb.TheVariants as verbs
-use Rattle.kernel_types.specs.{Allowed.IsAllowed, Apply.{apply, Calls.tags_of}, Isolation.KeepsWhere, Sound.IsSound}
-use Rattle.kernel_types.specs.{Terms.is_own, declared.call.{Call.{Call, TheVariants.OwnersOf}, Reply.Reply}}
-use Rattle.kernel_types.specs.declared.{call.Reply.TheVariants.{Gone, Entry as Kept, Fault}, object.Att.Att}
-use Rattle.kernel_types.specs.declared.object.{Host.Host, Tag.Tag}
-use Rattle.kernel_types.proofs.{Isolation.{KeepsWhere-TouchesOwn, KeepsWhere-nothing}, ListLemmas.list_all-map}
-use Rattle.plugin_base.specs.Share.{Share}
-use Rattle.cni_verbs.specs.Script.{State, Collecting, Over, Calls, gc_of, advance, start_of, turn, turn_of_work}
-use Rattle.cni_verbs.specs.Sweep.{Job, Step, AskCached, Delete, Sweep, after_job, job_of, start_work, step_call}
-use Rattle.cni_verbs.specs.Sweep.{work_after}
-use Rattle.plugin_chain.specs.Wanted.{deletion}
-use Rattle.gc_sweep.specs.{Bound.stale_owners, Keep.stays}
+use Rattle.kernel_types.specs.Apply.Calls.{tags_of}
+use Rattle.kernel_types.proofs.{Isolation.KeepsWhere-TouchesOwn, ListLemmas.list_all-map}
+use Rattle.cni_verbs.specs.Sweep.{after_job, job_of}
+use Rattle.gc_sweep.specs.Bound.{stale_owners}
 use Rattle.gc_sweep.proofs.{Covered.done_stale, Deletions.deletes, Owners.{is_stale, own_goes, owners_stale}}
-use Rattle.pod_workers.specs.{World.{host_of, reply_to}, declared.plan.Entry.Entry}
-use Rattle.pod_workers.proofs.{Replies.by-unless_early, Sound.sound_host}
 use Rattle.pod_laws.specs.{Apart.EachCollectionTakesTheStaleAlone, Moments.own_entries}
 use Rattle.pod_laws.proofs.Histories.{EachEntry.{DoesByVerb, each-entry_of}, Runs.{StartsWith, IsRunFact}}
 use Rattle.pod_laws.proofs.Histories.{Runs.{every-run-now, own-state}, Steps.on-entry}

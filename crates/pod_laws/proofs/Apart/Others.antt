@@ -1,7 +1,5 @@
 -- Each entry leaves the objects of every other attachment.
-use Rattle.std.proofs.{Common.{◌≡◌, true, false, not, sym, ◌∙◌, ap, inl, inr}, lemmas.Bool.and_parts}
-use Rattle.cni_verbs.specs.Progress.{is_gc}
-use Rattle.pod_file.specs.{Commands.is_of_network, declared.command.Verb.Verb}
+use Rattle.pod_laws.proofs.Names.{◌≡◌, true, false, not, sym, ◌∙◌, ap, inl, inr, and_parts, is_gc, is_of_network, Verb}
 use Rattle.pod_file.specs.declared.command.Verb.TheVariants as verbs
 use Rattle.pod_laws.specs.Apart.{EachEntryLeavesOthers, LeavesOthers, leaves_others}
 use Rattle.pod_laws.proofs.Histories.{EachEntry.{DoesByVerb, each-entry_of}, Turns.other-entered}

@@ -1,23 +1,18 @@
 -- Each entry leaves what was made outside, and removes nothing that is shared.
-use Rattle.std.proofs.Common.{◌≡◌, Bool, true, false, not, List, [], ◌∷◌, ◌++◌, refl, sym, ◌∙◌, ap, subst, inl, inr}
-use Rattle.std.proofs.Common.{◌⊎◌}
-use Rattle.std.specs.Prelude.{filter}
-use Rattle.kernel_types.specs.{Allowed.IsAllowed, Apply.apply, Isolation.{KeepsWhere, KeepsUnowned, ensures_shared}}
-use Rattle.kernel_types.specs.{Isolation.is_from_outside, Sound.IsSound, Terms.is_owned, Touch.AddsBridge}
-use Rattle.kernel_types.specs.Touch.{AddsAddress, AddsSetting, AddsNamespace, RemovesUnshared, is_base}
-use Rattle.kernel_types.specs.declared.call.Call.{Call, TheVariants.{BridgeEnsure, GatewayEnsure, ForwardEnsure}}
-use Rattle.kernel_types.specs.declared.{call.Call.TheVariants.{NsChange, Outside}, object.{AddrObj.AddrObj, Host.Host}}
-use Rattle.kernel_types.specs.declared.object.{Link.Link, NsObj.NsObj, Setting.Setting, Tag.Tag}
-use Rattle.kernel_types.proofs.{EveryCall.Touches-apply, Isolation.{KeepsUnowned-Touches, KeepsWhere-nothing}}
+use Rattle.pod_laws.proofs.Names.{◌≡◌, Bool, true, false, not, List, [], ◌∷◌, ◌++◌, refl, sym, ◌∙◌, ap, subst, inl, inr}
+use Rattle.pod_laws.proofs.Names.{◌⊎◌, filter, IsAllowed, apply, KeepsWhere, ensures_shared, is_from_outside, IsSound}
+use Rattle.pod_laws.proofs.Names.{is_owned, Call, BridgeEnsure, GatewayEnsure, ForwardEnsure, NsChange, Outside}
+use Rattle.pod_laws.proofs.Names.{AddrObj, Host, Link, Setting, Tag, Touches-apply, KeepsUnowned-Touches}
+use Rattle.pod_laws.proofs.Names.{KeepsWhere-nothing, filter-within, is_of_network, entry_of, host_of, after_entry}
+use Rattle.pod_laws.proofs.Names.{sound_host}
+use Rattle.kernel_types.specs.{Isolation.KeepsUnowned, Touch.{AddsBridge, AddsAddress, AddsSetting, AddsNamespace}}
+use Rattle.kernel_types.specs.{Touch.{RemovesUnshared, is_base}, declared.object.NsObj.NsObj}
 use Rattle.kernel_types.proofs.Isolation.{KeepsWhere-AddsBridge, KeepsWhere-AddsAddress, KeepsWhere-AddsSetting}
 use Rattle.kernel_types.proofs.Isolation.{KeepsWhere-RemovesUnshared}
 use Rattle.kernel_types.specs.declared.object.Tag.TheVariants as tags
-use Rattle.plugin_base.proofs.KeyLists.{filter-push_dropped, filter-push_kept, filter-within}
-use Rattle.pod_file.specs.Commands.{is_of_network}
-use Rattle.pod_workers.specs.World.{entry_of, host_of, after_entry}
-use Rattle.pod_workers.proofs.Sound.{sound_host}
+use Rattle.plugin_base.proofs.KeyLists.{filter-push_dropped, filter-push_kept}
 use Rattle.pod_laws.specs.Apart.{is_outside, GrowsAtEnd, KeepsShared, KeepsTheRest, EachEntryKeepsTheRest}
-use Rattle.pod_laws.proofs.{Added.{Bridges.turn-inside, Prefixes.grows-same}, Histories.EachEntry.DoesNow}
+use Rattle.pod_laws.proofs.{Added.{HostBridges.turn-inside, Prefixes.grows-same}, Histories.EachEntry.DoesNow}
 use Rattle.pod_laws.proofs.Histories.{EachEntry.{DoesOutside, by-outside, each-entry}, Steps.on-entry, Turns.change-of}
 use Rattle.pod_laws.proofs.Histories.Turns.{turn-of}
 

@@ -1,21 +1,15 @@
 -- What is cached of an attachment is the result of its last ADD that began.
-use Rattle.std.proofs.Common.{◌≡◌, ℕ, List, [], ◌∷◌, map, Some, None, refl, sym, ◌∙◌, ap, inl, inr}
-use Rattle.std.proofs.lemmas.Option.{same_Some, none-some}
-use Rattle.std.specs.Option.{option_map}
-use Rattle.cni_addr.specs.declared.address.{Addr.Addr, Cidr.Cidr}
-use Rattle.cni_result.specs.declared.{cached.Cached.Cached, result.{AddResult.AddResult, IpEntry.IpEntry}}
-use Rattle.cni_errors.specs.CommandFields.{att_of}
-use Rattle.cni_verbs.specs.{Mappings.mappings_of, Questions.addresses_of_result, Script.leases_in}
-use Rattle.host_local.specs.Laws.{AreCandidates, CandidatesAreGiven}
-use Rattle.kernel_types.specs.{Terms.{cached_in, is_own}, declared.{call.Given.Given, object.Att.Att}}
-use Rattle.kernel_types.specs.declared.object.{CachedObj.CachedObj, Host.Host, Tag.TheVariants.Own}
-use Rattle.net_conf.specs.declared.{chained.Chained.Chained, list.NetList.NetList}
-use Rattle.plugin_base.specs.Share.{Share, share_of}
-use Rattle.plugin_chain.specs.Wanted.{all_chained_results, cached_of, chained_result, first_plugin_result}
-use Rattle.plugin_chain.specs.Wanted.{given_by_list, ipam_of, result_of_add, sets_of}
+use Rattle.pod_laws.proofs.Names.{◌≡◌, ℕ, List, [], ◌∷◌, map, Some, None, refl, sym, ◌∙◌, ap, inl, inr, same_Some}
+use Rattle.pod_laws.proofs.Names.{none-some, option_map, Addr, Cached, AddResult, IpEntry, att_of, mappings_of}
+use Rattle.pod_laws.proofs.Names.{addresses_of_result, leases_in, AreCandidates, cached_in, is_own, Att, CachedObj}
+use Rattle.pod_laws.proofs.Names.{Host, Own, Chained, NetList, Share, share_of, all_chained_results, cached_of}
+use Rattle.pod_laws.proofs.Names.{chained_result, first_plugin_result, given_by_list, result_of_add, sets_of, after}
+use Rattle.pod_laws.proofs.Names.{replies_of, Entry, Plan, find-first, first_of}
+use Rattle.cni_addr.specs.declared.address.Cidr.{Cidr}
+use Rattle.host_local.specs.Laws.{CandidatesAreGiven}
+use Rattle.kernel_types.specs.declared.call.Given.{Given}
+use Rattle.plugin_chain.specs.Wanted.{ipam_of}
 use Rattle.plugin_chain.proofs.GivenAddresses.{chained-ips, first-addresses}
-use Rattle.pod_workers.specs.{World.{after, replies_of}, declared.plan.{Entry.Entry, Plan.Plan}}
-use Rattle.pod_workers.proofs.Elements.{find-first, first_of}
 use Rattle.pod_laws.specs.{AskedFor.{HasNothingUnasked, IsAskedFor, IsPart}, CachedResults.EachCachedResultIsItsAdds}
 use Rattle.pod_laws.specs.CachedResults.{IsResultOfItsAdd}
 use Rattle.pod_laws.proofs.AskedFor.Moments.{nothing_is_unasked}

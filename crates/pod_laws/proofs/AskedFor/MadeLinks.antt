@@ -1,28 +1,23 @@
 -- Where at most one plugin sets values of links, as in each list of a plan, the links of an attachment are all as they
 -- were made, or all as they are wanted.
-use Rattle.std.proofs.Common.{◌≡◌, ℕ, Bool, true, false, not, List, [], ◌∷◌, ◌++◌, map, Some, refl, sym, ◌∙◌, ap, subst}
-use Rattle.std.proofs.{Common.{inl, inr, ◌⊎◌, arith}, lemmas.Bool.{and_from, both_ways, cases_Bool, not-true}}
+use Rattle.pod_laws.proofs.Names.{◌≡◌, ℕ, Bool, true, false, not, List, [], ◌∷◌, ◌++◌, map, Some, refl, sym, ◌∙◌, ap}
+use Rattle.pod_laws.proofs.Names.{subst, inl, inr, ◌⊎◌, arith, and_from, both_ways, cases_Bool, not-true}
+use Rattle.pod_laws.proofs.Names.{AllByRecursion, list_any, list_all, ◌||◌, if◌then◌else◌, bytes_eq, Addr, PortMapping}
+use Rattle.pod_laws.proofs.Names.{AddResult, IpEntry, Chained, NetList, is_of_network, Command, list_any-append_none}
+use Rattle.pod_laws.proofs.Names.{Call, VethAdd, MacvlanAdd, LinkSet, CachePut, Att, Share, no_objects}
+use Rattle.pod_laws.proofs.Names.{share_after_call, share_after_calls, share_after_calls-append, att_of, mappings_of}
+use Rattle.pod_laws.proofs.Names.{calls_after, chained_calls, chained_result, back_calls, given_by_list}
+use Rattle.pod_laws.proofs.Names.{first_plugin_result, cached_of, links_made, wanted, chained_laws, first_laws}
+use Rattle.pod_laws.proofs.Names.{makes-wanted, IsWellFormed, list_for, list_named, Plan, fine, if-listed}
 use Rattle.std.proofs.lemmas.List.Elements.{All-head, All-tail}
-use Rattle.std.specs.{List.{All, AllByRecursion, IsDistinct, list_any, list_all}, Prelude.{◌||◌, if◌then◌else◌}}
-use Rattle.std.specs.Str.{bytes_eq}
-use Rattle.cni_addr.specs.declared.address.Addr.{Addr}
-use Rattle.cni_result.specs.declared.{cached.PortMapping.PortMapping, result.{AddResult.AddResult, IpEntry.IpEntry}}
+use Rattle.std.specs.List.{All, IsDistinct}
 use Rattle.net_conf.specs.{PluginTypes.{type_eq, type_of_chained}, WellFormed.IsWellFormedList}
-use Rattle.net_conf.specs.declared.{chained.Chained.Chained, list.NetList.NetList}
-use Rattle.pod_file.specs.{Commands.is_of_network, declared.command.Command.Command}
-use Rattle.kernel_types.proofs.ListLemmas.{list_any-append_none, passes-list_all}
-use Rattle.kernel_types.specs.declared.call.Call.{Call, TheVariants.{VethAdd, MacvlanAdd, LinkSet, CachePut}}
-use Rattle.kernel_types.specs.declared.object.Att.{Att}
-use Rattle.plugin_base.specs.{PluginCalls.{at_most_one, changes_links, set_links_once}, Share.{Share, no_objects}}
-use Rattle.plugin_base.specs.Share.{share_after_call, share_after_calls}
-use Rattle.plugin_base.proofs.{CallLists.share_after_calls-append, PluginCalls.at_most-none}
-use Rattle.cni_errors.specs.CommandFields.{att_of}
-use Rattle.cni_verbs.specs.Mappings.{mappings_of}
-use Rattle.plugin_chain.specs.Wanted.{calls_after, chained_calls, all_chained_calls, chained_result, back_calls}
-use Rattle.plugin_chain.specs.Wanted.{given_by_list, first_plugin_result, cached_of, sets_links, links_made, wanted}
-use Rattle.plugin_chain.proofs.{PluginLaws.{chained_laws, first_laws, one_setter}, WantedShare.makes-wanted}
-use Rattle.pod_workers.specs.{Plans.{IsWellFormed, list_for, list_named}, declared.plan.Plan.Plan}
-use Rattle.pod_workers.proofs.Sound.{fine, if-listed, list_for-found}
+use Rattle.kernel_types.proofs.ListLemmas.{passes-list_all}
+use Rattle.plugin_base.specs.PluginCalls.{at_most_one, changes_links, set_links_once}
+use Rattle.plugin_base.proofs.PluginCalls.{at_most-none}
+use Rattle.plugin_chain.specs.Wanted.{all_chained_calls, sets_links}
+use Rattle.plugin_chain.proofs.PluginLaws.{one_setter}
+use Rattle.pod_workers.proofs.Sound.{list_for-found}
 use Rattle.pod_laws.specs.AskedFor.{AreAmong, links_after_part, EachLinkIsWanted, LinksAreMadeOrWanted}
 use Rattle.pod_laws.proofs.Added.{Achieved.with_leases, Prefixes.{links-calls, links_made-leased}}
 

@@ -1,19 +1,11 @@
 -- The calls that lease nothing.
-use Rattle.std.proofs.Common.{◌≡◌, ℕ, Bool, true, false, List, [], ◌∷◌, Option, Some, None, refl}
-use Rattle.std.specs.Prelude.{find}
-use Rattle.cni_addr.specs.declared.address.Addr.{Addr}
-use Rattle.kernel_types.specs.{Apply.{apply, Calls.without_link}, Isolation.is_from_outside, Terms.is_own}
-use Rattle.kernel_types.specs.{Terms.{has_named_ns, link_at}, declared.call.Call.{Call, TheVariants.{HasObj, CacheGet}}}
-use Rattle.kernel_types.specs.declared.call.{Call.TheVariants.{OwnersOf, PoolFree, NsChange, Outside}, Change.Change}
-use Rattle.kernel_types.specs.declared.call.{Change.TheVariants.{DropLink, Flush}, Kind.Kind, Reply.Reply}
-use Rattle.kernel_types.specs.declared.call.Reply.TheVariants.{Done, NoNs, NoLink, Taken, Empty, Leased, Gone, Has}
-use Rattle.kernel_types.specs.declared.{call.Reply.TheVariants.{Owners, Entry as Kept, Fault}, object.Att.Att}
-use Rattle.kernel_types.specs.declared.object.{Host.Host, Link.Link}
-use Rattle.cni_addr.proofs.Cases.{by_test}
+use Rattle.pod_laws.proofs.Names.{◌≡◌, ℕ, Bool, true, false, List, [], ◌∷◌, Option, Some, None, refl, find, Addr, apply}
+use Rattle.pod_laws.proofs.Names.{without_link, is_from_outside, is_own, has_named_ns, link_at, Call, HasObj, CacheGet}
+use Rattle.pod_laws.proofs.Names.{OwnersOf, PoolFree, NsChange, Outside, DropLink, Flush, Kind, Reply, Done, NoNs}
+use Rattle.pod_laws.proofs.Names.{NoLink, Taken, Empty, Leased, Gone, Has, Owners, Kept, Fault, Att, Host, Link}
+use Rattle.pod_laws.proofs.Names.{by_test, leases_in, deletion, reply_to}
+use Rattle.kernel_types.specs.declared.call.Change.{Change}
 use Rattle.kernel_types.specs.declared.call.Kind.TheVariants as kinds
-use Rattle.cni_verbs.specs.Script.{leases_in}
-use Rattle.plugin_chain.specs.Wanted.{deletion}
-use Rattle.pod_workers.specs.World.{reply_to}
 use Rattle.pod_laws.proofs.{Histories.States.is_question, Refused.Causes.IsPluginReply}
 
 -- ---- calls of a run

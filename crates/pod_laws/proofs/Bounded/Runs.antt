@@ -1,16 +1,11 @@
 -- A run makes no more calls than were left to it before its first entry.
-use Rattle.std.proofs.Common.{◌≡◌, ℕ, ◌+◌, ◌≤◌, true, List, [], ◌∷◌, ◌++◌, length, Some, slice_get, refl, ◌∙◌, ap, inl}
-use Rattle.std.proofs.{Common.{inr, arith}, lemmas.{Bool.both_ways, List.{length-append, length-map}}}
-use Rattle.net_conf.specs.declared.list.NetList.{NetList}
-use Rattle.pod_file.specs.declared.command.Command.{Command}
-use Rattle.plugin_base.specs.Share.{Share, share_of}
-use Rattle.cni_errors.specs.CommandFields.{att_of}
-use Rattle.cni_verbs.specs.Script.{advance, start_state}
-use Rattle.pod_workers.specs.{CallCounts.AddsInAtMost, Legal.Legal, Plans.{Placed, commands_of, list_for}, World.World}
-use Rattle.pod_workers.specs.{World.{host_of, own_replies, entry_of}, declared.plan.{Entry.Entry, Plan.Plan}}
-use Rattle.pod_workers.proofs.{CallsLeft.calls_left, Histories.{after-append, entry_or_none, has_reply}}
-use Rattle.pod_workers.proofs.{Replies.true-from, Sound.sound_host, Splits.{split_nil, split_snoc}}
-use Rattle.pod_workers.proofs.StepsLeft.{IsNoCollection, entry-falls, none-stays}
+use Rattle.pod_laws.proofs.Names.{◌≡◌, ℕ, ◌+◌, ◌≤◌, true, List, [], ◌∷◌, ◌++◌, length, Some, slice_get, refl, ◌∙◌, ap}
+use Rattle.pod_laws.proofs.Names.{inl, inr, arith, both_ways, length-append, length-map, NetList, Command, Share}
+use Rattle.pod_laws.proofs.Names.{share_of, att_of, advance, start_state, Legal, Placed, commands_of, list_for, World}
+use Rattle.pod_laws.proofs.Names.{host_of, own_replies, entry_of, Entry, Plan, calls_left, after-append, entry_or_none}
+use Rattle.pod_laws.proofs.Names.{has_reply, sound_host, split_nil, split_snoc, IsNoCollection}
+use Rattle.pod_workers.specs.CallCounts.{AddsInAtMost}
+use Rattle.pod_workers.proofs.{Replies.true-from, StepsLeft.{entry-falls, none-stays}}
 use Rattle.pod_laws.specs.Moments.{is_of, objects_after, own_entries, until_last}
 use Rattle.pod_laws.proofs.Histories.Entries.{is_of-own, own_entries-own, own_entries-other, replies_in, no-entries}
 use Rattle.pod_laws.proofs.Histories.{Entries.{until_last-own, until_last-other}, RunFacts.{state_by, state_by-append}}

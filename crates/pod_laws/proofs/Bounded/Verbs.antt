@@ -1,28 +1,22 @@
 -- What is left to a run before its first call, by its verb.
-use Rattle.std.proofs.Common.{◌≡◌, ◌≢◌, ℕ, ◌+◌, ◌*◌, ◌≤◌, false, List, [], ◌∷◌, ◌++◌, length, Option, Some, None}
-use Rattle.std.proofs.{Common.{slice_get, refl, sym, ap, subst, arith}, lemmas.List.{length-append, nil_from_length}}
-use Rattle.std.specs.Prelude.{if◌then◌else◌}
-use Rattle.cni_addr.specs.declared.{address.Addr.Addr, mac.Mac.Mac}
-use Rattle.cni_result.specs.declared.{cached.Cached.Cached, result.Interface.Interface}
-use Rattle.net_conf.specs.declared.list.NetList.{NetList}
-use Rattle.pod_file.specs.{Commands.is_of_network, declared.command.{Command.Command, Verb.Verb}}
+use Rattle.pod_laws.proofs.Names.{◌≡◌, ◌≢◌, ℕ, ◌+◌, ◌≤◌, false, List, [], ◌∷◌, ◌++◌, length, Option, Some, None}
+use Rattle.pod_laws.proofs.Names.{slice_get, refl, sym, ap, subst, arith, length-append, nil_from_length, if◌then◌else◌}
+use Rattle.pod_laws.proofs.Names.{Addr, Mac, Cached, Interface, NetList, is_of_network, Command, Verb, Reply, Share}
+use Rattle.pod_laws.proofs.Names.{add_refusal, att_of, del_refusal, Ending, Yes, Skipped, Refused, Question}
+use Rattle.pod_laws.proofs.Names.{bridge_by_mac, bridge_questions, cached_share, check_questions, first_interface}
+use Rattle.pod_laws.proofs.Names.{master_questions, pool_questions, share_questions, status_questions, State, AtBegin}
+use Rattle.pod_laws.proofs.Names.{ReadingCache, FindingEntry, Over, advance, asking, at_entry, checking, start_of}
+use Rattle.pod_laws.proofs.Names.{start_state, bridge_of, kinds_of, master_of, sets_of, Legal, Placed, commands_of}
+use Rattle.pod_laws.proofs.Names.{list_for, World, own_replies, Entry, calls_left, by-either, by-unless, by-unless_old}
+use Rattle.pod_laws.proofs.Names.{IsNoCollection}
+use Rattle.std.proofs.Common.{◌*◌}
 use Rattle.pod_file.specs.declared.command.Verb.TheVariants as verbs
 use Rattle.cni_verbs.proofs.QuestionCounts.{length-pools, length-share}
-use Rattle.kernel_types.specs.declared.call.Reply.{Reply, TheVariants.Entry as Found}
-use Rattle.plugin_base.specs.Share.{Share}
-use Rattle.cni_errors.specs.{CommandFields.{add_refusal, att_of, del_refusal}, declared.answer.Ending.Ending}
-use Rattle.cni_errors.specs.declared.answer.{Ending.TheVariants.{Yes, Skipped, Refused}, Question.Question}
-use Rattle.cni_verbs.specs.Questions.{bridge_by_mac, bridge_questions, cached_share, check_questions, first_interface}
-use Rattle.cni_verbs.specs.Questions.{master_questions, pool_questions, share_questions, status_questions}
-use Rattle.cni_verbs.specs.Script.{State, AtBegin, ReadingCache, FindingEntry, Over, advance, asking, at_entry}
-use Rattle.cni_verbs.specs.Script.{checking, start_of, start_state}
-use Rattle.plugin_chain.specs.Wanted.{bridge_of, kinds_of, master_of, sets_of}
+use Rattle.kernel_types.specs.declared.call.Reply.TheVariants.{Entry as Found}
 use Rattle.cni_errors.specs.declared.answer.Skip.TheVariants as skips
 use Rattle.gc_sweep.specs.Deletions.{deletions_of}
-use Rattle.pod_workers.specs.{CallCounts.most_calls, Legal.Legal, Plans.{Placed, commands_of, list_for}, World.World}
-use Rattle.pod_workers.specs.{World.own_replies, declared.plan.Entry.Entry}
-use Rattle.pod_workers.proofs.{CallsLeft.calls_left, Falls.left-asking, MostCalls.adds_in_most_calls, Replies.by-either}
-use Rattle.pod_workers.proofs.{Replies.{by-unless, by-unless_old}, StepsLeft.{IsNoCollection, none-asking}}
+use Rattle.pod_workers.specs.CallCounts.{most_calls}
+use Rattle.pod_workers.proofs.{Falls.left-asking, MostCalls.adds_in_most_calls, StepsLeft.none-asking}
 use Rattle.pod_laws.specs.Bounded.{EachAddHasMost, EachChangeIsOneCall, EachRunIsBounded, IsFirst, asked_of}
 use Rattle.pod_laws.specs.Moments.{objects_after}
 use Rattle.pod_laws.proofs.{Bounded.Runs.{made-below, made-within}, Outside.Changes.one-call}

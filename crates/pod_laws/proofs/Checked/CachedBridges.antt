@@ -1,128 +1,28 @@
 -- At every moment an attachment with a cached result has the bridge that it names first.
-use Rattle.std.proofs.Common.{◌≡◌, ℕ, Bool, true, false, not, List, [], ◌∷◌, ◌++◌, map, Option, Some, None, refl, sym}
-use Rattle.std.proofs.{Common.{◌∙◌, ap, subst, inl, inr, ◌⊎◌, arith}, lemmas.Bool.{and_parts, both_ways, cases_Bool}}
-use Rattle.std.proofs.lemmas.{Bool.false_from_ne_true, Option.{same_Some, none-some}, Slice.Eq.bytes_eq-Decides}
-use Rattle.std.specs.{List.{list_all, list_any}, Prelude.{filter, ◌&&◌}, Str.bytes_eq}
-use Rattle.cni_addr.proofs.Cases.{by_test}
-use Rattle.cni_addr.specs.declared.address.Addr.{Addr}
-use Rattle.cni_result.specs.declared.{cached.Cached.Cached, result.{AddResult.AddResult, Interface.Interface}}
-use Rattle.cni_errors.specs.CommandFields.{att_of}
-use Rattle.cni_verbs.specs.Script.{State, AtBegin, BeforeLeases, Leasing, AfterLeases, ReadingCache, Deleting}
-use Rattle.cni_verbs.specs.Script.{FindingEntry, Asking, Changing, Collecting, Over, Calls, leases_in, turn}
-use Rattle.plugin_chain.specs.Wanted.{all_chained_results, bridge_of, calls_before, chained_result, deletion}
-use Rattle.plugin_chain.specs.Wanted.{result_of_add}
-use Rattle.plugin_chain.proofs.PluginLaws.{chained_laws, first_laws}
-use Rattle.kernel_types.specs.{Allowed.IsAllowed, Apply.{apply, Calls.{goes_with, goes_with_ns, has_peer_in}}}
-use Rattle.kernel_types.specs.{Apply.Calls.{master_is_bridge_or_none, without_link}, Equal.att_eq}
-use Rattle.kernel_types.specs.{Isolation.is_from_outside, Sound.{IsSound, peer_fits}, Terms.cached_in}
-use Rattle.kernel_types.specs.Terms.{has_host_bridge, has_named_ns, is_at, is_bridge, is_host_bridge, is_host_link}
-use Rattle.kernel_types.specs.{Terms.{is_host_ns, is_own, is_peer_at, is_veth, link_at}, declared.call.Call.Call}
-use Rattle.kernel_types.specs.declared.call.Call.TheVariants.{Begin, CacheGet, CachePut, NsChange, Outside}
-use Rattle.kernel_types.specs.declared.{call.{Change.TheVariants.{DropLink, Flush}, Reply.Reply}, object.Att.Att}
-use Rattle.kernel_types.specs.declared.object.{Host.Host, Link.Link, LinkKey.LinkKey, LinkKind.LinkKind}
-use Rattle.kernel_types.proofs.{Isolation.att_eq-same, ListLemmas.{list_all-weaker, list_any-kept, passes-find}}
-use Rattle.kernel_types.specs.declared.object.LinkKind.TheVariants as link_kinds
-use Rattle.net_conf.specs.declared.{chained.Chained.Chained, first.First.First, list.NetList.NetList}
-use Rattle.plugin_base.specs.{Calls.is_plugin_call_of, PluginCalls.makes_interface, Results.{names_first, names_of}}
-use Rattle.plugin_base.specs.Share.{Share, share_after_call, share_of}
-use Rattle.plugin_base.proofs.{KeyLists.none-by, OtherCalls.share-other, OwnCalls.share-own, Refusals.refused-same}
-use Rattle.pod_file.specs.declared.command.Command.{Command}
-use Rattle.pod_workers.specs.{Legal.Legal, Plans.{Placed, IsWellFormed, list_named}, World.{World, after, after_entry}}
-use Rattle.pod_workers.specs.{World.{entry_of, host_of, replies_of}, declared.plan.{Entry.Entry, Plan.Plan}}
-use Rattle.gc_sweep.proofs.{Deletable.done_or_not, OfKinds.still_none, Removes.removes-deletion}
-use Rattle.pod_workers.proofs.{Histories.after-append, OfPlugins.LeftAreOfPlugins, Prefixes.each_prefix}
-use Rattle.pod_workers.proofs.Sound.{sound_host}
+use Rattle.pod_laws.proofs.Names.{◌≡◌, ℕ, Bool, true, false, not, List, [], ◌∷◌, ◌++◌, map, Option, Some, None, refl}
+use Rattle.pod_laws.proofs.Names.{sym, ◌∙◌, ap, subst, inl, inr, ◌⊎◌, cases_Bool, same_Some, none-some}
+use Rattle.pod_laws.proofs.Names.{bytes_eq-Decides, list_all, Addr, Cached, AddResult, Interface, att_of, State}
+use Rattle.pod_laws.proofs.Names.{AtBegin, BeforeLeases, Leasing, AfterLeases, ReadingCache, Deleting, FindingEntry}
+use Rattle.pod_laws.proofs.Names.{Asking, Changing, Collecting, Over, Calls, leases_in, turn, all_chained_results}
+use Rattle.pod_laws.proofs.Names.{bridge_of, calls_before, chained_result, deletion, result_of_add, chained_laws}
+use Rattle.pod_laws.proofs.Names.{first_laws, apply, master_is_bridge_or_none, att_eq, IsSound, cached_in}
+use Rattle.pod_laws.proofs.Names.{has_host_bridge, is_own, Call, Begin, CacheGet, CachePut, Att, Host, att_eq-same}
+use Rattle.pod_laws.proofs.Names.{list_all-weaker, Chained, First, NetList, is_plugin_call_of, makes_interface, Share}
+use Rattle.pod_laws.proofs.Names.{share_after_call, share_of, share-other, share-own, refused-same, Command, Legal}
+use Rattle.pod_laws.proofs.Names.{Placed, IsWellFormed, list_named, World, after, after_entry, entry_of, host_of}
+use Rattle.pod_laws.proofs.Names.{replies_of, Entry, Plan, done_or_not, removes-deletion, after-append}
+use Rattle.pod_laws.proofs.Names.{LeftAreOfPlugins, each_prefix, sound_host, OnlyRemoves}
+use Rattle.plugin_base.specs.Results.{names_first, names_of}
+use Rattle.gc_sweep.proofs.OfKinds.{still_none}
 use Rattle.pod_laws.specs.{AskedFor.HasNothingUnasked, Moments.own_entries}
-use Rattle.pod_laws.proofs.Added.{Achieved.{Achieved, achieved-start, achieved-step}, Bridges.{BridgeIn, HasBridge}}
-use Rattle.pod_laws.proofs.{Added.Bridges.{all-bridges, bridge-entered}, AskedFor.CachedResults.entry_of_its_add}
-use Rattle.pod_laws.proofs.{AskedFor.{CachedResults.no-entry, Moments.nothing_is_unasked}, Histories.Runs.every-run-now}
-use Rattle.pod_laws.proofs.Histories.{Runs.own-state, States.{LeftFit, asked-is_question, is_question, question-leaves}}
-use Rattle.pod_laws.proofs.Histories.Steps.{Changes, ChangesKeep, EntriesKeep, GoesOn, by-entries, on-entry}
-use Rattle.pod_laws.proofs.Histories.Turns.{AsksOrCollects, change-of, removes-changed, turn-of, work-turn}
+use Rattle.pod_laws.proofs.Added.{Achieved.{Achieved, achieved-start, achieved-step}, Bridges.{HasBridge, all-bridges}}
+use Rattle.pod_laws.proofs.{Added.HostBridges.{BridgeIn, bridge-entered}, AskedFor.CachedResults.entry_of_its_add}
+use Rattle.pod_laws.proofs.AskedFor.{CachedResults.no-entry, Moments.nothing_is_unasked}
+use Rattle.pod_laws.proofs.{Checked.OutsideBridges.bridge-changed, Histories.Runs.{every-run-now, own-state}}
+use Rattle.pod_laws.proofs.Histories.States.{LeftFit, asked-is_question, is_question, question-leaves}
+use Rattle.pod_laws.proofs.Histories.Steps.{ChangesKeep, EntriesKeep, GoesOn, by-entries, on-entry}
+use Rattle.pod_laws.proofs.Histories.Turns.{AsksOrCollects, removes-changed, turn-of, work-turn}
 use Rattle.pod_laws.proofs.{Shares.Within.{list_named-listed, opening-share}, Tests.middle-passes}
-use Rattle.gc_sweep.specs.Keep.{OnlyRemoves}
-
--- ---- nothing from outside takes a bridge of the host
-
-bridge-no_veth : (k : LinkKind) → is_bridge k ≡ true → is_veth k ≡ false
-bridge-no_veth link_kinds.Device h = refl
-bridge-no_veth link_kinds.Bridge h = refl
-bridge-no_veth link_kinds.Veth h = cc
-bridge-no_veth (link_kinds.Macvlan mode) h = refl
-bridge-no_veth link_kinds.Dummy h = refl
-bridge-no_veth (link_kinds.Vlan id) h = refl
-
-bridge-alone : (links : List Link) (l : Link) (o : Option LinkKey) → peer_fits links l o ≡ true
-    → is_bridge l.kind ≡ true → o ≡ None
-bridge-alone links l None fits bridge = refl
-bridge-alone links l (Some key) fits bridge = let apart = bridge-no_veth l.kind bridge in grind (arith, fits, apart)
-
--- links go, and none of them stands in the host's own namespace without a peer
-stays-beside : (name : List ℕ) (gone : Link → Bool) (host : Host) → IsSound host
-    → ((l : Link) → is_host_ns l.ns ≡ true → l.peer ≡ None → gone l ≡ false) → has_host_bridge host name ≡ true
-    → list_any (is_host_bridge name) (filter (λ l. not (gone l)) host.links) ≡ true
-stays-beside name gone host sound stays there =
-    let none : list_any (λ l. is_host_bridge name l && not (not (gone l))) host.links ≡ false =
-    none-by (λ l. peer_fits host.links l l.peer) (λ l. is_host_bridge name l && not (not (gone l)))
-    (λ l fits. elim (cases_Bool (is_host_bridge name l)) [
-      | inl is ↦
-          let parts = and_parts (is_host_link name l) (is_bridge l.kind) is in
-          let kept : gone l ≡ false = stays l (and_parts (is_host_ns l.ns) (bytes_eq l.name name) parts.0).0 (bridge-alone host.links l l.peer fits parts.1) in
-          grind (arith, is, kept)
-      | inr other ↦ grind (arith, other)
-    ])
-    host.links sound.links.peers in
-    list_any-kept (is_host_bridge name) (λ l. not (gone l)) host.links there none
-
--- a place in another namespace than the host's own isn't that of a link in it
-apart-places : (a b : List ℕ) → is_host_ns a ≡ true → is_host_ns b ≡ false → bytes_eq a b ≡ false
-apart-places a b outer inner = false_from_ne_true (bytes_eq a b) (λ same. both_ways (is_host_ns b) inner (ap is_host_ns (sym ((bytes_eq-Decides a b).0 same)) ∙ outer))
-
-stays-in_ns : (ns : List ℕ) → is_host_ns ns ≡ false → (l : Link) → is_host_ns l.ns ≡ true → l.peer ≡ None
-    → goes_with_ns ns l ≡ false
-stays-in_ns ns inner l outer alone =
-    let apart : bytes_eq l.ns ns ≡ false = apart-places l.ns ns outer inner in
-    let no_peer : has_peer_in ns l.peer ≡ false = ap (has_peer_in ns) alone in
-    grind (arith, apart, no_peer)
-
-stays-at : (ns name : List ℕ) → is_host_ns ns ≡ false → (l : Link) → is_host_ns l.ns ≡ true → l.peer ≡ None
-    → goes_with ns name l ≡ false
-stays-at ns name inner l outer alone =
-    let apart : bytes_eq l.ns ns ≡ false = apart-places l.ns ns outer inner in
-    let no_peer : is_peer_at ns name l.peer ≡ false = ap (is_peer_at ns name) alone in
-    grind (arith, apart, no_peer)
-
-stays-dropped : (name : List ℕ) (host : Host) (key : LinkKey) (o : Option Link) → link_at host key.ns key.name ≡ o
-    → is_host_ns key.ns ≡ false → IsSound host → has_host_bridge host name ≡ true
-    → has_host_bridge (without_link host o).0 name ≡ true
-stays-dropped name host key None found inner sound there = there
-stays-dropped name host key (Some link) found inner sound there =
-    let at : is_at key.ns key.name link ≡ true = passes-find (is_at key.ns key.name) host.links link found in
-    let place : link.ns ≡ key.ns = (bytes_eq-Decides link.ns key.ns).0 (and_parts (bytes_eq link.ns key.ns) (bytes_eq link.name key.name) at).0 in
-    stays-beside name (goes_with link.ns link.name) host sound (stays-at link.ns link.name (ap is_host_ns place ∙ inner)) there
-
-stays-outside : (name : List ℕ) (host : Host) (call : Call) → IsSound host → IsAllowed host call
-    → is_from_outside call ≡ true → has_host_bridge host name ≡ true → has_host_bridge (apply host call).0 name ≡ true
-stays-outside name host (NsChange ns true) sound allowed from there = by_test (λ (step : Host × Reply). has_host_bridge step.0 name ≡ true) (has_named_ns host ns) _ _ (λ _. there) (λ _. there)
-stays-outside name host (NsChange ns false) sound allowed from there =
-    by_test (λ (step : Host × Reply). has_host_bridge step.0 name ≡ true) (has_named_ns host ns) _ _ (λ _. stays-beside name (goes_with_ns ns) host sound (stays-in_ns ns allowed) there) (λ _. there)
-stays-outside name host (Outside (DropLink key)) sound allowed from there =
-    by_test (λ (step : Host × Reply). has_host_bridge step.0 name ≡ true) (has_named_ns host key.ns) _ _ (λ _. stays-dropped name host key (link_at host key.ns key.name) refl allowed sound there) (λ _. there)
-stays-outside name host (Outside (Flush table)) sound allowed from there = there
-stays-outside name host _ sound allowed from there = cc
-
-bridge-outside : (o : Option (List ℕ)) (host : Host) (call : Call) → IsSound host → IsAllowed host call
-    → is_from_outside call ≡ true → master_is_bridge_or_none host o ≡ true
-    → master_is_bridge_or_none (apply host call).0 o ≡ true
-bridge-outside None host call sound allowed from there = refl
-bridge-outside (Some name) host call sound allowed from there = stays-outside name host call sound allowed from there
-
-bridge-changed : (first : First) (w : World) (n : ℕ) (c : Placed) (call : Call) (faulty : Bool)
-    → Changes w n c call faulty → BridgeIn first (host_of w)
-    → BridgeIn first (after_entry (host_of w) (entry_of (host_of w) n call faulty))
-bridge-changed first w n c call faulty on there =
-    on-entry (BridgeIn first) (host_of w) n call faulty there
-    (λ f. bridge-outside (bridge_of first) (host_of w) call (sound_host w on.legal) (on.allowed f) (change-of w n c call faulty on).call_is there)
 
 -- ---- calls that cache nothing
 

@@ -1,17 +1,10 @@
 -- All objects that an attachment wants are its own, since each of the calls that make them is.
-use Rattle.std.proofs.{Common.{◌≡◌, ℕ, Bool, true, List, [], ◌∷◌, ◌++◌, refl, ◌∙◌, subst, arith}, lemmas.Bool.and_from}
-use Rattle.std.proofs.lemmas.Bool.{and_parts}
-use Rattle.std.specs.List.{list_all}
-use Rattle.cni_addr.specs.declared.address.Addr.{Addr}
-use Rattle.cni_result.specs.declared.cached.PortMapping.{PortMapping}
-use Rattle.net_conf.specs.declared.list.NetList.{NetList}
-use Rattle.kernel_types.specs.{Apply.Calls.set_link, Terms.{is_own, lease_of}, declared.call.Call.Call}
-use Rattle.kernel_types.specs.declared.call.Call.TheVariants.{VethAdd, MacvlanAdd, LinkSet, AddrAdd, RouteAdd}
-use Rattle.kernel_types.specs.declared.{call.Call.TheVariants.{RuleAppend, SettingSet, CachePut}, object.Att.Att}
-use Rattle.kernel_types.proofs.Cases.{att_eq-refl}
-use Rattle.plugin_base.specs.{Calls.is_call_of, Share.{Share, share_after_call, share_after_calls}}
+use Rattle.pod_laws.proofs.Names.{◌≡◌, ℕ, Bool, true, List, [], ◌∷◌, ◌++◌, refl, ◌∙◌, subst, arith, and_from, and_parts}
+use Rattle.pod_laws.proofs.Names.{list_all, Addr, PortMapping, NetList, set_link, is_own, lease_of, Call, VethAdd}
+use Rattle.pod_laws.proofs.Names.{MacvlanAdd, LinkSet, AddrAdd, RouteAdd, RuleAppend, SettingSet, CachePut, Att}
+use Rattle.pod_laws.proofs.Names.{att_eq-refl, is_call_of, Share, share_after_call, share_after_calls, wanted}
 use Rattle.plugin_base.proofs.{KeyLists.{list_all-append, list_all-every, list_all-mapped}, OwnCalls.set_link-tag}
-use Rattle.plugin_chain.specs.Wanted.{add_calls, wanted}
+use Rattle.plugin_chain.specs.Wanted.{add_calls}
 use Rattle.pod_workers.specs.AddCalls.{only_leases}
 use Rattle.pod_workers.proofs.AddCalls.{make_the_wanted}
 

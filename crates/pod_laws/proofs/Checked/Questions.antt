@@ -1,32 +1,25 @@
 -- What a CHECK asks for, and that the answers stay while other attachments change.
-use Rattle.std.proofs.Common.{◌≡◌, ℕ, ◌+◌, Bool, true, List, [], ◌∷◌, ◌++◌, map, Option, Some, None, refl, sym, ◌∙◌, ap}
-use Rattle.std.proofs.{Common.arith, Math.Bool.{beq, and-true}, lemmas.{Bool.and_parts, List.Folds.list_all-append}}
-use Rattle.std.proofs.lemmas.Map.Views.{any-filter_same}
-use Rattle.std.specs.{List.{AllByRecursion, list_any, list_all}, Option.option_eq, Prelude.{◌&&◌, ◌==◌, filter}}
-use Rattle.std.specs.{Prelude.option_map, Str.bytes_eq}
-use Rattle.cni_addr.specs.declared.mac.Mac.{Mac}
-use Rattle.cni_result.specs.declared.{cached.Cached.Cached, result.Interface.Interface}
-use Rattle.net_conf.specs.declared.list.NetList.{NetList}
-use Rattle.pod_file.specs.declared.command.Command.{Command}
-use Rattle.kernel_types.specs.Equal.{addr_obj_eq, chain_eq, cidr_eq, key_eq, lease_eq, link_eq, link_kind_eq, mac_eq}
-use Rattle.kernel_types.specs.Equal.{proto_eq, route_eq, rule_eq, setting_eq, table_eq, tag_eq, target_eq}
-use Rattle.kernel_types.specs.{Terms.{cached_in, is_own}, declared.object.{AddrObj.AddrObj, CachedObj.CachedObj}}
-use Rattle.kernel_types.specs.declared.object.{Host.Host, Lease.Lease, Link.Link, RouteObj.RouteObj, Setting.Setting}
-use Rattle.kernel_types.specs.declared.{object.Tag.Tag, rule.Rule.Rule}
-use Rattle.kernel_types.proofs.TouchRemoval.{is_own-tag_eq}
+use Rattle.pod_laws.proofs.Names.{◌≡◌, ℕ, ◌+◌, Bool, true, List, [], ◌∷◌, ◌++◌, map, Option, Some, None, refl, sym, ◌∙◌}
+use Rattle.pod_laws.proofs.Names.{ap, arith, and-true, and_parts, list_all-append, any-filter_same, AllByRecursion}
+use Rattle.pod_laws.proofs.Names.{list_any, list_all, ◌&&◌, filter, option_map, bytes_eq, mac_eq, Mac, Cached}
+use Rattle.pod_laws.proofs.Names.{Interface, NetList, Command, addr_obj_eq, lease_eq, link_eq, route_eq, rule_eq}
+use Rattle.pod_laws.proofs.Names.{setting_eq, tag_eq, cached_in, is_own, AddrObj, CachedObj, Host, Lease, Link, Setting}
+use Rattle.pod_laws.proofs.Names.{Tag, is_own-tag_eq, Share, att_of, Question, addresses_of_result, share_questions}
+use Rattle.pod_laws.proofs.Names.{bridge_by_mac, first_interface, bridge_questions, cached_share, check_questions}
+use Rattle.pod_laws.proofs.Names.{bridge_of, each-append, find-first, first_of}
+use Rattle.std.proofs.Math.Bool.{beq}
+use Rattle.std.specs.{Option.option_eq, Prelude.◌==◌}
+use Rattle.kernel_types.specs.Equal.{chain_eq, cidr_eq, key_eq, link_kind_eq, proto_eq, table_eq, target_eq}
+use Rattle.kernel_types.specs.declared.{object.RouteObj.RouteObj, rule.Rule.Rule}
 use Rattle.kernel_types.proofs.ListLemmas as lists
-use Rattle.plugin_base.specs.Share.{Share}
-use Rattle.cni_errors.specs.{CommandFields.att_of, ObjectQuestions.{link_question, address_question, route_question}}
-use Rattle.cni_errors.specs.ObjectQuestions.{rule_questions, setting_question, lease_question}
-use Rattle.cni_errors.specs.declared.answer.{Cause.TheVariants.Missing, Missed.Missed, Question.Question}
-use Rattle.cni_verbs.specs.Questions.{addresses_of_result, share_questions, bridge_by_mac, first_interface}
-use Rattle.cni_verbs.specs.Questions.{bridge_questions, cached_share, check_questions}
-use Rattle.plugin_chain.specs.Wanted.{bridge_of}
+use Rattle.cni_errors.specs.ObjectQuestions.{link_question, address_question, route_question, rule_questions}
+use Rattle.cni_errors.specs.ObjectQuestions.{setting_question, lease_question}
+use Rattle.cni_errors.specs.declared.answer.{Cause.TheVariants.Missing, Missed.Missed}
 use Rattle.cni_errors.specs.declared.answer.Missed.TheVariants as missed
 use Rattle.pod_laws.specs.Checked.{are_in, has_bridge_by, has_bridge_for, has_first_bridge, has_objects_of}
 use Rattle.pod_laws.specs.{Checked.holds_cached, Granted.grants}
 use Rattle.pod_laws.proofs.{Checked.OwnWanted.{AreOwn, own-wanted}, Questions.{Asking.tells, SteadyHosts.KeepsAsked}}
-use Rattle.pod_workers.proofs.{Each.{each-append, each-map_of}, Elements.{find-first, first_of}}
+use Rattle.pod_workers.proofs.Each.{each-map_of}
 
 -- ---- one question
 

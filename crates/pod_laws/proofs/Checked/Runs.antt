@@ -1,24 +1,16 @@
 -- A CHECK asks for its cached result and then for each object, and its answer is what the host at its last entry holds.
-use Rattle.std.proofs.Common.{◌≡◌, ℕ, ◌+◌, Bool, true, false, List, [], ◌∷◌, ◌++◌, length, Option, Some, None, refl}
-use Rattle.std.proofs.{Common.{sym, ◌∙◌, ap, subst}, lemmas.List.length_push}
-use Rattle.std.specs.{List.AllByRecursion, Prelude.if◌then◌else◌}
-use Rattle.cni_result.specs.declared.cached.Cached.{Cached}
-use Rattle.net_conf.specs.declared.list.NetList.{NetList}
-use Rattle.pod_file.specs.declared.command.{Command.Command, Verb.Verb}
+use Rattle.pod_laws.proofs.Names.{◌≡◌, ℕ, ◌+◌, Bool, true, false, List, [], ◌∷◌, ◌++◌, length, Option, Some, None, refl}
+use Rattle.pod_laws.proofs.Names.{sym, ◌∙◌, ap, subst, length_push, AllByRecursion, if◌then◌else◌, Cached, NetList}
+use Rattle.pod_laws.proofs.Names.{Command, Verb, apply, is_fault, cached_in, CacheGet, Fault, Host, IsReplyOf-apply}
+use Rattle.pod_laws.proofs.Names.{att_of, del_refusal, Cause, Ending, Skipped, Refused, Question, check_questions}
+use Rattle.pod_laws.proofs.Names.{State, FindingEntry, Asking, Over, Calls, advance, asking, at_entry, at_question}
+use Rattle.pod_laws.proofs.Names.{checking, start_of, turn, unless_refused, entry_of, host_of, reply_to, Entry, each-at}
 use Rattle.pod_file.specs.declared.command.Verb.TheVariants as verbs
-use Rattle.kernel_types.specs.{Apply.apply, Replies.is_fault, Terms.cached_in, declared.call.Call.TheVariants.CacheGet}
-use Rattle.kernel_types.specs.declared.{call.Reply.TheVariants.Fault, object.Host.Host}
-use Rattle.kernel_types.proofs.Replies.{IsReplyOf-apply}
-use Rattle.cni_errors.specs.{CommandFields.{att_of, del_refusal}, declared.answer.{Cause.Cause, Ending.Ending}}
-use Rattle.cni_errors.specs.declared.answer.{Ending.TheVariants.{Skipped, Refused}, Question.Question}
-use Rattle.cni_verbs.specs.{Questions.check_questions, Script.{State, FindingEntry, Asking, Over, Calls, advance}}
-use Rattle.cni_verbs.specs.Script.{asking, at_entry, at_question, checking, start_of, turn, unless_refused}
 use Rattle.cni_errors.specs.declared.answer.Cause.TheVariants as causes
 use Rattle.cni_errors.specs.declared.answer.Skip.TheVariants as skips
-use Rattle.pod_workers.specs.{World.{entry_of, host_of, reply_to}, declared.plan.Entry.Entry}
 use Rattle.pod_laws.specs.{Answers.EndsByFault, Checked.{EndsByEntry, EndsByList, EndsCheck, IsMissing, WasChecked}}
 use Rattle.pod_laws.specs.{Checked.holds_cached, Granted.only_asks, Moments.{has_fault, host_at_end, own_entries}}
-use Rattle.pod_workers.proofs.Each.{each-at, each-prefix}
+use Rattle.pod_workers.proofs.Each.{each-prefix}
 use Rattle.pod_laws.proofs.Checked.Questions.{IsSteadyQuestion, cached-stays, granted-check, granted-stay}
 use Rattle.pod_laws.proofs.{Checked.Questions.steady-questions, Given.CutOff.{over-by, answered-by}}
 use Rattle.pod_laws.proofs.Histories.{RunFacts.{HostFact, IsHostFact, StartsOn, each-run}, Runs.own-state}

@@ -1,27 +1,15 @@
 -- What a CHECK asks for is in the host before its first entry as after its last.
-use Rattle.std.proofs.Common.{◌≡◌, ◌≢◌, ℕ, Bool, true, false, not, List, [], ◌∷◌, ◌++◌, length, Option, Some, None}
-use Rattle.std.proofs.{Common.{refl, sym, ◌∙◌, ap, subst, inl, inr, ◌⊎◌, arith}, lemmas.Bool.{and_parts, both_ways}}
-use Rattle.std.proofs.lemmas.{Bool.{cases_Bool, Decides.eqb_tells}, List.nil_from_length, Map.Views.any-filter_same}
-use Rattle.std.proofs.lemmas.Slice.Eq.{bytes_eq-Decides}
-use Rattle.std.specs.{Cmp.Lexicographic.nat_list_eq_equiv, List.{list_all, list_any}, Prelude.{◌&&◌, filter}}
-use Rattle.std.specs.{Prelude.if◌then◌else◌, Str.bytes_eq}
-use Rattle.cni_addr.specs.{Equal.mac_eq, Lists.distinct, declared.mac.Mac.Mac}
-use Rattle.cni_result.specs.declared.{cached.Cached.Cached, result.Interface.Interface}
-use Rattle.cni_errors.specs.CommandFields.{att_of}
-use Rattle.cni_verbs.specs.Questions.{addresses_of_result, cached_share}
-use Rattle.plugin_chain.specs.Wanted.{bridge_of}
-use Rattle.kernel_types.specs.{Apply.Calls.has_object, Equal.{addr_obj_eq, lease_eq, link_eq, route_eq, rule_eq}}
-use Rattle.kernel_types.specs.{Equal.{setting_eq, tag_eq}, Sound.IsSound, Terms.{cached_in, is_at, is_bridge}}
-use Rattle.kernel_types.specs.Terms.{is_bridge_with, is_host_bridge, is_host_link, is_host_ns, is_own}
-use Rattle.kernel_types.specs.declared.{call.Probe.TheVariants.BridgeAt, object.{Att.Att, Host.Host, Link.Link}}
-use Rattle.kernel_types.specs.declared.object.Tag.{Tag}
-use Rattle.kernel_types.proofs.{ListLemmas.list_any-weaker, TouchRemoval.is_own-tag_eq}
-use Rattle.net_conf.specs.declared.list.NetList.{NetList}
-use Rattle.plugin_base.specs.Share.{Share, share_of}
-use Rattle.pod_file.specs.{Commands.is_of_network, declared.command.Command.Command}
-use Rattle.pod_workers.specs.{Legal.Legal, Plans.{Placed, list_for}, World.{World, after, entry_of, host_of}}
-use Rattle.pod_workers.specs.declared.plan.{Entry.Entry, Plan.Plan}
-use Rattle.pod_workers.proofs.{Histories.after-append, Listed.listed_network}
+use Rattle.pod_laws.proofs.Names.{◌≡◌, ◌≢◌, ℕ, Bool, true, false, not, List, [], ◌∷◌, ◌++◌, length, Option, Some, None}
+use Rattle.pod_laws.proofs.Names.{refl, sym, ◌∙◌, ap, subst, inl, inr, ◌⊎◌, arith, and_parts, both_ways, cases_Bool}
+use Rattle.pod_laws.proofs.Names.{eqb_tells, nil_from_length, any-filter_same, bytes_eq-Decides, nat_list_eq_equiv}
+use Rattle.pod_laws.proofs.Names.{list_all, list_any, ◌&&◌, filter, if◌then◌else◌, bytes_eq, mac_eq, distinct, Mac}
+use Rattle.pod_laws.proofs.Names.{Cached, Interface, att_of, addresses_of_result, cached_share, bridge_of, has_object}
+use Rattle.pod_laws.proofs.Names.{addr_obj_eq, lease_eq, link_eq, route_eq, rule_eq, setting_eq, tag_eq, IsSound}
+use Rattle.pod_laws.proofs.Names.{cached_in, is_at, is_bridge, is_bridge_with, is_host_bridge, is_host_link, is_host_ns}
+use Rattle.pod_laws.proofs.Names.{is_own, BridgeAt, Att, Host, Link, Tag, is_own-tag_eq, NetList, Share, share_of}
+use Rattle.pod_laws.proofs.Names.{is_of_network, Command, Legal, Placed, list_for, World, after, entry_of, host_of}
+use Rattle.pod_laws.proofs.Names.{Entry, Plan, after-append, listed_network}
+use Rattle.kernel_types.proofs.ListLemmas.{list_any-weaker}
 use Rattle.pod_laws.specs.Checked.{ChecksHoldFromTheirStart, HoldAlike, are_in, has_bridge_by, has_bridge_for}
 use Rattle.pod_laws.specs.{Checked.has_objects_of, Granted.only_asks, Moments.{host_at_end, host_at_start, is_of}}
 use Rattle.pod_laws.specs.Moments.{own_entries, until_first, until_last}

@@ -1,17 +1,11 @@
 -- A GC after another one leaves what the first was to keep.
-use Rattle.std.proofs.Common.{◌≡◌, ℕ, ◌≤◌, Bool, true, false, List, [], ◌∷◌, length, refl, sym, ◌∙◌, ap, subst, inl}
-use Rattle.std.proofs.Common.{inr, arith}
-use Rattle.std.specs.Prelude.{filter, if◌then◌else◌}
-use Rattle.plugin_base.proofs.KeyLists.{filter-within}
-use Rattle.net_conf.specs.declared.list.NetList.{NetList}
-use Rattle.pod_file.specs.{Commands.{is_of_network, is_exclusive_verb}, declared.command.Command.Command}
+use Rattle.pod_laws.proofs.Names.{◌≡◌, ℕ, ◌≤◌, Bool, true, false, List, [], ◌∷◌, length, refl, sym, ◌∙◌, ap, subst, inl}
+use Rattle.pod_laws.proofs.Names.{inr, arith, filter, if◌then◌else◌, filter-within, NetList, is_of_network}
+use Rattle.pod_laws.proofs.Names.{is_exclusive_verb, Command, DropsOnly, Host, keep, stays, Bounds, Entry}
+use Rattle.pod_laws.proofs.Names.{listed_network, none-or-some}
 use Rattle.pod_file.specs.declared.command.ValidAtt.{ValidAtt}
-use Rattle.kernel_types.specs.{Touch.DropsOnly, declared.object.Host.Host}
 use Rattle.cni_errors.specs.declared.answer.Answer.TheVariants as answers
-use Rattle.gc_sweep.specs.{Keep.{keep, stays}, Sweep.Bounds}
 use Rattle.gc_sweep.proofs.{Kept.host_of_parts, Lists.{count_drops, filter_every}}
-use Rattle.pod_workers.specs.declared.plan.Entry.{Entry}
-use Rattle.pod_workers.proofs.{Listed.listed_network, Splits.none-or-some}
 use Rattle.pod_laws.specs.{Answers.OrCutOff, Collected.{CollectionsInARowKeep, CollectionsFillTheirRounds}}
 use Rattle.pod_laws.specs.{Collected.{IsCleanCollection, IsCollectionAnswer}, Moments.{host_at_end, host_at_round}}
 use Rattle.pod_laws.specs.Moments.{host_at_start, own_entries}

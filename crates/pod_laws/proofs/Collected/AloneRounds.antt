@@ -1,15 +1,14 @@
 -- An exclusive command that makes a call starts with its round and ends with it.
-use Rattle.std.proofs.Common.{◌≡◌, ◌≢◌, ℕ, ◌+◌, ◌≤◌, true, false, List, [], ◌∷◌, ◌++◌, Some, slice_get, refl, sym, ◌∙◌}
-use Rattle.std.proofs.{Common.{ap, subst, inl, inr, ◌⊎◌, append_assoc, arith}, lemmas.Bool.{cases_lt, cases_order}}
-use Rattle.std.proofs.lemmas.{Bool.{le-ltb, lt-ltb, or_left}, List.Elements.filter-append, Option.same_Some}
-use Rattle.std.specs.{List.list_any, Prelude.{◌<◌, if◌then◌else◌}}
-use Rattle.pod_file.specs.Commands.{is_exclusive_verb}
-use Rattle.kernel_types.proofs.ListLemmas.{list_any-append_right}
+use Rattle.pod_laws.proofs.Names.{◌≡◌, ◌≢◌, ℕ, ◌+◌, ◌≤◌, true, false, List, [], ◌∷◌, ◌++◌, Some, slice_get, refl, sym}
+use Rattle.pod_laws.proofs.Names.{◌∙◌, ap, subst, inl, inr, ◌⊎◌, append_assoc, arith, filter-append, same_Some}
+use Rattle.pod_laws.proofs.Names.{list_any, if◌then◌else◌, is_exclusive_verb, list_any-append_right, Legal, Placed}
+use Rattle.pod_laws.proofs.Names.{commands_of, World, after, replies_of, Entry, Plan, entry_or_none, has_reply, fine}
+use Rattle.pod_laws.proofs.Names.{cons_parts}
+use Rattle.std.proofs.lemmas.Bool.{cases_lt, cases_order, le-ltb, lt-ltb, or_left}
+use Rattle.std.specs.Prelude.{◌<◌}
 use Rattle.plugin_base.proofs.Deletions.{empty_none}
-use Rattle.pod_workers.specs.{Facts.{EachOne, IsEntryOf}, Legal.Legal, Plans.{Placed, commands_of}, World.World}
-use Rattle.pod_workers.specs.{World.{after, at_number, replies_of, replies_in}, declared.plan.{Entry.Entry, Plan.Plan}}
-use Rattle.pod_workers.proofs.{Elements.at_number-is, Facts.{each_follows, goes_by_rounds}, Histories.entry_or_none}
-use Rattle.pod_workers.proofs.{Histories.has_reply, Sound.fine, Splits.cons_parts, WellFormedPlans.stand_alone}
+use Rattle.pod_workers.specs.{Facts.{EachOne, IsEntryOf}, World.{at_number, replies_in}}
+use Rattle.pod_workers.proofs.{Elements.at_number-is, Facts.{each_follows, goes_by_rounds}, WellFormedPlans.stand_alone}
 use Rattle.pod_laws.specs.Moments.{host_at_end, host_at_round, host_at_start, is_before, is_of, own_entries}
 use Rattle.pod_laws.specs.Moments.{until_first, until_last, until_round}
 use Rattle.pod_laws.proofs.Histories.{AloneRuns.until_first-own, Entries.{is_of-own, no-entries, same-place}}

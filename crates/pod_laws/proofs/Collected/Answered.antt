@@ -1,26 +1,21 @@
 -- What a GC leaves and answers, from the laws of a GC that is alone with a host.
-use Rattle.std.proofs.Common.{◌≡◌, ◌≢◌, ℕ, ◌+◌, ◌≤◌, true, List, length, [], ◌∷◌, Option, Some, None, refl, sym, ◌∙◌}
-use Rattle.std.proofs.{Common.{ap, subst, inl, inr, ◌⊎◌}, lemmas.{Bool.cases_Bool, List.length-map, Option.none-some}}
+use Rattle.pod_laws.proofs.Names.{◌≡◌, ◌≢◌, ℕ, ◌+◌, ◌≤◌, true, List, length, [], ◌∷◌, Option, Some, None, refl, sym}
+use Rattle.pod_laws.proofs.Names.{◌∙◌, ap, subst, inl, inr, ◌⊎◌, cases_Bool, length-map, none-some, Addr, NetList}
+use Rattle.pod_laws.proofs.Names.{is_of_network, is_exclusive_verb, Command, IsSound, Reply, Host, is_gc, State}
+use Rattle.pod_laws.proofs.Names.{Collecting, Over, advance, gc_of, next_call, start_of, start_state, state_after}
+use Rattle.pod_laws.proofs.Names.{state_from, swept, unless_ended, Work, start_work, work_after, Answer, Ending, Yes}
+use Rattle.pod_laws.proofs.Names.{Skipped, Refused, too_old, keep, Bounds, fault_numbers, Placed, list_for, World}
+use Rattle.pod_laws.proofs.Names.{after, made_in, Entry, listed_network}
 use Rattle.std.specs.Prelude.{is_some}
-use Rattle.cni_addr.specs.declared.address.Addr.{Addr}
-use Rattle.net_conf.specs.declared.list.NetList.{NetList}
-use Rattle.pod_file.specs.{Commands.{is_of_network, is_exclusive_verb}, declared.command.Command.Command}
 use Rattle.pod_file.specs.declared.command.Verb.TheVariants as verbs
-use Rattle.kernel_types.specs.{Sound.IsSound, declared.{call.Reply.Reply, object.Host.Host}}
-use Rattle.cni_verbs.specs.{Progress.is_gc, Script.{State, Collecting, Over, advance, finish_of, gc_of, faults_after}}
-use Rattle.cni_verbs.specs.Script.{next_call, start_of, start_state, state_after, state_from, swept, early_ending}
-use Rattle.cni_verbs.specs.{Script.unless_ended, Sweep.{Work, start_work, work_after}}
-use Rattle.cni_errors.specs.declared.answer.{Answer.Answer, Ending.{Ending, TheVariants.{Yes, Skipped, Refused}}}
+use Rattle.cni_verbs.specs.Script.{finish_of, faults_after, early_ending}
 use Rattle.cni_errors.specs.declared.answer.Cause.TheVariants as causes
 use Rattle.cni_errors.specs.declared.answer.Skip.TheVariants as skips
-use Rattle.cni_verbs.proofs.EarlyEndings.{early_ending-cases, too_old}
-use Rattle.gc_sweep.specs.{Bound.most_of_collection, Keep.keep, Sweep.{AreExcused, Bounds, IsCollected, fault_numbers}}
-use Rattle.gc_sweep.specs.Sweep.{is_early}
+use Rattle.cni_verbs.proofs.EarlyEndings.{early_ending-cases}
+use Rattle.gc_sweep.specs.{Bound.most_of_collection, Sweep.{AreExcused, IsCollected, is_early}}
 use Rattle.gc_sweep.specs.Trace as trace
 use Rattle.gc_sweep.proofs.{Calls.gc_bound, Leaves.{always_bounded, faults_named, over_excused, yes_keeps}}
-use Rattle.pod_workers.specs.{Plans.{Placed, list_for}, World.{World, after, made_in, made_of}}
-use Rattle.pod_workers.specs.declared.plan.Entry.{Entry}
-use Rattle.pod_workers.proofs.Listed.{listed_network}
+use Rattle.pod_workers.specs.World.{made_of}
 use Rattle.pod_laws.specs.Collected.{CollectionsAreAnswered, CollectionsAreBounded, CollectionsAreShort}
 use Rattle.pod_laws.specs.{Collected.{IsCleanCollection, IsCollectionAnswer, IsFaultyCollection}, Moments.has_fault}
 use Rattle.pod_laws.specs.Moments.{host_at_end, host_at_start, own_entries}

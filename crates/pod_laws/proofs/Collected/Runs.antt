@@ -1,10 +1,7 @@
 -- The entries of a command that stands alone are a run as `gc_sweep` defines it (`IsRun`).
-use Rattle.std.proofs.Common.{◌≡◌, ℕ, ◌+◌, Bool, true, false, List, [], ◌∷◌, refl, ap}
-use Rattle.std.specs.Prelude.{◌||◌, if◌then◌else◌}
-use Rattle.kernel_types.specs.Replies.{is_fault}
-use Rattle.gc_sweep.specs.Sweep.{fault_numbers}
+use Rattle.pod_laws.proofs.Names.{◌≡◌, ℕ, ◌+◌, Bool, true, false, List, [], ◌∷◌, refl, ap, ◌||◌, if◌then◌else◌}
+use Rattle.pod_laws.proofs.Names.{is_fault, fault_numbers, made_in, Entry}
 use Rattle.gc_sweep.specs.Trace as trace
-use Rattle.pod_workers.specs.{World.made_in, declared.plan.Entry.Entry}
 use Rattle.pod_laws.specs.Moments.{has_fault}
 use Rattle.pod_laws.proofs.Histories.Entries.{replies_in}
 

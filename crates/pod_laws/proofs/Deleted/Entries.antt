@@ -1,19 +1,11 @@
 -- Each entry of a DEL removes own objects alone, and changes nothing where there are none.
-use Rattle.std.proofs.Common.{◌≡◌, List, refl, ap, subst}
-use Rattle.net_conf.specs.declared.list.NetList.{NetList}
-use Rattle.pod_file.specs.{Commands.is_of_network, declared.command.Command.Command}
+use Rattle.pod_laws.proofs.Names.{◌≡◌, List, refl, ap, subst, NetList, is_of_network, Command, apply, IsSound, Call}
+use Rattle.pod_laws.proofs.Names.{CacheGet, Kind, Att, Host, Share, share_of, att_of, State, AtBegin, BeforeLeases}
+use Rattle.pod_laws.proofs.Names.{Leasing, AfterLeases, ReadingCache, Deleting, Over, Calls, turn, deletion, host_of}
+use Rattle.pod_laws.proofs.Names.{Entry, sound_host}
 use Rattle.pod_file.specs.declared.command.Verb.TheVariants as verbs
-use Rattle.kernel_types.specs.{Apply.apply, Sound.IsSound, declared.call.{Call.{Call, TheVariants.CacheGet}, Kind.Kind}}
-use Rattle.kernel_types.specs.declared.object.{Att.Att, Host.Host}
 use Rattle.kernel_types.proofs.DropsOwn.{RemovesOwn-apply, RemovesOwn-nothing}
-use Rattle.plugin_base.specs.Share.{Share, share_of}
-use Rattle.cni_errors.specs.CommandFields.{att_of}
-use Rattle.cni_verbs.specs.Script.{State, AtBegin, BeforeLeases, Leasing, AfterLeases, ReadingCache, Deleting, Over}
-use Rattle.cni_verbs.specs.Script.{Calls, turn}
-use Rattle.plugin_chain.specs.Wanted.{deletion}
 use Rattle.gc_sweep.proofs.{Deletions.deletion-none, Removes.deletes-deletion}
-use Rattle.pod_workers.specs.{World.host_of, declared.plan.Entry.Entry}
-use Rattle.pod_workers.proofs.Sound.{sound_host}
 use Rattle.pod_laws.specs.{Deleted.{DeletesOwnAlone, EachDeletionIsOwn}, Moments.own_entries}
 use Rattle.pod_laws.proofs.Histories.{EachEntry.{DoesByVerb, each-entry_of}, Runs.{every-run-now, own-state}}
 use Rattle.pod_laws.proofs.{Histories.{States.{IsOtherVerb, not-both}, Steps.on-entry}, Refused.Undoing.Undoing}

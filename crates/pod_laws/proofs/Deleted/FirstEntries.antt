@@ -1,19 +1,11 @@
 -- The first entry of an ADD is its Begin, and no other follows one that was not done.
-use Rattle.std.proofs.Common.{◌≡◌, ◌≢◌, ℕ, Bool, true, List, [], ◌∷◌, ◌++◌, slice_get, Some, refl, sym, ◌∙◌, ap, subst}
-use Rattle.std.proofs.{Common.{inl, inr, ◌⊎◌}, lemmas.Bool.and_parts}
-use Rattle.std.specs.List.{list_all}
-use Rattle.net_conf.specs.declared.list.NetList.{NetList}
-use Rattle.pod_file.specs.{Commands.is_of_network, declared.command.Command.Command}
+use Rattle.pod_laws.proofs.Names.{◌≡◌, ◌≢◌, ℕ, Bool, true, List, [], ◌∷◌, ◌++◌, slice_get, Some, refl, sym, ◌∙◌, ap}
+use Rattle.pod_laws.proofs.Names.{subst, inl, inr, ◌⊎◌, and_parts, list_all, NetList, is_of_network, Command, Call}
+use Rattle.pod_laws.proofs.Names.{Begin, Share, share_of, is_done, State, AtBegin, BeforeLeases, Leasing, AfterLeases}
+use Rattle.pod_laws.proofs.Names.{ReadingCache, Deleting, Over, Calls, turn, att_of, Ending, Added, Yes, Skipped}
+use Rattle.pod_laws.proofs.Names.{Versions, Refused, Legal, Placed, commands_of, World, entry_of, host_of, reply_to}
+use Rattle.pod_laws.proofs.Names.{Entry, listed_network, cons_parts}
 use Rattle.pod_file.specs.declared.command.Verb.TheVariants as verbs
-use Rattle.kernel_types.specs.declared.call.Call.{Call, TheVariants.Begin}
-use Rattle.plugin_base.specs.Share.{Share, share_of}
-use Rattle.cni_verbs.specs.{AddCalls.is_done, Script.{State, AtBegin, BeforeLeases, Leasing, AfterLeases, ReadingCache}}
-use Rattle.cni_verbs.specs.Script.{Deleting, Over, Calls, turn}
-use Rattle.cni_errors.specs.{CommandFields.att_of, declared.answer.Ending.{Ending, TheVariants.{Added, Yes, Skipped}}}
-use Rattle.cni_errors.specs.declared.answer.Ending.TheVariants.{Versions, Refused}
-use Rattle.pod_workers.specs.{Legal.Legal, Plans.{Placed, commands_of}, World.{World, entry_of, host_of, reply_to}}
-use Rattle.pod_workers.specs.declared.plan.Entry.{Entry}
-use Rattle.pod_workers.proofs.{Listed.listed_network, Splits.cons_parts}
 use Rattle.pod_laws.specs.{Moments.own_entries, Refused.lets_go_on}
 use Rattle.pod_laws.proofs.Histories.{Begins.{first-call, granted-done}, Runs.{IsRunFact, StartsWith, every-run}}
 use Rattle.pod_laws.proofs.Histories.{Runs.{every-run-now, own-state}, States.{IsOtherVerb, not-both}}

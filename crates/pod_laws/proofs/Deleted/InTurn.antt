@@ -1,10 +1,7 @@
 -- In one container, one command makes all its entries before another makes its first.
-use Rattle.std.proofs.Common.{◌≡◌, ◌≢◌, ℕ, ◌+◌, Bool, List, [], ◌∷◌, ◌++◌, Some, None, slice_get, refl, sym, ◌∙◌, ap}
-use Rattle.std.proofs.{Common.{subst, inl, inr, ◌⊎◌}, lemmas.Bool.Decides.eqb_tells}
-use Rattle.kernel_types.specs.declared.call.Call.{Call}
-use Rattle.pod_workers.specs.{Legal.Legal, Plans.{Placed, commands_of}, World.{World, entry_of, host_of}}
-use Rattle.pod_workers.specs.declared.plan.{Entry.Entry, Plan.Plan}
-use Rattle.pod_workers.proofs.Order.{apart, ready_is}
+use Rattle.pod_laws.proofs.Names.{◌≡◌, ◌≢◌, ℕ, ◌+◌, Bool, List, [], ◌∷◌, ◌++◌, Some, None, slice_get, refl, sym, ◌∙◌}
+use Rattle.pod_laws.proofs.Names.{ap, subst, inl, inr, ◌⊎◌, eqb_tells, Call, Legal, Placed, commands_of, World}
+use Rattle.pod_laws.proofs.Names.{entry_of, host_of, Entry, Plan, apart, ready_is}
 use Rattle.pod_laws.specs.Moments.{own_entries, until_last}
 use Rattle.pod_laws.proofs.Histories.{AloneRuns.{legal-of, ready-of}, Entries.{apart-entry, is_of-own, no-entries}}
 use Rattle.pod_laws.proofs.Histories.{Entries.{own_entries-other, until_last-own, until_last-other}, Steps.AllOpen}

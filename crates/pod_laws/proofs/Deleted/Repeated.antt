@@ -1,127 +1,22 @@
 -- An attachment that is gone stays gone until a call of an ADD of it is granted after its Begin: any other entry leaves
 -- it, or only removes.
-use Rattle.std.proofs.Common.{◌≡◌, ◌≢◌, ℕ, ◌+◌, Bool, true, false, not, List, [], ◌∷◌, ◌++◌, Some, slice_get, refl, sym}
-use Rattle.std.proofs.{Common.{◌∙◌, ap, subst, inl, inr, ◌⊎◌, append_assoc}, lemmas.Bool.{and_from, and_parts}}
-use Rattle.std.proofs.lemmas.{Bool.{both_ways, cases_Bool, false_from_ne_true, not-true, or_parts}, List.append-nil}
-use Rattle.std.proofs.lemmas.List.{append_cancel_left, Elements.filter-append, Folds.list_all-append}
-use Rattle.std.proofs.lemmas.Option.{same_Some}
-use Rattle.std.specs.{List.{list_all, list_any}, Prelude.◌||◌}
-use Rattle.net_conf.specs.declared.list.NetList.{NetList}
-use Rattle.pod_file.specs.declared.command.{Command.Command, Verb.Verb}
+use Rattle.pod_laws.proofs.Names.{◌≡◌, ◌≢◌, ℕ, ◌+◌, Bool, true, false, not, List, [], ◌∷◌, ◌++◌, Some, slice_get, refl}
+use Rattle.pod_laws.proofs.Names.{sym, ◌∙◌, ap, subst, inl, inr, ◌⊎◌, append_assoc, and_from, and_parts, both_ways}
+use Rattle.pod_laws.proofs.Names.{cases_Bool, false_from_ne_true, append-nil, filter-append, list_all-append, same_Some}
+use Rattle.pod_laws.proofs.Names.{list_all, list_any, ◌||◌, Command, Verb, att_eq, Att, Host, att_eq-refl, att_eq-same}
+use Rattle.pod_laws.proofs.Names.{share_of, no_objects, is_done, att_of, Legal, Placed, commands_of, World, entry_of}
+use Rattle.pod_laws.proofs.Names.{host_of, after_entry, Entry, Plan, OnlyRemoves, share-removes_none}
+use Rattle.std.proofs.lemmas.{Bool.or_parts, List.append_cancel_left}
 use Rattle.pod_file.specs.declared.command.Verb.TheVariants as verbs
-use Rattle.kernel_types.specs.{Apply.apply, Equal.att_eq, Sound.IsSound, declared.call.Call.{Call, TheVariants.Begin}}
-use Rattle.kernel_types.specs.declared.call.Call.TheVariants.{LeaseNext, LinkDel, RuleDel, SettingDel, LeaseDel}
-use Rattle.kernel_types.specs.declared.call.Call.TheVariants.{CacheDel, HasObj, CacheGet, OwnersOf, PoolFree, NsChange}
-use Rattle.kernel_types.specs.declared.{call.Call.TheVariants.Outside, object.{Att.Att, Host.Host}}
-use Rattle.kernel_types.proofs.{Cases.att_eq-refl, Isolation.att_eq-same}
-use Rattle.kernel_types.specs.declared.call.Kind.TheVariants as kinds
-use Rattle.plugin_base.specs.{Calls.is_call_of, Share.{Share, share_of, no_objects}}
-use Rattle.plugin_base.proofs.Refusals.{refused-same, refused-lease}
-use Rattle.cni_verbs.specs.{AddCalls.is_done, Replies.is_granted, Script.{State, AtBegin, BeforeLeases, Leasing}}
-use Rattle.cni_verbs.specs.Script.{AfterLeases, ReadingCache, Deleting, FindingEntry, Asking, Changing, Collecting}
-use Rattle.cni_verbs.specs.Script.{Over, Calls, turn}
-use Rattle.cni_errors.specs.CommandFields.{att_of}
-use Rattle.plugin_chain.specs.Wanted.{deletion}
 use Rattle.cni_errors.specs.declared.answer.Answer.TheVariants as answers
-use Rattle.pod_workers.specs.{Legal.Legal, Plans.{Placed, commands_of}, World.{World, entry_of, host_of, after_entry}}
-use Rattle.pod_workers.specs.declared.plan.{Entry.Entry, Plan.Plan}
-use Rattle.pod_workers.proofs.Sound.{sound_host}
 use Rattle.pod_laws.specs.{AskedFor.{begins, is_begin_of}, Moments.{IsGone, is_of, own_entries, until_last}}
 use Rattle.pod_laws.specs.{Refused.lets_go_on, Repeated.{GoneStaysGone, IsWithoutMaking, RepeatedDeletionsLeave}}
 use Rattle.pod_laws.specs.{Repeated.makes_nothing, Single.EachEntry}
 use Rattle.pod_laws.proofs.Deleted.{Entries.each_deletion_is_own, FirstEntries.{BeginsFirst, begins_first}}
-use Rattle.pod_laws.proofs.{Deleted.InTurn.in_turn, Given.OfRuns.was_deleted, Histories.EachEntry.DoesNow}
-use Rattle.pod_laws.proofs.Histories.{EachEntry.{DoesOutside, each-entry}, Entries.{is_of-own, own_entries-own}}
-use Rattle.pod_laws.proofs.Histories.{Runs.{every-run-now, own-state}, States.{LeftFit, is_question, not-both}}
-use Rattle.pod_laws.proofs.Histories.{States.{question-leaves, asked-is_question}, Steps.{GoesOn, on-entry}}
-use Rattle.pod_laws.proofs.Histories.Turns.{AsksOrCollects, IsTurnOf, other-entered, removes-changed, turn-of}
-use Rattle.pod_laws.proofs.{Histories.Turns.work-turn, Refused.Undoing.{Undoing, undone-start, undone-step}}
-use Rattle.pod_laws.proofs.Tests.{any-filtered}
-use Rattle.gc_sweep.specs.Keep.{OnlyRemoves}
-use Rattle.gc_sweep.proofs.{OfKinds.share-removes_none, Removes.{removes-deletion, removes-nothing}}
-
--- ---- an entry of another verb than ADD only removes
-
-abbrev RemovesBy : Host → Call → Type 0
-RemovesBy k call = OnlyRemoves k (apply k call).0
-
-removes-question : (k : Host) (call : Call) → is_question call ≡ true → RemovesBy k call
-removes-question k call asked = subst (OnlyRemoves k) (sym (question-leaves k call asked)) (removes-nothing k)
-
-removes-aside : (c : Command) (k : Host) (call : Call) → IsSound k → AsksOrCollects c call → RemovesBy k call
-removes-aside c k call sound (inl asked) = removes-question k call asked
-removes-aside c k call sound (inr collected) = subst (RemovesBy k) collected.deletes (removes-deletion collected.att k collected.kind sound)
-
-turn-removes : (list : NetList) (c : Command) (es : List Entry) (st : State) (s : Share) (k : Host) (call : Call)
-    → c.verb ≢ verbs.Add → IsSound k → LeftFit list c st → turn c st ≡ Calls call → Undoing list c es st s
-    → RemovesBy k call
-unfolding turn
-turn-removes list c es AtBegin s k call not sound fit is was = absurd (not was.verb)
-turn-removes list c es (BeforeLeases x xs) s k call not sound fit is was = absurd (not was.verb)
-turn-removes list c es (Leasing set sets given) s k call not sound fit is was = absurd (not was.verb)
-turn-removes list c es (AfterLeases x xs given) s k call not sound fit is was = absurd (not was.verb)
-turn-removes list c es (ReadingCache ending) s k call not sound fit is was = subst (RemovesBy k) (let e : CacheGet (att_of c) ≡ call = cc in e) (removes-nothing k)
-turn-removes list c es (Deleting kind ks ending) s k call not sound fit is was = subst (RemovesBy k) (let e : deletion (att_of c) kind ≡ call = cc in e) (removes-deletion (att_of c) k kind sound)
-turn-removes list c es FindingEntry s k call not sound fit is was = subst (RemovesBy k) (let e : CacheGet (att_of c) ≡ call = cc in e) (removes-nothing k)
-turn-removes list c es (Asking q qs) s k call not sound fit is was = subst (RemovesBy k) (let e : q.call ≡ call = cc in e) (removes-question k q.call (asked-is_question list q.call fit.0))
-turn-removes list c es (Changing change) s k call not sound fit is was = absurd fit
-turn-removes list c es (Collecting work faults) s k call not sound fit is was = removes-aside c k call sound (work-turn c work.jobs work.sweeps faults call fit is)
-turn-removes list c es (Over ending given) s k call not sound fit is was = cc
-
-removes-entered : (w : World) (n : ℕ) (c : Placed) (list : NetList) (call : Call) (faulty : Bool)
-    → GoesOn w n c list call faulty → c.command.verb ≢ verbs.Add
-    → OnlyRemoves (host_of w) (after_entry (host_of w) (entry_of (host_of w) n call faulty))
-removes-entered w n c list call faulty on not =
-    let own = own-state w n c list call faulty on in
-    on-entry (OnlyRemoves (host_of w)) (host_of w) n call faulty (removes-nothing (host_of w))
-    (λ f. turn-removes list c.command (own_entries n w.history) _ (share_of (att_of c.command) (host_of w)) (host_of w) call not (sound_host w on.legal) own.fits own.turn_is
-    (every-run-now Undoing undone-start undone-step w n c list call faulty on))
-
--- ---- an entry of an ADD that makes nothing only removes
-
-removes-begin : (att : Att) (k : Host) (call : Call) → is_begin_of att call ≡ true → RemovesBy k call
-removes-begin att k (Begin a netns) is = removes-nothing k
-removes-begin att k _ is = cc
-
-removes-refused : (att : Att) (k : Host) (call : Call) → IsSound k → is_call_of att call ≡ true
-    → is_granted (apply k call).1 ≡ false → RemovesBy k call
-removes-refused att k (Begin a netns) sound own not = removes-nothing k
-removes-refused att k (LeaseNext a number set) sound own not =
-    subst (OnlyRemoves k) (sym (refused-lease k a number set (λ addr is. let e : true ≡ false = ap is_granted (sym is) ∙ not in cc))) (removes-nothing k)
-removes-refused att k (LinkDel a) sound own not = removes-deletion a k kinds.Links sound
-removes-refused att k (RuleDel a) sound own not = removes-deletion a k kinds.Rules sound
-removes-refused att k (SettingDel a) sound own not = removes-deletion a k kinds.Settings sound
-removes-refused att k (LeaseDel a) sound own not = removes-deletion a k kinds.Leases sound
-removes-refused att k (CacheDel a) sound own not = removes-deletion a k kinds.Cached sound
-removes-refused att k (CacheGet a) sound own not = removes-nothing k
-removes-refused att k (HasObj probe) sound own not = cc
-removes-refused att k (OwnersOf network kind) sound own not = cc
-removes-refused att k (PoolFree network set) sound own not = cc
-removes-refused att k (NsChange name add) sound own not = cc
-removes-refused att k (Outside change) sound own not = cc
-removes-refused att k call sound own not =
-    subst (OnlyRemoves k) (sym (refused-same att k call own (λ is. let e : true ≡ false = ap is_granted (sym is) ∙ not in cc))) (removes-nothing k)
-
-removes-turn : (c : Command) (k : Host) (call : Call) → IsSound k → IsTurnOf c call
-    → is_granted (apply k call).1 ≡ false → RemovesBy k call
-removes-turn c k call sound (inl own) not = removes-refused (att_of c) k call sound own not
-removes-turn c k call sound (inr aside) not = removes-aside c k call sound aside
-
-quiet-removes : (att : Att) (c : Command) (k : Host) (n : ℕ) (call : Call) → IsSound k → IsTurnOf c call
-    → makes_nothing att (entry_of k n call false) ≡ true → RemovesBy k call
-quiet-removes att c k n call sound turn quiet = elim (cases_Bool (is_begin_of att call)) [
-  | inl begin ↦ removes-begin att k call begin
-  | inr later ↦
-      let g : Bool = is_granted (apply k call).1 in
-      removes-turn c k call sound turn (not-true g (ap (λ b. b || not g) (sym later) ∙ quiet))
-]
-
-quiet-entered : (w : World) (n : ℕ) (c : Placed) (list : NetList) (call : Call) (faulty : Bool) (att : Att)
-    → GoesOn w n c list call faulty → makes_nothing att (entry_of (host_of w) n call faulty) ≡ true
-    → OnlyRemoves (host_of w) (after_entry (host_of w) (entry_of (host_of w) n call faulty))
-quiet-entered w n c list call faulty att on quiet =
-    on-entry (OnlyRemoves (host_of w)) (host_of w) n call faulty (removes-nothing (host_of w))
-    (λ f. quiet-removes att c.command (host_of w) n call (sound_host w on.legal) (turn-of w n c list call faulty on) (ap (λ b. makes_nothing att (entry_of (host_of w) n call b)) (sym f) ∙ quiet))
+use Rattle.pod_laws.proofs.Deleted.{InTurn.in_turn, Removals.{removes-entered, quiet-entered}}
+use Rattle.pod_laws.proofs.{Given.OfRuns.was_deleted, Histories.EachEntry.{DoesNow, DoesOutside, each-entry}}
+use Rattle.pod_laws.proofs.Histories.{Entries.{is_of-own, own_entries-own}, States.not-both, Turns.other-entered}
+use Rattle.pod_laws.proofs.{Histories.Turns.removes-changed, Tests.any-filtered}
 
 -- ---- one entry
 

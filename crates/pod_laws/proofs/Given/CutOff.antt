@@ -1,12 +1,8 @@
 -- An answer of a command that wasn't cut off is what its run came to.
-use Rattle.std.proofs.Common.{◌≡◌, ℕ, false, Some, slice_get, ap, inl, inr, List, [], ◌∙◌, subst}
-use Rattle.std.proofs.lemmas.Bool.{both_ways}
-use Rattle.cni_addr.specs.declared.address.Addr.{Addr}
-use Rattle.pod_file.specs.declared.command.Command.{Command}
-use Rattle.net_conf.specs.declared.list.NetList.{NetList}
-use Rattle.cni_errors.specs.declared.answer.{Answer.Answer, Ending.Ending}
-use Rattle.cni_verbs.specs.{Endings.{answer_of, answer_of_ending}, Script.{State, Collecting, Over}, Sweep.Work}
-use Rattle.pod_workers.specs.{Legal.Legal, Plans.{Placed, commands_of, list_for}, World.World}
+use Rattle.pod_laws.proofs.Names.{◌≡◌, ℕ, false, Some, slice_get, ap, inl, inr, List, [], ◌∙◌, subst, both_ways, Addr}
+use Rattle.pod_laws.proofs.Names.{Command, NetList, Answer, Ending, answer_of, State, Collecting, Over, Work, Legal}
+use Rattle.pod_laws.proofs.Names.{Placed, commands_of, list_for, World}
+use Rattle.cni_verbs.specs.Endings.{answer_of_ending}
 use Rattle.pod_laws.specs.{Answers.is_cut_off, Moments.own_entries}
 use Rattle.pod_laws.proofs.{Given.Due.{IsOver, answer-due}, Histories.RunFacts.state_by}
 

@@ -1,17 +1,11 @@
 -- An answer is what the command's script came to, or it was stopped or refused memory.
-use Rattle.std.proofs.Common.{◌≡◌, ℕ, List, [], ◌∷◌, Some, refl, slice_get, sym, ◌∙◌, ap, inl, inr, ◌⊎◌, true}
-use Rattle.net_conf.specs.declared.list.NetList.{NetList}
-use Rattle.kernel_types.specs.declared.call.Call.{Call}
-use Rattle.pod_file.specs.declared.command.Command.{Command}
-use Rattle.cni_verbs.specs.{Endings.answer_of, Progress.{turn_by, answer_by}, Script.{State, AtBegin, BeforeLeases}}
-use Rattle.cni_verbs.specs.Script.{Leasing, AfterLeases, ReadingCache, Deleting, FindingEntry, Asking, Changing}
-use Rattle.cni_verbs.specs.Script.{Collecting, Over, Calls, Finishes, Finish, turn, turn_of_work, finish_of_work}
-use Rattle.cni_verbs.specs.{Script.{state_after, swept}, Sweep.{Job, Sweep, Work}}
-use Rattle.cni_errors.specs.declared.answer.{Answer.Answer, Ending.Ending}
-use Rattle.cni_addr.specs.declared.address.Addr.{Addr}
-use Rattle.pod_workers.specs.{Facts.IsScripts, Legal.Legal, Plans.{Placed, commands_of, list_for}, World.World}
-use Rattle.pod_workers.specs.World.{own_replies}
-use Rattle.pod_workers.proofs.AnswersDue.{answer_is_due}
+use Rattle.pod_laws.proofs.Names.{◌≡◌, ℕ, List, [], ◌∷◌, Some, refl, slice_get, sym, ◌∙◌, ap, inl, inr, ◌⊎◌, true}
+use Rattle.pod_laws.proofs.Names.{NetList, Call, Command, answer_of, turn_by, answer_by, State, AtBegin, BeforeLeases}
+use Rattle.pod_laws.proofs.Names.{Leasing, AfterLeases, ReadingCache, Deleting, FindingEntry, Asking, Changing}
+use Rattle.pod_laws.proofs.Names.{Collecting, Over, Calls, Finishes, Finish, turn, turn_of_work, state_after, swept}
+use Rattle.pod_laws.proofs.Names.{Job, Sweep, Work, Answer, Ending, Addr, IsScripts, Legal, Placed, commands_of}
+use Rattle.pod_laws.proofs.Names.{list_for, World, own_replies, answer_is_due}
+use Rattle.cni_verbs.specs.Script.{finish_of_work}
 use Rattle.pod_laws.specs.{Answers.is_cut_off, Moments.own_entries}
 use Rattle.pod_laws.proofs.Histories.RunFacts.{state_by}
 

@@ -1,26 +1,15 @@
 -- What answers say, from what holds of the runs that came to them.
-use Rattle.std.proofs.Common.{◌≡◌, ℕ, true, false, List, [], Some, slice_get, refl, sym, ◌∙◌, ap, subst, inl, inr, ◌⊎◌}
-use Rattle.std.proofs.lemmas.{Bool.{both_ways, cases_Bool}, Option.none-some}
-use Rattle.std.specs.List.{list_all}
-use Rattle.cni_addr.specs.{Lists.distinct, declared.address.Addr.Addr}
-use Rattle.cni_result.specs.declared.{error.CniError.CniError, result.AddResult.AddResult}
-use Rattle.net_conf.specs.declared.list.NetList.{NetList}
-use Rattle.pod_file.specs.{Commands.is_of_network, declared.command.{Command.Command, Verb.Verb}}
+use Rattle.pod_laws.proofs.Names.{◌≡◌, ℕ, true, false, List, [], Some, slice_get, refl, sym, ◌∙◌, ap, subst, inl, inr}
+use Rattle.pod_laws.proofs.Names.{◌⊎◌, both_ways, cases_Bool, none-some, list_all, distinct, Addr, AddResult, NetList}
+use Rattle.pod_laws.proofs.Names.{is_of_network, Command, Verb, addr_eq, is_fault, IsSound, Call, Reply, Host, by_test}
+use Rattle.pod_laws.proofs.Names.{Share, share_of, answer_of, mappings_of, is_granted, State, Collecting, Over}
+use Rattle.pod_laws.proofs.Names.{leases_in, Work, att_of, Answer, Cause, Ending, Added, Yes, Skipped, Versions}
+use Rattle.pod_laws.proofs.Names.{Refused, result_of_add, sets_of, wanted, Legal, Placed, commands_of, list_for, World}
+use Rattle.pod_laws.proofs.Names.{own_replies, Entry, AreCandidates, listed_network}
+use Rattle.cni_result.specs.declared.error.CniError.{CniError}
 use Rattle.pod_file.specs.declared.command.Verb.TheVariants as verbs
-use Rattle.kernel_types.specs.{Equal.addr_eq, Replies.is_fault, Sound.IsSound, declared.call.{Call.Call, Reply.Reply}}
-use Rattle.kernel_types.specs.declared.object.Host.{Host}
-use Rattle.cni_addr.proofs.Cases.{by_test}
-use Rattle.plugin_base.specs.Share.{Share, share_of}
-use Rattle.cni_verbs.specs.{Endings.answer_of, Mappings.mappings_of, Replies.is_granted, Script.{State, Collecting}}
-use Rattle.cni_verbs.specs.{Script.{Over, leases_in}, Sweep.Work}
-use Rattle.cni_errors.specs.{Answers.error_of, CommandFields.att_of, declared.answer.{Answer.Answer, Cause.Cause}}
-use Rattle.cni_errors.specs.declared.answer.Ending.{Ending, TheVariants.{Added, Yes, Skipped, Versions, Refused}}
-use Rattle.plugin_chain.specs.Wanted.{result_of_add, sets_of, wanted}
+use Rattle.cni_errors.specs.Answers.{error_of}
 use Rattle.cni_errors.specs.declared.answer.Answer.TheVariants as answers
-use Rattle.pod_workers.specs.{Legal.Legal, Plans.{Placed, commands_of, list_for}, World.{World, own_replies}}
-use Rattle.pod_workers.specs.declared.plan.Entry.{Entry}
-use Rattle.host_local.specs.Laws.{AreCandidates}
-use Rattle.pod_workers.proofs.Listed.{listed_network}
 use Rattle.pod_laws.specs.{Added.{WasAdded, HasMade}, Answers.{EachIsOrRefused, EachIsWhere, EachRefusal}}
 use Rattle.pod_laws.specs.{Answers.{IsRefusedAnswer, is_cut_off}, Deleted.{WasDeleted, HasDeleted, IsUndeletedFor}}
 use Rattle.pod_laws.specs.Deleted.{IsYes, NothingFails, WasNotDeleted, AnswersOfDel, UnfailedIsDeleted}

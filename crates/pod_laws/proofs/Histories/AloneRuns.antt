@@ -1,19 +1,13 @@
 -- The entries of an exclusive command stand together.
-use Rattle.std.proofs.Common.{◌≡◌, ◌≢◌, ℕ, ◌+◌, Bool, true, false, List, [], ◌∷◌, ◌++◌, Some, slice_get, refl, sym, ◌∙◌}
-use Rattle.std.proofs.{Common.{ap, subst, inl, inr, ◌⊎◌, append_assoc}, lemmas.Bool.Decides.eqb_tells}
-use Rattle.std.proofs.lemmas.{List.append-nil, Option.{same_Some, none-some}}
-use Rattle.std.specs.{List.list_any, Prelude.if◌then◌else◌}
-use Rattle.net_conf.specs.declared.list.NetList.{NetList}
-use Rattle.pod_file.specs.{Commands.is_exclusive_verb, declared.command.Command.Command}
-use Rattle.kernel_types.specs.{Sound.IsSound, declared.{call.Call.Call, object.Host.Host}}
+use Rattle.pod_laws.proofs.Names.{◌≡◌, ◌≢◌, ℕ, ◌+◌, Bool, true, false, List, [], ◌∷◌, ◌++◌, Some, slice_get, refl, sym}
+use Rattle.pod_laws.proofs.Names.{◌∙◌, ap, subst, inl, inr, ◌⊎◌, append_assoc, eqb_tells, append-nil, same_Some}
+use Rattle.pod_laws.proofs.Names.{none-some, list_any, if◌then◌else◌, NetList, is_exclusive_verb, Command, IsSound}
+use Rattle.pod_laws.proofs.Names.{Call, Host, State, Calls, Finishes, advance, next_call, start_state, state_from, turn}
+use Rattle.pod_laws.proofs.Names.{Legal, Placed, commands_of, list_for, World, IsReady, after, entry_of, host_of}
+use Rattle.pod_laws.proofs.Names.{after_entry, made_in, replies_of, reply_to, Entry, Plan, replies_of-other}
+use Rattle.pod_laws.proofs.Names.{alone_apart, other_number, ready_is, sound_host}
 use Rattle.cni_verbs.proofs.CallsOrOver.{calls_or_over}
-use Rattle.cni_verbs.specs.Script.{State, Calls, Finishes, advance, next_call, start_state, state_from, turn}
 use Rattle.gc_sweep.specs.Trace.{IsRun, IsRunFrom}
-use Rattle.pod_workers.specs.{Legal.Legal, Plans.{Placed, commands_of, list_for}, World.{World, IsReady, after}}
-use Rattle.pod_workers.specs.World.{entry_of, host_of, after_entry, made_in, replies_of, reply_to}
-use Rattle.pod_workers.specs.declared.plan.{Entry.Entry, Plan.Plan}
-use Rattle.pod_workers.proofs.{Histories.replies_of-other, Order.{alone_apart, other_number, ready_is}}
-use Rattle.pod_workers.proofs.Sound.{sound_host}
 use Rattle.pod_laws.specs.Moments.{host_at_end, host_at_start, is_of, own_entries, until_first, until_last}
 use Rattle.pod_laws.proofs.Histories.Entries.{apart-entry, is_of-own, no-entries, own_entries-own, own_entries-other}
 use Rattle.pod_laws.proofs.Histories.{Entries.{replies_in, until_last-own, until_last-other}, Runs.own-state}

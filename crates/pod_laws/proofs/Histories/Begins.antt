@@ -1,26 +1,16 @@
 -- Begins in a history: while an ADD goes on, the last one of its attachment is its own.
-use Rattle.std.proofs.Common.{◌≡◌, ◌≢◌, ℕ, ◌+◌, Bool, true, false, List, [], ◌∷◌, ◌++◌, length, Option, Some, None}
-use Rattle.std.proofs.{Common.{slice_get, refl, sym, ◌∙◌, ap, subst, inl, inr, arith}, lemmas.Bool.and_parts}
-use Rattle.std.proofs.lemmas.{Bool.Decides.eqb_tells, List.Folds.list_all-append}
-use Rattle.std.specs.{List.list_all, Option.option_or, Prelude.if◌then◌else◌}
-use Rattle.net_conf.specs.declared.list.NetList.{NetList}
-use Rattle.pod_file.specs.{Commands.is_of_network, declared.command.{Command.Command, Verb.Verb}}
+use Rattle.pod_laws.proofs.Names.{◌≡◌, ◌≢◌, ℕ, ◌+◌, Bool, true, false, List, [], ◌∷◌, ◌++◌, length, Option, Some, None}
+use Rattle.pod_laws.proofs.Names.{slice_get, refl, sym, ◌∙◌, ap, subst, inl, inr, arith, and_parts, eqb_tells}
+use Rattle.pod_laws.proofs.Names.{list_all-append, list_all, option_or, if◌then◌else◌, NetList, is_of_network, Command}
+use Rattle.pod_laws.proofs.Names.{Verb, att_eq, is_from_outside, Call, Begin, LeaseNext, CacheGet, Kind, Reply, Done}
+use Rattle.pod_laws.proofs.Names.{Leased, Att, att_eq-refl, is_plugin_call_of, is_call_of, Share, is_done, is_granted}
+use Rattle.pod_laws.proofs.Names.{State, AtBegin, BeforeLeases, Leasing, AfterLeases, ReadingCache, Deleting, Over}
+use Rattle.pod_laws.proofs.Names.{Calls, turn, att_of, Ending, Added, Yes, Skipped, Versions, Refused, deletion, Legal}
+use Rattle.pod_laws.proofs.Names.{Placed, commands_of, World, entry_of, host_of, reply_to, Entry, LeftAreOfPlugins}
+use Rattle.pod_laws.proofs.Names.{apart, ready_is, none-or-some, split_nil}
 use Rattle.pod_file.specs.declared.command.Verb.TheVariants as verbs
-use Rattle.kernel_types.specs.{Equal.att_eq, Isolation.is_from_outside, declared.call.Call.{Call, TheVariants.Begin}}
-use Rattle.kernel_types.specs.declared.call.{Call.TheVariants.{LeaseNext, CacheGet}, Kind.Kind, Reply.Reply}
-use Rattle.kernel_types.specs.declared.{call.Reply.TheVariants.{Done, Leased}, object.Att.Att}
-use Rattle.kernel_types.proofs.Cases.{att_eq-refl}
 use Rattle.kernel_types.specs.declared.call.Kind.TheVariants as kinds
-use Rattle.plugin_base.specs.{Calls.{is_plugin_call_of, is_call_of}, Share.Share}
 use Rattle.plugin_base.proofs.OtherCalls.{call-apart}
-use Rattle.cni_verbs.specs.{AddCalls.is_done, Replies.is_granted, Script.{State, AtBegin, BeforeLeases, Leasing}}
-use Rattle.cni_verbs.specs.Script.{AfterLeases, ReadingCache, Deleting, Over, Calls, turn}
-use Rattle.cni_errors.specs.{CommandFields.att_of, declared.answer.Ending.{Ending, TheVariants.{Added, Yes, Skipped}}}
-use Rattle.cni_errors.specs.declared.answer.Ending.TheVariants.{Versions, Refused}
-use Rattle.plugin_chain.specs.Wanted.{deletion}
-use Rattle.pod_workers.specs.{Legal.Legal, Plans.{Placed, commands_of}, World.{World, entry_of, host_of, reply_to}}
-use Rattle.pod_workers.specs.declared.plan.Entry.{Entry}
-use Rattle.pod_workers.proofs.{OfPlugins.LeftAreOfPlugins, Order.{apart, ready_is}, Splits.{none-or-some, split_nil}}
 use Rattle.pod_laws.specs.{AskedFor.{begins, is_begin_of, last_begun}, Moments.own_entries, Refused.lets_go_on}
 use Rattle.pod_laws.proofs.Histories.Entries.{apart-entry, is_of-own, own_entries-own, own_entries-other, no-entries}
 use Rattle.pod_laws.proofs.Histories.{Runs.{every-run-now, own-state}, States.{IsOtherVerb, is_question, not-both}}

@@ -1,12 +1,8 @@
 -- What each entry does to the host, because the last one does.
-use Rattle.std.proofs.Common.{◌≡◌, ℕ, ◌+◌, Bool, true, List, [], ◌∷◌, ◌++◌, sym, ◌∙◌, ap, subst, inl, inr, arith}
-use Rattle.std.proofs.lemmas.Bool.{both_ways}
-use Rattle.net_conf.specs.declared.list.NetList.{NetList}
-use Rattle.kernel_types.specs.declared.{call.Call.Call, object.Host.Host}
-use Rattle.pod_file.specs.{Commands.is_of_network, declared.command.{Command.Command, Verb.Verb}}
-use Rattle.pod_workers.specs.{Plans.Placed, World.{World, after, entry_of, host_of, after_entry}}
-use Rattle.pod_workers.specs.declared.plan.{Entry.Entry, Plan.Plan}
-use Rattle.pod_workers.proofs.{Histories.after-append, Order.ready_is, Splits.{split_nil, split_snoc}}
+use Rattle.pod_laws.proofs.Names.{◌≡◌, ℕ, ◌+◌, Bool, true, List, [], ◌∷◌, ◌++◌, sym, ◌∙◌, ap, subst, inl, inr, arith}
+use Rattle.pod_laws.proofs.Names.{both_ways, NetList, Call, Host, is_of_network, Command, Verb, Placed, World, after}
+use Rattle.pod_laws.proofs.Names.{entry_of, host_of, after_entry, Entry, Plan, after-append, ready_is, split_nil}
+use Rattle.pod_laws.proofs.Names.{split_snoc}
 use Rattle.pod_laws.specs.Single.{AllDo, EachEntry, ByVerb}
 use Rattle.pod_laws.proofs.Histories.{Steps.{Changes, GoesOn, by-entries}, Turns.change-of}
 

@@ -1,8 +1,6 @@
 -- The entries of one command in a history that is one entry longer.
-use Rattle.std.proofs.Common.{◌≡◌, ◌≢◌, ℕ, ◌+◌, Bool, true, false, List, [], ◌∷◌, ◌++◌, refl, sym, ◌∙◌, ap, arith}
-use Rattle.std.specs.{List.list_any, Prelude.if◌then◌else◌}
-use Rattle.kernel_types.specs.declared.call.Call.{Call}
-use Rattle.kernel_types.proofs.ListLemmas.{list_any-append_right}
+use Rattle.pod_laws.proofs.Names.{◌≡◌, ◌≢◌, ℕ, ◌+◌, Bool, true, false, List, [], ◌∷◌, ◌++◌, refl, sym, ◌∙◌, ap, arith}
+use Rattle.pod_laws.proofs.Names.{list_any, if◌then◌else◌, Call, list_any-append_right}
 pub use Rattle.pod_workers.proofs.Histories.{is_of-own, is_of-other, own_entries-own, own_entries-other}
 use Rattle.pod_workers.proofs.Order.{other_number}
 use Rattle.pod_workers.proofs.Splits.{split_nil}

@@ -1,13 +1,9 @@
 -- A fact about every run that its own entries keep, where the host keeps enough between them.
-use Rattle.std.proofs.Common.{◌≡◌, ℕ, ◌+◌, Bool, true, List, [], ◌∷◌, ◌++◌, length, refl, sym, ◌∙◌, ap, subst, inl, inr}
-use Rattle.std.proofs.{Common.{◌⊎◌, arith}, lemmas.List.{length-map, map-append}}
-use Rattle.net_conf.specs.declared.list.NetList.{NetList}
-use Rattle.pod_file.specs.declared.command.Command.{Command}
-use Rattle.kernel_types.specs.declared.{call.Call.Call, object.Host.Host}
-use Rattle.cni_verbs.specs.Script.{State, advance, start_state, state_after}
-use Rattle.pod_workers.specs.{Legal.Legal, Plans.Placed, World.{World, IsReady, after, after_entry, host_of}}
-use Rattle.pod_workers.specs.{World.{replies_of, entry_of}, declared.plan.{Entry.Entry, Plan.Plan}}
-use Rattle.pod_workers.proofs.{Histories.after-append, Kept.state_from-append}
+use Rattle.pod_laws.proofs.Names.{◌≡◌, ℕ, ◌+◌, Bool, true, List, [], ◌∷◌, ◌++◌, length, refl, sym, ◌∙◌, ap, subst, inl}
+use Rattle.pod_laws.proofs.Names.{inr, ◌⊎◌, arith, length-map, map-append, NetList, Command, Call, Host, State, advance}
+use Rattle.pod_laws.proofs.Names.{start_state, state_after, Legal, Placed, World, IsReady, after, after_entry, host_of}
+use Rattle.pod_laws.proofs.Names.{replies_of, entry_of, Entry, Plan, after-append}
+use Rattle.pod_workers.proofs.Kept.{state_from-append}
 use Rattle.pod_laws.specs.Moments.{is_of, own_entries, until_last}
 use Rattle.pod_laws.proofs.Histories.Entries.{is_of-own, own_entries-own, own_entries-other, replies_in, no-entries}
 use Rattle.pod_laws.proofs.Histories.{Entries.{until_last-own, until_last-other}, Steps.{AllListed, AllOpen, GoesOn}}

@@ -1,16 +1,10 @@
 -- What holds of every run because its own entries keep it.
-use Rattle.std.proofs.Common.{◌≡◌, ◌≢◌, ℕ, ◌+◌, Bool, false, List, [], ◌∷◌, ◌++◌, length, Some, None, slice_get, refl}
-use Rattle.std.proofs.{Common.{sym, ◌∙◌, ap, subst, inl, inr, ◌⊎◌}, lemmas.Bool.{cases_Bool, Decides.eqb_tells}}
-use Rattle.net_conf.specs.declared.list.NetList.{NetList}
-use Rattle.pod_file.specs.{Commands.is_exclusive_verb, declared.command.Command.Command}
-use Rattle.kernel_types.specs.declared.{call.Call.Call, object.Host.Host}
-use Rattle.plugin_base.specs.Share.{Share, share_of}
-use Rattle.cni_errors.specs.CommandFields.{att_of}
-use Rattle.cni_verbs.specs.Script.{State, Calls, turn, advance, start_state}
-use Rattle.pod_workers.specs.{Legal.Legal, Plans.{Placed, commands_of, list_for}, World.{World, after, after_entry}}
-use Rattle.pod_workers.specs.{World.{host_of, replies_of, entry_of}, declared.plan.Entry.Entry}
-use Rattle.pod_workers.proofs.{Histories.{replies_of-other, after-append}, OfPlugins.LeftAreOfPlugins}
-use Rattle.pod_workers.proofs.{OfPlugins.left-are-of_plugins, Order.{apart, alone_apart, other_number}}
+use Rattle.pod_laws.proofs.Names.{◌≡◌, ◌≢◌, ℕ, ◌+◌, Bool, false, List, [], ◌∷◌, ◌++◌, length, Some, None, slice_get}
+use Rattle.pod_laws.proofs.Names.{refl, sym, ◌∙◌, ap, subst, inl, inr, ◌⊎◌, cases_Bool, eqb_tells, NetList}
+use Rattle.pod_laws.proofs.Names.{is_exclusive_verb, Command, Call, Host, Share, share_of, att_of, State, Calls, turn}
+use Rattle.pod_laws.proofs.Names.{advance, start_state, Legal, Placed, commands_of, list_for, World, after, after_entry}
+use Rattle.pod_laws.proofs.Names.{host_of, replies_of, entry_of, Entry, replies_of-other, after-append}
+use Rattle.pod_laws.proofs.Names.{LeftAreOfPlugins, left-are-of_plugins, apart, alone_apart, other_number}
 use Rattle.pod_laws.specs.Moments.{own_entries, until_last, host_at_end}
 use Rattle.pod_laws.proofs.Histories.Entries.{is_of-own, is_of-other, replies_in, until_last-own, until_last-other}
 use Rattle.pod_laws.proofs.Histories.RunFacts.{HostFact, IsHostFact, IsKeptBetween, Keeping, each-run, each-run-now}

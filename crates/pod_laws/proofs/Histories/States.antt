@@ -1,26 +1,16 @@
 -- What the states of a run say of the calls that are left to it, and where a run makes no attachment.
-use Rattle.std.proofs.{Common.{◌≡◌, ℕ, Bool, true, false, List, [], ◌∷◌, ◌++◌, refl}, lemmas.Bool.and_parts}
-use Rattle.std.specs.{List.list_all, Prelude.if◌then◌else◌}
-use Rattle.plugin_base.specs.Calls.{is_of_kinds}
+use Rattle.pod_laws.proofs.Names.{◌≡◌, ℕ, Bool, true, false, List, [], ◌∷◌, ◌++◌, refl, and_parts, list_all}
+use Rattle.pod_laws.proofs.Names.{if◌then◌else◌, is_of_kinds, by-either, by-unless, by-unless_early, by-unless_old}
+use Rattle.pod_laws.proofs.Names.{Addr, RangeSet, NetList, Command, Verb, apply, Call, HasObj, CacheGet, OwnersOf}
+use Rattle.pod_laws.proofs.Names.{PoolFree, Reply, Gone, Host, att_of, del_refusal, add_refusal, Ending, Added, Yes}
+use Rattle.pod_laws.proofs.Names.{Skipped, Versions, Refused, Question, check_questions, status_questions, State}
+use Rattle.pod_laws.proofs.Names.{AtBegin, BeforeLeases, Leasing, AfterLeases, ReadingCache, Deleting, FindingEntry}
+use Rattle.pod_laws.proofs.Names.{Asking, Changing, Collecting, Over, before_of, back_of, after_leases, leasing}
+use Rattle.pod_laws.proofs.Names.{before_leases, asking, gc_of, changed, faulted, swept, advance, start_of, state_after}
+use Rattle.pod_laws.proofs.Names.{Work, start_work, sets_of, kinds_of}
 use Rattle.pod_workers.proofs.{AddCalls.{of_kinds-before, of_kinds-back}, Asked.{AreQuestionsOf, IsQuestionOf}}
-use Rattle.pod_workers.proofs.{Asked.{check-asks, status-asks}, Replies.{StaysTrue, by-either, by-entry, by-question}}
-use Rattle.pod_workers.proofs.Replies.{by-unless, by-unless_early, by-unless_old, true-after}
-use Rattle.cni_addr.specs.declared.{address.Addr.Addr, range.RangeSet.RangeSet}
-use Rattle.net_conf.specs.declared.list.NetList.{NetList}
-use Rattle.pod_file.specs.declared.command.{Command.Command, Verb.Verb}
+use Rattle.pod_workers.proofs.{Asked.{check-asks, status-asks}, Replies.{StaysTrue, by-entry, by-question, true-after}}
 use Rattle.pod_file.specs.declared.command.Verb.TheVariants as verbs
-use Rattle.kernel_types.specs.{Apply.apply, declared.call.Call.{Call, TheVariants.{HasObj, CacheGet, OwnersOf}}}
-use Rattle.kernel_types.specs.declared.call.{Call.TheVariants.PoolFree, Reply.{Reply, TheVariants.Gone}}
-use Rattle.kernel_types.specs.declared.object.Host.{Host}
-use Rattle.cni_errors.specs.{CommandFields.{att_of, del_refusal, add_refusal}, declared.answer.Ending.Ending}
-use Rattle.cni_errors.specs.declared.answer.Ending.TheVariants.{Added, Yes, Skipped, Versions, Refused}
-use Rattle.cni_errors.specs.declared.answer.Question.{Question}
-use Rattle.cni_verbs.specs.{Questions.{check_questions, status_questions}, Script.{State, AtBegin, BeforeLeases}}
-use Rattle.cni_verbs.specs.Script.{Leasing, AfterLeases, ReadingCache, Deleting, FindingEntry, Asking, Changing}
-use Rattle.cni_verbs.specs.Script.{Collecting, Over, before_of, back_of, after_leases, leasing, before_leases, asking}
-use Rattle.cni_verbs.specs.{Script.{gc_of, changed, faulted, swept, advance, start_of, state_after}, Sweep.Work}
-use Rattle.cni_verbs.specs.Sweep.{start_work}
-use Rattle.plugin_chain.specs.Wanted.{sets_of, kinds_of}
 use Rattle.cni_errors.specs.declared.answer.Skip.TheVariants as skips
 
 -- ---- questions

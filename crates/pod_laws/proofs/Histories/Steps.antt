@@ -1,21 +1,17 @@
 -- What holds of every legal history, and of every command that is not answered, because each entry keeps it.
-use Rattle.std.proofs.Common.{◌≡◌, ℕ, Bool, true, false, List, [], ◌∷◌, ◌++◌, Option, Some, None, slice_get, slice_set}
-use Rattle.std.proofs.{Common.{refl, sym, ◌∙◌, ap, subst, inl, inr, ◌⊎◌}, lemmas.Bool.Decides.eqb_tells}
-use Rattle.std.proofs.lemmas.Option.{same_Some, none-some, slice_get_within}
-use Rattle.net_conf.specs.declared.list.NetList.{NetList}
-use Rattle.pod_file.specs.declared.command.Command.{Command}
-use Rattle.kernel_types.specs.{Allowed.IsAllowed, Apply.apply, Sound.IsSound, declared.call.{Call.Call, Reply.Reply}}
-use Rattle.kernel_types.specs.declared.object.Host.{Host}
+use Rattle.pod_laws.proofs.Names.{◌≡◌, ℕ, Bool, true, false, List, [], ◌∷◌, ◌++◌, Option, Some, None, slice_get, refl}
+use Rattle.pod_laws.proofs.Names.{sym, ◌∙◌, ap, subst, inl, inr, ◌⊎◌, eqb_tells, same_Some, none-some, NetList, Command}
+use Rattle.pod_laws.proofs.Names.{IsAllowed, apply, IsSound, Call, Reply, Host, turn_by, Calls, turn, state_after}
+use Rattle.pod_laws.proofs.Names.{outside_after, Answer, Legal, Placed, IsWellFormed, commands_of, list_for, World}
+use Rattle.pod_laws.proofs.Names.{IsReady, after_entry, host_of, own_replies, entry_of, done, Entry, Plan, ready_is}
+use Rattle.pod_laws.proofs.Names.{sound_host, host-made}
+use Rattle.std.proofs.{Common.slice_set, lemmas.Option.slice_get_within}
 use Rattle.kernel_types.proofs.EveryCall.{IsSound-apply}
-use Rattle.cni_verbs.specs.{Progress.turn_by, Script.{Calls, turn, state_after, outside_after}}
-use Rattle.cni_errors.specs.declared.answer.Answer.{Answer, TheVariants.OutOfMemory}
-use Rattle.pod_workers.specs.{Legal.{Legal, starts, steps, refused_memory, turns}, Plans.{Placed, IsWellFormed}}
-use Rattle.pod_workers.specs.{Plans.{commands_of, list_for}, World.{World, IsReady, after_entry, host_of, own_replies}}
-use Rattle.pod_workers.specs.{World.{entry_of, with_entry, answered, done, next_of}, declared.plan.Entry.Entry}
-use Rattle.pod_workers.specs.declared.plan.{Next.Next, Plan.Plan}
+use Rattle.cni_errors.specs.declared.answer.Answer.TheVariants.{OutOfMemory}
+use Rattle.pod_workers.specs.{Legal.{starts, steps, refused_memory, turns}, World.{with_entry, answered, next_of}}
+use Rattle.pod_workers.specs.declared.plan.Next.{Next}
 use Rattle.pod_workers.specs.declared.plan.Next.TheVariants as next
-use Rattle.pod_workers.proofs.{Histories.{slice_get-set_same, slice_get-set_other}, Order.ready_is, Sound.allowed_next}
-use Rattle.pod_workers.proofs.{Sound.{goes_in, sound_host}, StepsLeft.host-made}
+use Rattle.pod_workers.proofs.{Histories.{slice_get-set_same, slice_get-set_other}, Sound.{allowed_next, goes_in}}
 use Rattle.pod_laws.specs.Moments.{is_of}
 use Rattle.pod_laws.proofs.Histories.Entries.{apart-entry}
 

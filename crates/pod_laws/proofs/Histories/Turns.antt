@@ -1,26 +1,19 @@
 -- What a run calls: its attachment, a question, or for a GC; and what is called from outside.
-use Rattle.std.proofs.Common.{◌≡◌, ◌≢◌, ℕ, Bool, true, false, List, [], ◌∷◌, length, Some, None, slice_get, refl, ap}
-use Rattle.std.proofs.{Common.{subst, inl, inr, ◌⊎◌, arith}, lemmas.{Bool.cases_Bool, Slice.Eq.bytes_eq-Decides}}
-use Rattle.net_conf.specs.declared.list.NetList.{NetList}
-use Rattle.pod_file.specs.{Commands.{is_of_network, is_exclusive_verb}, declared.command.{Command.Command, Verb.Verb}}
+use Rattle.pod_laws.proofs.Names.{◌≡◌, ◌≢◌, ℕ, Bool, true, false, List, [], ◌∷◌, length, Some, None, slice_get, refl}
+use Rattle.pod_laws.proofs.Names.{ap, subst, inl, inr, ◌⊎◌, arith, cases_Bool, bytes_eq-Decides, NetList, is_of_network}
+use Rattle.pod_laws.proofs.Names.{is_exclusive_verb, Command, Verb, att_eq, is_from_outside, Call, Begin, LeaseNext}
+use Rattle.pod_laws.proofs.Names.{CacheGet, OwnersOf, NsChange, Outside, Kind, Att, Host, att_eq-refl, is_call_of}
+use Rattle.pod_laws.proofs.Names.{share_of, share-other, att_of, State, AtBegin, BeforeLeases, Leasing, AfterLeases}
+use Rattle.pod_laws.proofs.Names.{ReadingCache, Deleting, FindingEntry, Asking, Changing, Collecting, Over, Calls, turn}
+use Rattle.pod_laws.proofs.Names.{turn_of_work, Job, Step, AskCached, Delete, Sweep, step_call, deletion, Placed}
+use Rattle.pod_laws.proofs.Names.{commands_of, World, after_entry, host_of, own_replies, entry_of, LeftAreOfPlugins}
+use Rattle.pod_laws.proofs.Names.{LeftIsOutside, left-are-of_plugins, left-is-outside, alone_apart, sound_host}
+use Rattle.pod_laws.proofs.Names.{OnlyRemoves, removes-nothing}
 use Rattle.pod_file.specs.declared.command.Verb.TheVariants as verbs
-use Rattle.kernel_types.specs.{Equal.att_eq, Isolation.is_from_outside, declared.call.Call.{Call, TheVariants.Begin}}
-use Rattle.kernel_types.specs.declared.call.Call.TheVariants.{LeaseNext, CacheGet, OwnersOf, NsChange, Outside}
-use Rattle.kernel_types.specs.declared.{call.Kind.Kind, object.{Att.Att, Host.Host}}
-use Rattle.kernel_types.proofs.Cases.{att_eq-refl}
 use Rattle.kernel_types.specs.declared.call.Kind.TheVariants as kinds
-use Rattle.plugin_base.specs.{Calls.is_call_of, Share.share_of}
-use Rattle.plugin_base.proofs.OtherCalls.{share-other, call-plugin}
-use Rattle.cni_errors.specs.CommandFields.{att_of}
-use Rattle.cni_verbs.specs.Script.{State, AtBegin, BeforeLeases, Leasing, AfterLeases, ReadingCache, Deleting}
-use Rattle.cni_verbs.specs.Script.{FindingEntry, Asking, Changing, Collecting, Over, Calls, turn, turn_of_work}
-use Rattle.cni_verbs.specs.Sweep.{Job, Step, AskCached, Delete, Sweep, step_call}
-use Rattle.plugin_chain.specs.Wanted.{deletion}
-use Rattle.pod_workers.specs.{Plans.{Placed, commands_of}, World.{World, after_entry, host_of, own_replies, entry_of}}
-use Rattle.pod_workers.proofs.OfPlugins.{IsOutside, LeftAreOfPlugins, LeftIsOutside, left-are-of_plugins}
-use Rattle.pod_workers.proofs.{OfPlugins.left-is-outside, Order.alone_apart, Sound.sound_host}
-use Rattle.gc_sweep.specs.Keep.{OnlyRemoves}
-use Rattle.gc_sweep.proofs.Removes.{removes-nothing, removes-outside}
+use Rattle.plugin_base.proofs.OtherCalls.{call-plugin}
+use Rattle.pod_workers.proofs.OfPlugins.{IsOutside}
+use Rattle.gc_sweep.proofs.Removes.{removes-outside}
 use Rattle.pod_laws.proofs.Histories.States.{LeftFit, is_question, left-fit, question-leaves, asked-is_question}
 use Rattle.pod_laws.proofs.Histories.Steps.{Changes, GoesOn, on-entry}
 

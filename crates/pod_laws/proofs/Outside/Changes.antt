@@ -1,19 +1,12 @@
 -- A change from outside is one call at most.
-use Rattle.std.proofs.Common.{◌≡◌, ◌≢◌, ℕ, ◌+◌, ◌≤◌, false, List, [], ◌∷◌, ◌++◌, length, Some, None, slice_get, refl}
-use Rattle.std.proofs.{Common.{sym, ◌∙◌, ap, subst, inl, inr, arith}, lemmas.Bool.{both_ways, Decides.eqb_tells}}
-use Rattle.std.proofs.lemmas.{List.length-map, Option.none-some}
-use Rattle.std.specs.Prelude.{if◌then◌else◌}
-use Rattle.cni_addr.specs.declared.address.Addr.{Addr}
-use Rattle.pod_file.specs.{Commands.is_of_network, declared.command.Command.Command}
-use Rattle.kernel_types.specs.declared.call.Call.{Call}
-use Rattle.cni_verbs.specs.{Endings.{answer_outside, outside_by}, Progress.{answer_by, turn_by}, Script.State}
-use Rattle.cni_verbs.specs.Script.{Changing, Over, Calls, Finishes, Finish, changed, outside_advance, outside_after}
-use Rattle.cni_verbs.specs.Script.{outside_start, turn}
-use Rattle.cni_errors.specs.declared.answer.{Answer.Answer, Ending.Ending}
-use Rattle.pod_workers.specs.{Facts.IsScripts, Legal.Legal, Plans.{Placed, commands_of, list_for, list_named}}
-use Rattle.pod_workers.specs.{World.{World, entry_of, host_of, own_replies}, declared.plan.{Entry.Entry, Plan.Plan}}
-use Rattle.pod_workers.proofs.{AnswersDue.answer_is_due, OfPlugins.{LeftIsOutside, left-is-outside}, Order.other_number}
-use Rattle.pod_workers.proofs.Order.{ready_is}
+use Rattle.pod_laws.proofs.Names.{◌≡◌, ◌≢◌, ℕ, ◌+◌, ◌≤◌, false, List, [], ◌∷◌, ◌++◌, length, Some, None, slice_get}
+use Rattle.pod_laws.proofs.Names.{refl, sym, ◌∙◌, ap, subst, inl, inr, arith, both_ways, eqb_tells, length-map}
+use Rattle.pod_laws.proofs.Names.{none-some, if◌then◌else◌, Addr, is_of_network, Command, Call, answer_by, turn_by}
+use Rattle.pod_laws.proofs.Names.{State, Changing, Over, Calls, Finishes, Finish, changed, outside_after, turn, Answer}
+use Rattle.pod_laws.proofs.Names.{Ending, IsScripts, Legal, Placed, commands_of, list_for, list_named, World, entry_of}
+use Rattle.pod_laws.proofs.Names.{host_of, own_replies, Entry, Plan, answer_is_due, LeftIsOutside, left-is-outside}
+use Rattle.pod_laws.proofs.Names.{other_number, ready_is}
+use Rattle.cni_verbs.specs.{Endings.{answer_outside, outside_by}, Script.{outside_advance, outside_start}}
 use Rattle.pod_laws.specs.{Answers.is_cut_off, Changed.{ChangesAreAnswered, IsChangedBy}, Moments.own_entries}
 use Rattle.pod_laws.proofs.{Given.Due.over-calls, Histories.Entries.{is_of-other, is_of-own, own_entries-other}}
 use Rattle.pod_laws.proofs.Histories.{Entries.{own_entries-own, replies_in}, Steps.{ChangesKeep, EntriesKeep}}

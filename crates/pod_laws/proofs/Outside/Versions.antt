@@ -1,13 +1,7 @@
 -- A VERSION makes no call.
-use Rattle.std.proofs.Common.{◌≡◌, List, [], refl, sym, ◌∙◌, ap}
-use Rattle.net_conf.specs.declared.list.NetList.{NetList}
-use Rattle.pod_file.specs.declared.command.{Command.Command, Verb.Verb}
+use Rattle.pod_laws.proofs.Names.{◌≡◌, List, [], refl, sym, ◌∙◌, ap, NetList, Command, Verb, Share, Addr, State, Over}
+use Rattle.pod_laws.proofs.Names.{start_of, turn, Ending, Versions, Entry}
 use Rattle.pod_file.specs.declared.command.Verb.TheVariants as verbs
-use Rattle.plugin_base.specs.Share.{Share}
-use Rattle.cni_addr.specs.declared.address.Addr.{Addr}
-use Rattle.cni_verbs.specs.Script.{State, Over, start_of, turn}
-use Rattle.cni_errors.specs.declared.answer.Ending.{Ending, TheVariants.Versions}
-use Rattle.pod_workers.specs.declared.plan.Entry.{Entry}
 use Rattle.pod_laws.specs.{Changed.VersionsAreTheLists, Moments.own_entries}
 use Rattle.pod_laws.proofs.{Given.{CutOff.{over-by, answered-by}, Due.over-calls}, Histories.Runs.IsRunFact}
 use Rattle.pod_laws.proofs.Histories.Runs.{StartsWith, every-run, own-state}

@@ -1,14 +1,9 @@
 -- Questions that are asked one after another, until one is denied.
-use Rattle.std.proofs.Common.{◌≡◌, ℕ, Bool, true, false, List, [], ◌∷◌, ◌++◌, refl, sym, ◌∙◌, ap, subst, append_assoc}
-use Rattle.std.proofs.{Common.arith, lemmas.{Bool.false_from_ne_true, List.append-nil}}
-use Rattle.std.specs.List.{list_all}
-use Rattle.kernel_types.specs.{Apply.apply, Replies.is_fault, declared.call.Call.{Call, TheVariants.{HasObj, PoolFree}}}
-use Rattle.kernel_types.specs.declared.{call.Reply.TheVariants.Has, object.Host.Host}
-use Rattle.kernel_types.proofs.ListLemmas.{list_all-push, list_any-append_none, list_any-append_right}
-use Rattle.cni_verbs.specs.Script.{State, Asking, Over, asking, at_question}
-use Rattle.cni_errors.specs.declared.answer.{Cause.Cause, Ending.{Ending, TheVariants.{Added, Yes, Skipped, Versions}}}
-use Rattle.cni_errors.specs.declared.answer.{Ending.TheVariants.Refused, Question.Question}
-use Rattle.pod_workers.specs.declared.plan.Entry.{Entry}
+use Rattle.pod_laws.proofs.Names.{◌≡◌, ℕ, Bool, true, false, List, [], ◌∷◌, ◌++◌, refl, sym, ◌∙◌, ap, subst}
+use Rattle.pod_laws.proofs.Names.{append_assoc, arith, false_from_ne_true, append-nil, list_all, apply, is_fault, Call}
+use Rattle.pod_laws.proofs.Names.{HasObj, PoolFree, Has, Host, list_all-push, list_any-append_none}
+use Rattle.pod_laws.proofs.Names.{list_any-append_right, State, Asking, Over, asking, at_question, Cause, Ending, Added}
+use Rattle.pod_laws.proofs.Names.{Yes, Skipped, Versions, Refused, Question, Entry}
 use Rattle.pod_laws.specs.{Answers.EndsByTest, Granted.{EndsByDenied, IsFirstDenied, grants, is_yes}, Moments.has_fault}
 use Rattle.pod_laws.proofs.Tests.{first-fails}
 

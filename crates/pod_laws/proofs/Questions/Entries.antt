@@ -1,13 +1,8 @@
 -- A CHECK and a STATUS only ask.
-use Rattle.std.proofs.{Common.{◌≡◌, ℕ, Bool, true, List, refl, ◌∙◌, ap}, lemmas.Bool.both_ways}
-use Rattle.net_conf.specs.declared.list.NetList.{NetList}
-use Rattle.pod_file.specs.{Commands.is_of_network, declared.command.{Command.Command, Verb.Verb}}
+use Rattle.pod_laws.proofs.Names.{◌≡◌, ℕ, Bool, true, List, refl, ◌∙◌, ap, both_ways, NetList, is_of_network, Command}
+use Rattle.pod_laws.proofs.Names.{Verb, Call, CacheGet, Share, att_of, State, FindingEntry, Asking, Changing}
+use Rattle.pod_laws.proofs.Names.{Collecting, Over, Calls, turn, Placed, World, host_of, Entry}
 use Rattle.pod_file.specs.declared.command.Verb.TheVariants as verbs
-use Rattle.kernel_types.specs.declared.call.Call.{Call, TheVariants.CacheGet}
-use Rattle.plugin_base.specs.Share.{Share}
-use Rattle.cni_errors.specs.CommandFields.{att_of}
-use Rattle.cni_verbs.specs.Script.{State, FindingEntry, Asking, Changing, Collecting, Over, Calls, turn}
-use Rattle.pod_workers.specs.{Plans.Placed, World.{World, host_of}, declared.plan.Entry.Entry}
 use Rattle.pod_laws.specs.Granted.{EachQuestionLeavesTheHost, only_asks}
 use Rattle.pod_laws.proofs.Histories.{EachEntry.{DoesByVerb, each-entry_of}, Runs.{IsRunFact, StartsWith}}
 use Rattle.pod_laws.proofs.Histories.{Runs.{every-run-now, own-state}, States.{IsAside, IsOtherVerb, LeftFit}}

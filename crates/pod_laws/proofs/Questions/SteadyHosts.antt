@@ -1,17 +1,10 @@
 -- What a command asks of a host stays between its entries: its attachment's share, each bridge, and all where it stands
 -- alone.
-use Rattle.std.proofs.{Common.{◌≡◌, ℕ, Bool, true, false, List, refl, ◌∙◌}, lemmas.Bool.{and_parts, both_ways}}
-use Rattle.cni_addr.specs.{Equal.mac_eq, declared.mac.Mac.Mac}
-use Rattle.net_conf.specs.declared.list.NetList.{NetList}
-use Rattle.pod_file.specs.{Commands.is_exclusive_verb, declared.command.Command.Command}
-use Rattle.kernel_types.specs.{Allowed.IsAllowed, Apply.{apply, Calls.has_object}, Isolation.is_from_outside}
-use Rattle.kernel_types.specs.{Sound.IsSound, Terms.{is_bridge_with, is_host_bridge}, declared.call.Call.Call}
-use Rattle.kernel_types.specs.declared.{call.Probe.TheVariants.BridgeAt, object.Host.Host}
-use Rattle.plugin_base.specs.Share.{share_of}
-use Rattle.cni_errors.specs.CommandFields.{att_of}
-use Rattle.pod_workers.specs.{Plans.Placed, World.{World, entry_of, host_of, after_entry}}
-use Rattle.pod_workers.proofs.Sound.{sound_host}
-use Rattle.pod_laws.proofs.Added.Bridges.{bridge-stays, passes-host_bridges, turn-inside}
+use Rattle.pod_laws.proofs.Names.{◌≡◌, ℕ, Bool, true, false, List, refl, ◌∙◌, and_parts, both_ways, mac_eq, Mac}
+use Rattle.pod_laws.proofs.Names.{NetList, is_exclusive_verb, Command, IsAllowed, apply, has_object, is_from_outside}
+use Rattle.pod_laws.proofs.Names.{IsSound, is_bridge_with, is_host_bridge, Call, BridgeAt, Host, share_of, att_of}
+use Rattle.pod_laws.proofs.Names.{Placed, World, entry_of, host_of, after_entry, sound_host}
+use Rattle.pod_laws.proofs.Added.HostBridges.{bridge-stays, passes-host_bridges, turn-inside}
 use Rattle.pod_laws.proofs.Histories.{RunFacts.IsKeptBetween, Runs.kept-between, Steps.{GoesOn, on-entry}}
 use Rattle.pod_laws.proofs.Histories.Turns.{turn-of}
 

@@ -1,26 +1,17 @@
 -- What a reply that refuses an ADD means.
-use Rattle.std.proofs.Common.{◌≡◌, ℕ, Bool, true, false, List, Option, Some, None, refl, sym, subst}
-use Rattle.std.specs.{List.list_any, Option.{option_map, option_or}, Prelude.{find, if◌then◌else◌}}
-use Rattle.cni_addr.specs.declared.{address.Addr.Addr, range.RangeSet.RangeSet}
+use Rattle.pod_laws.proofs.Names.{◌≡◌, ℕ, Bool, true, false, List, Option, Some, None, refl, sym, subst, list_any}
+use Rattle.pod_laws.proofs.Names.{option_or, option_map, find, if◌then◌else◌, Addr, RangeSet, apply}
+use Rattle.pod_laws.proofs.Names.{append_unless_taken, bridge_or_new, master_is_bridge_or_none, has_master, has_link_of}
+use Rattle.pod_laws.proofs.Names.{is_own_at, is_same_addr, is_same_route, is_same_setting, leased_addresses, new_bridge}
+use Rattle.pod_laws.proofs.Names.{new_gateway, new_forward, rule_eq, is_host_link, is_bridge, is_own, has_named_ns}
+use Rattle.pod_laws.proofs.Names.{has_host_bridge, link_at, Call, Begin, BridgeEnsure, GatewayEnsure, ForwardEnsure}
+use Rattle.pod_laws.proofs.Names.{VethAdd, MacvlanAdd, LinkSet, AddrAdd, RouteAdd, RuleAppend, SettingSet, LeaseNext}
+use Rattle.pod_laws.proofs.Names.{CachePut, Reply, Done, NoNs, NoLink, Taken, Empty, Leased, Gone, Has, Owners, Kept}
+use Rattle.pod_laws.proofs.Names.{Fault, Att, Host, Link, Tag, by_test, is_plugin_call_of, is_granted, cause_of, Cause}
+use Rattle.pod_laws.proofs.Names.{reply_to}
 use Rattle.ip_pool.specs.Pool.{pick_of}
-use Rattle.kernel_types.specs.Apply.{apply, Calls.{append_unless_taken, begin_of, bridge_or_new}}
-use Rattle.kernel_types.specs.Apply.Calls.{master_is_bridge_or_none, has_master, has_link_of, is_own_at, is_same_addr}
-use Rattle.kernel_types.specs.Apply.Calls.{is_same_route, is_same_setting, lease_taken, leased_addresses, last_leased}
-use Rattle.kernel_types.specs.{Apply.Calls.{new_bridge, new_gateway, new_forward}, Equal.rule_eq, Terms.is_host_or_ns}
-use Rattle.kernel_types.specs.Terms.{is_host_link, is_bridge, is_own, has_named_ns, has_host_bridge, has_objects}
-use Rattle.kernel_types.specs.{Terms.link_at, declared.call.Call.{Call, TheVariants.{Begin, BridgeEnsure}}}
-use Rattle.kernel_types.specs.declared.call.Call.TheVariants.{GatewayEnsure, ForwardEnsure, VethAdd, MacvlanAdd}
-use Rattle.kernel_types.specs.declared.call.Call.TheVariants.{LinkSet, AddrAdd, RouteAdd, RuleAppend, SettingSet}
-use Rattle.kernel_types.specs.declared.call.{Call.TheVariants.{LeaseNext, CachePut}, Reply.{Reply, TheVariants.Done}}
-use Rattle.kernel_types.specs.declared.call.Reply.TheVariants.{NoNs, NoLink, Taken, Empty, Leased, Gone, Has, Owners}
-use Rattle.kernel_types.specs.declared.{call.Reply.TheVariants.{Entry as Kept, Fault}, object.{Att.Att, Host.Host}}
-use Rattle.kernel_types.specs.declared.object.{Link.Link, Tag.Tag}
-use Rattle.cni_addr.proofs.Cases.{by_test}
-use Rattle.plugin_base.specs.Calls.{is_plugin_call_of}
-use Rattle.cni_verbs.specs.{Replies.is_granted, Script.cause_of}
-use Rattle.cni_errors.specs.declared.answer.Cause.{Cause}
+use Rattle.kernel_types.specs.{Apply.Calls.{begin_of, lease_taken, last_leased}, Terms.{is_host_or_ns, has_objects}}
 use Rattle.cni_errors.specs.declared.answer.Cause.TheVariants as causes
-use Rattle.pod_workers.specs.World.{reply_to}
 use Rattle.pod_laws.specs.Refused.{IsCause, no_namespace, name_taken, pool_empty, no_master, fault}
 use Rattle.pod_laws.proofs.Added.Footing.{IsMacvlan}
 

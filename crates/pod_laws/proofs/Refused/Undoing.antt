@@ -1,29 +1,20 @@
 -- How far the undoing of a refused ADD, or a DEL, has come after each entry, and why.
-use Rattle.std.proofs.Common.{◌≡◌, ◌≢◌, ℕ, ◌+◌, Bool, true, false, List, [], ◌∷◌, ◌++◌, length, Option, Some, None}
-use Rattle.std.proofs.Common.{refl, sym, ◌∙◌, ap, subst, inl, inr, ◌⊎◌, append_assoc, arith}
-use Rattle.std.specs.{List.list_all, Prelude.find}
-use Rattle.cni_addr.specs.declared.{address.Addr.Addr, range.RangeSet.RangeSet}
-use Rattle.net_conf.specs.declared.list.NetList.{NetList}
-use Rattle.pod_file.specs.declared.command.{Command.Command, Verb.Verb}
+use Rattle.pod_laws.proofs.Names.{◌≡◌, ◌≢◌, ℕ, ◌+◌, Bool, true, false, List, [], ◌∷◌, ◌++◌, length, Option, Some, None}
+use Rattle.pod_laws.proofs.Names.{refl, sym, ◌∙◌, ap, subst, inl, inr, ◌⊎◌, append_assoc, arith, list_all, find, Addr}
+use Rattle.pod_laws.proofs.Names.{RangeSet, NetList, Command, Verb, apply, without_link, is_fault, IsSound, is_own}
+use Rattle.pod_laws.proofs.Names.{Call, Begin, LeaseNext, Kind, Reply, Done, NoLink, Leased, Gone, Fault, Att, Host}
+use Rattle.pod_laws.proofs.Names.{Link, list_all-push, is_plugin_call_of, Share, share_of, no_objects, att_of}
+use Rattle.pod_laws.proofs.Names.{add_refusal, del_refusal, Cause, Ending, Added, Yes, Skipped, Versions, Refused}
+use Rattle.pod_laws.proofs.Names.{is_granted, State, AtBegin, BeforeLeases, Leasing, AfterLeases, ReadingCache}
+use Rattle.pod_laws.proofs.Names.{Deleting, FindingEntry, Asking, Changing, Collecting, Over, Calls, before_of, back_of}
+use Rattle.pod_laws.proofs.Names.{after_leases, leasing, before_leases, deleting, faulted, cause_of, at_begin}
+use Rattle.pod_laws.proofs.Names.{at_call_before, at_lease, at_call_after, at_cache, at_deletion, advance}
+use Rattle.pod_laws.proofs.Names.{unless_refused, start_of, turn, sets_of, kinds_of, deletion, entry_of, host_of}
+use Rattle.pod_laws.proofs.Names.{after_entry, reply_to, Entry, LeftAreOfPlugins, sound_host, host-made, HasKindsAlone}
+use Rattle.pod_laws.proofs.Names.{HasKindsAlone-removes, removes-deletion}
 use Rattle.pod_file.specs.declared.command.Verb.TheVariants as verbs
-use Rattle.kernel_types.specs.{Apply.{apply, Calls.without_link}, Replies.is_fault, Sound.IsSound, Terms.is_own}
-use Rattle.kernel_types.specs.declared.call.{Call.{Call, TheVariants.{Begin, LeaseNext}}, Kind.Kind, Reply.Reply}
-use Rattle.kernel_types.specs.declared.{call.Reply.TheVariants.{Done, NoLink, Leased, Gone, Fault}, object.Att.Att}
-use Rattle.kernel_types.specs.declared.object.{Host.Host, Link.Link}
-use Rattle.kernel_types.proofs.ListLemmas.{list_all-push}
 use Rattle.kernel_types.specs.declared.call.Kind.TheVariants as kinds
-use Rattle.plugin_base.specs.{Calls.is_plugin_call_of, Share.{Share, share_of, no_objects}}
 use Rattle.plugin_base.proofs.Deletions.{gone-none, gone-links, no-links}
-use Rattle.cni_errors.specs.{CommandFields.{att_of, add_refusal, del_refusal}, declared.answer.Cause.Cause}
-use Rattle.cni_errors.specs.declared.answer.Ending.{Ending, TheVariants.{Added, Yes, Skipped, Versions, Refused}}
-use Rattle.cni_verbs.specs.{Replies.is_granted, Script.{State, AtBegin, BeforeLeases, Leasing, AfterLeases}}
-use Rattle.cni_verbs.specs.Script.{ReadingCache, Deleting, FindingEntry, Asking, Changing, Collecting, Over, Calls}
-use Rattle.cni_verbs.specs.Script.{before_of, back_of, after_leases, leasing, before_leases, deleting, faulted}
-use Rattle.cni_verbs.specs.Script.{cause_of, at_begin, at_call_before, at_lease, at_call_after, at_cache, at_deletion}
-use Rattle.cni_verbs.specs.Script.{advance, unless_refused, start_of, turn}
-use Rattle.plugin_chain.specs.Wanted.{sets_of, kinds_of, deletion}
-use Rattle.pod_workers.specs.{World.{entry_of, host_of, after_entry, reply_to}, declared.plan.Entry.Entry}
-use Rattle.pod_workers.proofs.{OfPlugins.LeftAreOfPlugins, Sound.sound_host, StepsLeft.host-made}
 use Rattle.pod_laws.specs.{Deleted.{HasDeleted, IsUndeletedFor}, Moments.{has_fault, own_entries}, Refused.lets_go_on}
 use Rattle.pod_laws.specs.Refused.{FirstRefusal, IsRefusedFor}
 use Rattle.pod_laws.proofs.{Added.{Footing.IsMacvlan, Stands.no_link-now}, Histories.{Entries.pushed, Runs.AfterEntry}}
@@ -32,7 +23,6 @@ use Rattle.pod_laws.proofs.Histories.{States.{IsOtherVerb, aside-advance, aside-
 use Rattle.pod_laws.proofs.{Histories.Steps.sound-entered, Questions.Asking.{no_fault-more, fault-last}}
 use Rattle.pod_laws.proofs.Refused.Causes.{Refuses, begin-refused, plugin-refused, lease-refused}
 use Rattle.pod_laws.proofs.Shares.Within.{within-entered}
-use Rattle.gc_sweep.proofs.{OfKinds.{HasKindsAlone, HasKindsAlone-removes}, Removes.removes-deletion}
 
 -- ---- what led to a state
 

@@ -1,15 +1,10 @@
 -- The leases of one attachment are of distinct addresses in a sound host, which the host at a command's last entry is.
-use Rattle.std.proofs.Common.{◌≡◌, ℕ, Bool, true, List, [], ◌∷◌, ◌++◌, map, refl, sym, ◌∙◌, ap, subst, inl, inr, arith}
-use Rattle.std.proofs.lemmas.Bool.{cases_Bool}
-use Rattle.std.specs.{Cmp.Lexicographic.nat_list_eq_equiv, List.list_any, Prelude.◌&&◌, Str.bytes_eq}
-use Rattle.cni_addr.specs.{Lists.distinct, declared.address.Addr.Addr}
-use Rattle.kernel_types.specs.{Equal.addr_eq, Sound.IsSound, Terms.{is_own, lease_of}, declared.object.Att.Att}
-use Rattle.kernel_types.specs.declared.object.{Host.Host, Lease.Lease}
-use Rattle.kernel_types.proofs.ListLemmas.{distinct-filter, list_any-map, list_any-same_test}
-use Rattle.plugin_base.specs.Share.{share_of}
-use Rattle.pod_workers.specs.{Legal.Legal, World.{World, after, entry_of, host_of, after_entry}}
-use Rattle.pod_workers.specs.declared.plan.{Entry.Entry, Plan.Plan}
-use Rattle.pod_workers.proofs.Histories.{after-append}
+use Rattle.pod_laws.proofs.Names.{◌≡◌, ℕ, Bool, true, List, [], ◌∷◌, ◌++◌, map, refl, sym, ◌∙◌, ap, subst, inl, inr}
+use Rattle.pod_laws.proofs.Names.{arith, cases_Bool, nat_list_eq_equiv, list_any, ◌&&◌, bytes_eq, distinct, Addr}
+use Rattle.pod_laws.proofs.Names.{addr_eq, IsSound, is_own, lease_of, Att, Host, Lease, list_any-map}
+use Rattle.pod_laws.proofs.Names.{list_any-same_test, share_of, Legal, World, after, entry_of, host_of, after_entry}
+use Rattle.pod_laws.proofs.Names.{Entry, Plan, after-append}
+use Rattle.kernel_types.proofs.ListLemmas.{distinct-filter}
 use Rattle.pod_laws.specs.Moments.{host_at_end, is_of, until_last}
 use Rattle.pod_laws.proofs.Histories.{Entries.{until_last-own, until_last-other}, Steps.{by-entries, sound-entered}}
 

@@ -1,29 +1,22 @@
 -- An attachment never has objects of a kind that its list's plugins don't name.
-use Rattle.std.proofs.Common.{◌≡◌, ℕ, Bool, true, false, List, [], ◌∷◌, ◌++◌, length, Some, refl, sym, ◌∙◌, ap, subst}
-use Rattle.std.proofs.{Common.{inl, inr}, lemmas.{Bool.{both_ways, cases_Bool, and_parts}, Option.same_Some}}
-use Rattle.std.specs.{List.list_all, Prelude.filter}
-use Rattle.cni_addr.specs.declared.range.RangeSet.{RangeSet}
-use Rattle.net_conf.specs.declared.list.NetList.{NetList}
-use Rattle.pod_file.specs.{Commands.is_of_network, WellFormed.IsOpening, declared.command.Command.Command}
-use Rattle.kernel_types.specs.{Apply.apply, Equal.{att_eq, tag_eq}, Sound.IsSound, Terms.is_own}
-use Rattle.kernel_types.specs.declared.call.{Call.{Call, TheVariants.{Begin, LeaseNext, CacheGet}}, Kind.Kind}
-use Rattle.kernel_types.specs.declared.object.{Att.Att, Host.Host, Tag.Tag}
-use Rattle.kernel_types.proofs.{Isolation.att_eq-same, ListLemmas.filter_never}
+use Rattle.pod_laws.proofs.Names.{◌≡◌, ℕ, Bool, true, false, List, [], ◌∷◌, ◌++◌, length, Some, refl, sym, ◌∙◌, ap}
+use Rattle.pod_laws.proofs.Names.{subst, inl, inr, both_ways, cases_Bool, and_parts, same_Some, list_all, filter}
+use Rattle.pod_laws.proofs.Names.{RangeSet, NetList, is_of_network, Command, apply, att_eq, tag_eq, IsSound, is_own}
+use Rattle.pod_laws.proofs.Names.{Call, Begin, LeaseNext, CacheGet, Kind, Att, Host, Tag, att_eq-same, is_of_kinds}
+use Rattle.pod_laws.proofs.Names.{is_plugin_call_of, share_of, no_objects, share-other, share-own, share-lease}
+use Rattle.pod_laws.proofs.Names.{refused-same, refused-lease, att_of, State, AtBegin, BeforeLeases, Leasing}
+use Rattle.pod_laws.proofs.Names.{AfterLeases, ReadingCache, Deleting, FindingEntry, Asking, Changing, Collecting, Over}
+use Rattle.pod_laws.proofs.Names.{Calls, turn, state_after, kinds_of, deletion, Legal, Placed, IsWellFormed, list_for}
+use Rattle.pod_laws.proofs.Names.{list_named, World, entry_of, host_of, after_entry, own_replies, Entry, Plan}
+use Rattle.pod_laws.proofs.Names.{after-append, LeftAreOfPlugins, left-are-of_plugins, sound_host, if-listed}
+use Rattle.pod_laws.proofs.Names.{done_or_not, leased_or_not, HasKindsAlone, HasKindsAlone-removes, removes-deletion}
+use Rattle.pod_file.specs.WellFormed.{IsOpening}
+use Rattle.kernel_types.proofs.ListLemmas.{filter_never}
 use Rattle.kernel_types.specs.declared.object.Tag.TheVariants as tags
 use Rattle.kernel_types.specs.declared.call.Kind.TheVariants as kinds
-use Rattle.plugin_base.specs.{Calls.{has_kind, is_of_kinds, is_plugin_call_of}, Share.{share_of, no_objects}}
-use Rattle.plugin_base.proofs.{OtherCalls.share-other, OwnCalls.{share-own, share-lease}, Refusals.refused-same}
-use Rattle.plugin_base.proofs.Refusals.{refused-lease}
-use Rattle.cni_errors.specs.CommandFields.{att_of}
-use Rattle.cni_verbs.specs.Script.{State, AtBegin, BeforeLeases, Leasing, AfterLeases, ReadingCache, Deleting}
-use Rattle.cni_verbs.specs.Script.{FindingEntry, Asking, Changing, Collecting, Over, Calls, turn, state_after}
-use Rattle.plugin_chain.specs.Wanted.{kinds_of, deletion}
-use Rattle.pod_workers.specs.{Legal.Legal, Plans.{Placed, IsWellFormed, list_for, list_named}, World.{World, entry_of}}
-use Rattle.pod_workers.specs.{World.{host_of, after_entry, own_replies}, declared.plan.{Entry.Entry, Plan.Plan}}
-use Rattle.pod_workers.proofs.{AddCalls.leases-kinds_of, Histories.after-append, OfPlugins.LeftAreOfPlugins}
-use Rattle.pod_workers.proofs.{OfPlugins.left-are-of_plugins, Sound.{sound_host, if-listed}}
-use Rattle.gc_sweep.proofs.{Deletable.{done_or_not, leased_or_not}, OfKinds.{HasKindsAlone, HasKindsAlone-nothing}}
-use Rattle.gc_sweep.proofs.{OfKinds.{HasKindsAlone-call, HasKindsAlone-removes}, Removes.removes-deletion}
+use Rattle.plugin_base.specs.Calls.{has_kind}
+use Rattle.pod_workers.proofs.AddCalls.{leases-kinds_of}
+use Rattle.gc_sweep.proofs.OfKinds.{HasKindsAlone-nothing, HasKindsAlone-call}
 use Rattle.pod_laws.specs.Moments.{objects_after}
 use Rattle.pod_laws.proofs.Histories.States.{LeftFit, is_question, left-fit, question-leaves, asked-is_question}
 use Rattle.pod_laws.proofs.Histories.{Steps.{Changes, GoesOn, by-entries, on-entry}, Turns.AsksOrCollects}
