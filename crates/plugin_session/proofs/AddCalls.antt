@@ -1,19 +1,11 @@
 -- How the calls of an ADD after its leases go on.
-use Rattle.std.proofs.Common.{◌≡◌, ℕ, zero, suc, true, false, List, [], ◌∷◌, ◌++◌, Option, Some, None, Result, Ok, Err}
-use Rattle.std.proofs.Common.{refl, sym, ap, subst, ◌∙◌, arith, slice_get, get_or, drop, length, ◌+◌, ◌<◌}
-use Rattle.std.proofs.lemmas.{Bool.and_parts, List.append-nil, Option.{none-some, same_Some}}
-use Rattle.std.specs.List.{list_all}
-use Rattle.cni_addr.specs.declared.{address.Addr.Addr, memory.NoMemory.NoMemory}
-use Rattle.cni_result.specs.declared.cached.Cached.{Cached}
-use Rattle.kernel_types.specs.{Allowed.IsAllowed, Sound.IsSound, declared.call.Call.{Call, TheVariants.CachePut}}
-use Rattle.kernel_types.specs.declared.{call.{Call.TheVariants.LeaseNext, Kind.Kind}, object.{Att.Att, Host.Host}}
-use Rattle.pod_file.specs.declared.command.Command.{Command}
-use Rattle.plugin_base.specs.Calls.{IsWellFormedCall}
-use Rattle.plugin_registry.specs.Own.{is_own_call}
+use Rattle.plugin_session.proofs.Names.{◌≡◌, ℕ, zero, suc, true, false, List, [], ◌∷◌, ◌++◌, Option, Some, None, Result}
+use Rattle.plugin_session.proofs.Names.{Ok, Err, refl, sym, ap, subst, ◌∙◌, arith, slice_get, get_or, drop, length, ◌+◌}
+use Rattle.plugin_session.proofs.Names.{◌<◌, and_parts, append-nil, none-some, same_Some, list_all, Addr, NoMemory}
+use Rattle.plugin_session.proofs.Names.{Cached, IsAllowed, IsSound, Call, CachePut, LeaseNext, Kind, Att, Host, Command}
+use Rattle.plugin_session.proofs.Names.{IsWellFormedCall, is_own_call, Added, Over, State, after_leases, leases_in}
+use Rattle.plugin_session.proofs.Names.{replies}
 use Rattle.plugin_registry.proofs.OwnCalls.{own-well_formed}
-use Rattle.cni_errors.specs.declared.answer.Ending.TheVariants.{Added}
-use Rattle.cni_verbs.specs.Script.{Over, State, after_leases, leases_in}
-use Rattle.gc_sweep.specs.Trace.{replies}
 use Rattle.plugin_session.specs.{Adds.{CallEndsAs, GoesStep, StepEndsAs, Steps}, Course.Course, Journal.JournalView}
 use Rattle.plugin_session.specs.{Journal.Went, Tasks.{forward_by, forward_of}, declared.row.Row.Row}
 use Rattle.plugin_session.specs.declared.step.StepEnd.{StepEnd}

@@ -1,20 +1,12 @@
 -- How an ADD goes on behind Begin, and how it ends.
-use Rattle.std.proofs.Common.{◌≡◌, ℕ, Bool, true, false, List, [], ◌∷◌, ◌++◌, Option, Some, None, Result, Ok, Err, refl}
-use Rattle.std.proofs.{Common.{sym, ap, subst, ◌∙◌, ◌+◌, inl, inr}, lemmas.List.append-nil}
-use Rattle.std.specs.{List.list_all, Prelude.{MatchOption, find, not}}
-use Rattle.cni_addr.specs.declared.{address.Addr.Addr, memory.NoMemory.NoMemory, range.RangeSet.RangeSet}
-use Rattle.cni_result.specs.declared.{cached.Cached.Cached, result.AddResult.AddResult}
-use Rattle.kernel_types.specs.{Terms.is_host_ns, declared.call.{Call.{Call, TheVariants.Begin}, Kind.Kind, Reply.Reply}}
-use Rattle.kernel_types.specs.declared.{call.Reply.TheVariants.Done, object.Att.Att}
-use Rattle.net_conf.specs.declared.first.HostLocalConf.{HostLocalConf}
-use Rattle.pod_file.specs.declared.command.Command.{Command}
+use Rattle.plugin_session.proofs.Names.{◌≡◌, ℕ, Bool, true, false, List, [], ◌∷◌, ◌++◌, Option, Some, None, Result, Ok}
+use Rattle.plugin_session.proofs.Names.{Err, refl, sym, ap, subst, ◌∙◌, ◌+◌, inl, inr, find, not, append-nil, list_all}
+use Rattle.plugin_session.proofs.Names.{MatchOption, Addr, NoMemory, RangeSet, Cached, AddResult, is_host_ns, Call}
+use Rattle.plugin_session.proofs.Names.{Begin, Kind, Reply, Done, Att, HostLocalConf, Command, first_unmet, Ask, Need}
+use Rattle.plugin_session.proofs.Names.{att_of, Cause, Ending, Added, Refused, AtBegin, Over, ReadingCache, State}
+use Rattle.plugin_session.proofs.Names.{after_leases, cause_of, finish_of, leases_in, next_call, refused, Made, replies}
 use Rattle.pod_file.specs.declared.command.Verb.TheVariants as verbs
-use Rattle.plugin_registry.specs.{Needs.{IsAskable, first_unmet, is_met}, declared.ask.{Ask.Ask, Need.Need}}
-use Rattle.cni_errors.specs.{CommandFields.att_of, declared.answer.{Cause.Cause, Ending.{Ending, TheVariants.Added}}}
-use Rattle.cni_errors.specs.declared.answer.Ending.TheVariants.{Refused}
-use Rattle.cni_verbs.specs.Script.{AtBegin, Over, ReadingCache, State, after_leases, cause_of, finish_of, leases_in}
-use Rattle.cni_verbs.specs.Script.{next_call, refused}
-use Rattle.gc_sweep.specs.Trace.{Made, replies}
+use Rattle.plugin_registry.specs.Needs.{IsAskable, is_met}
 use Rattle.plugin_session.specs.Adds.{Adds, CallEndsAs, EndsWith, Fills, GoesOn, IsAnswer, IsCourseOf, IsFor, IsMade}
 use Rattle.plugin_session.specs.{Adds.{Steps, end_by, is_done}, Course.{Course, advance, at_begin, leasing}}
 use Rattle.plugin_session.specs.{Holds.is_begun, Journal.{EndsAs, IsOver, JournalView, Went, made_next, may_go}}

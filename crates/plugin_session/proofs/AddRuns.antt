@@ -1,20 +1,13 @@
 -- From an ADD of a plugin to what is said of its task.
-use Rattle.std.proofs.Common.{◌≡◌, ℕ, ◌+◌, Bool, true, false, cond, List, [], ◌∷◌, Option, Some, None, refl, sym, ap}
-use Rattle.std.proofs.{Common.{subst, ◌∙◌}, lemmas.Option.{none-some, same_Some}}
-use Rattle.std.specs.{Bool.then_some, Prelude.{MatchOption, Result, Ok, Err, IfOk, IsErr}}
-use Rattle.cni_addr.specs.declared.{address.Addr.Addr, memory.NoMemory.NoMemory}
-use Rattle.cni_result.specs.declared.cached.Cached.{Cached}
-use Rattle.kernel_types.specs.declared.call.{Call.{Call, TheVariants.Begin}, Reply.{Reply, TheVariants.Done}}
-use Rattle.kernel_types.specs.declared.object.{Att.Att, Host.Host}
-use Rattle.pod_file.specs.declared.command.Command.{Command}
-use Rattle.plugin_registry.specs.{Own.OwnCalls, declared.ask.Ask.Ask}
-use Rattle.cni_errors.specs.{CommandFields.att_of, declared.answer.Ending.{Ending, TheVariants.{Added, Yes, Refused}}}
-use Rattle.cni_verbs.specs.Script.{State, AtBegin, finish_of, leases_in, next_call}
-use Rattle.gc_sweep.specs.Trace.{Made, replies}
-use Rattle.plugin_session.specs.{Adds.{Adds, EndsWith, Fills, IsAnswer, IsCourseOf, IsUnbegun}, Course.Course}
-use Rattle.plugin_session.specs.{Course.{IsRunFrom, advance, at_begin, begins, state_from}, Holds.{Suite, has_begun}}
-use Rattle.plugin_session.specs.{Holds.is_begun, Journal.{IsOver, JournalView, Went, may_go}, Ran.{Handed, IsAnswerAt}}
-use Rattle.plugin_session.specs.Ran.{IsAnswered, IsNewRow, ask_for, command_for, course_for, leased_after, row_after}
+use Rattle.plugin_session.proofs.Names.{◌≡◌, ℕ, ◌+◌, Bool, true, false, cond, List, [], ◌∷◌, Option, Some, None, refl}
+use Rattle.plugin_session.proofs.Names.{sym, ap, subst, ◌∙◌, Result, Ok, Err, IfOk, none-some, same_Some, then_some}
+use Rattle.plugin_session.proofs.Names.{MatchOption, IsErr, Addr, NoMemory, Cached, Call, Begin, Reply, Done, Att, Host}
+use Rattle.plugin_session.proofs.Names.{Command, OwnCalls, Ask, att_of, Ending, Added, Yes, Refused, State, AtBegin}
+use Rattle.plugin_session.proofs.Names.{finish_of, leases_in, next_call, Made, replies}
+use Rattle.plugin_session.specs.{Adds.{Adds, Fills, IsAnswer, IsCourseOf, IsUnbegun}, Course.{Course, IsRunFrom}}
+use Rattle.plugin_session.specs.{Course.{advance, at_begin, begins, state_from}, Holds.{Suite, has_begun, is_begun}}
+use Rattle.plugin_session.specs.{Journal.{IsOver, JournalView, Went, may_go}, Ran.{Handed, IsAnswerAt, IsAnswered}}
+use Rattle.plugin_session.specs.Ran.{IsNewRow, ask_for, command_for, course_for, leased_after, row_after}
 use Rattle.plugin_session.specs.{Runs.{IsAnswerToAdd, IsTurnedTo, RunsAdd, answered, row_if}, Tasks.course_by}
 use Rattle.plugin_session.specs.{Tasks.{forward_of, kinds_back}, Views.{PluginView, plugin_named}}
 use Rattle.plugin_session.specs.declared.{answer.TaskAnswer.TaskAnswer, begun.Begun.Begun, part.PartEnd.PartEnd}

@@ -1,20 +1,14 @@
 -- How the steps of an ADD go on, call by call.
-use Rattle.std.proofs.Common.{◌≡◌, ℕ, zero, suc, ◌+◌, ◌<◌, drop, get_or, true, false, List, [], ◌∷◌, ◌++◌, length, Some}
-use Rattle.std.proofs.{Common.{Result, Ok, Err, inl, inr, refl, sym, ap, subst, ◌∙◌, arith}, lemmas.List.append-nil}
-use Rattle.std.proofs.lemmas.List.{append_assoc, length-append, map-append, drop_more, Elements.filter_map-append}
-use Rattle.std.proofs.lemmas.Option.{none-some, same_Some, slice_get-get_or}
-use Rattle.std.specs.Prelude.{IfOk, slice_get}
-use Rattle.cni_addr.specs.declared.{address.Addr.Addr, memory.NoMemory.NoMemory, range.RangeSet.RangeSet}
-use Rattle.ip_pool.specs.Pool.{are_apart, is_apart}
+use Rattle.plugin_session.proofs.Names.{◌≡◌, ℕ, zero, suc, ◌+◌, ◌<◌, drop, get_or, true, false, List, [], ◌∷◌, ◌++◌}
+use Rattle.plugin_session.proofs.Names.{length, Some, Result, Ok, Err, inl, inr, refl, sym, ap, subst, ◌∙◌, arith}
+use Rattle.plugin_session.proofs.Names.{append_assoc, IfOk, slice_get, append-nil, length-append, map-append, drop_more}
+use Rattle.plugin_session.proofs.Names.{filter_map-append, none-some, same_Some, Addr, NoMemory, RangeSet, are_apart}
+use Rattle.plugin_session.proofs.Names.{ranges_of, HasRangesApart, IsAllowed, Call, LeaseNext, Reply, Done, Leased, Att}
+use Rattle.plugin_session.proofs.Names.{are_after, Command, att_of, State, AfterLeases, Leasing, after_leases}
+use Rattle.plugin_session.proofs.Names.{at_call_after, leased_by, leases_in, next_call, Made, replies}
+use Rattle.std.proofs.lemmas.Option.{slice_get-get_or}
+use Rattle.ip_pool.specs.Pool.{is_apart}
 use Rattle.ip_pool.proofs.InOrder.{all_pairs-left, all_pairs-right}
-use Rattle.net_conf.specs.Sets.{ranges_of}
-use Rattle.kernel_types.specs.{Allowed.{HasRangesApart, IsAllowed}, declared.call.Call.{Call, TheVariants.LeaseNext}}
-use Rattle.kernel_types.specs.declared.{call.Reply.{Reply, TheVariants.{Done, Leased}}, object.Att.Att}
-use Rattle.pod_file.specs.{Faults.are_after, declared.command.Command.Command}
-use Rattle.cni_errors.specs.CommandFields.{att_of}
-use Rattle.cni_verbs.specs.Script.{State, AfterLeases, Leasing, after_leases, at_call_after, leased_by, leases_in}
-use Rattle.cni_verbs.specs.Script.{next_call}
-use Rattle.gc_sweep.specs.Trace.{Made, replies}
 use Rattle.plugin_session.specs.Adds.{CallEndsAs, GoesStep, IsMade, LeaseEndsAs, StepEndsAs, Steps, end_by}
 use Rattle.plugin_session.specs.{Adds.lease_end_by, Course.{Course, advance, at_lease, leasing}, Journal.JournalView}
 use Rattle.plugin_session.specs.{Journal.{Went, made_next, may_go}, Pools.{IsReady, Pools}}

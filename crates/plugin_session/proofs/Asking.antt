@@ -1,17 +1,12 @@
 -- The questions of a check, asked one after another.
-use Rattle.std.proofs.Common.{◌≡◌, ℕ, ◌+◌, ◌<◌, Bool, true, false, List, [], ◌∷◌, ◌++◌, length, drop, get_or, Option}
-use Rattle.std.proofs.Common.{Some, None, Result, Ok, Err, refl, sym, ap, subst, ◌∙◌, arith}
+use Rattle.plugin_session.proofs.Names.{◌≡◌, ℕ, ◌+◌, ◌<◌, Bool, true, false, List, [], ◌∷◌, ◌++◌, length, drop, get_or}
+use Rattle.plugin_session.proofs.Names.{Option, Some, None, Result, Ok, Err, refl, sym, ap, subst, ◌∙◌, arith}
+use Rattle.plugin_session.proofs.Names.{if◌then◌else◌, IsErr, NoMemory, Yes, Question, State, Asking, Over, asking}
+use Rattle.plugin_session.proofs.Names.{at_question, finish_of, next_call, refused, apply, is_fault, Call, Reply, Has}
+use Rattle.plugin_session.proofs.Names.{Host, Command, Made}
 use Rattle.std.proofs.{Math.ListN.drop_of_length-le, lemmas.{Bool.false≢true, List.Elements.All-from_recursion}}
-use Rattle.std.specs.Prelude.{if◌then◌else◌, IsErr}
-use Rattle.cni_addr.specs.declared.memory.NoMemory.{NoMemory}
-use Rattle.cni_errors.specs.declared.answer.{Ending.TheVariants.Yes, Question.Question}
 use Rattle.cni_errors.specs.declared.answer.Cause.TheVariants as causes
-use Rattle.cni_verbs.specs.Script.{State, Asking, Over, asking, at_question, finish_of, next_call, refused}
 use Rattle.cni_verbs.proofs.Asked.{left_from}
-use Rattle.kernel_types.specs.{Apply.apply, Replies.is_fault, declared.call.{Call.Call, Reply.{Reply, TheVariants.Has}}}
-use Rattle.kernel_types.specs.declared.object.Host.{Host}
-use Rattle.pod_file.specs.declared.command.Command.{Command}
-use Rattle.gc_sweep.specs.Trace.{Made}
 use Rattle.plugin_session.specs.{Asking.{AreProbes, AskedAs, IsProbe, end_by}, Course.{Course, advance}, Journal.EndsAs}
 use Rattle.plugin_session.specs.{Journal.{JournalView, Went, after_entries, made_next}, declared.part.PartEnd.PartEnd}
 use Rattle.plugin_session.specs.declared.part.PartEnd.TheVariants as parts

@@ -1,25 +1,18 @@
 -- Each answer has its cause: the first among the entries.
-use Rattle.std.proofs.Common.{◌≡◌, ℕ, ◌+◌, Bool, true, false, List, [], ◌∷◌, ◌++◌, length, Option, Some, None, refl}
-use Rattle.std.proofs.{Common.{sym, ◌∙◌, ap, subst}, lemmas.{Bool.{and_parts, not-true}, List.append_assoc}}
-use Rattle.std.proofs.lemmas.{List.append-nil, Option.{same_Some, none-some}}
-use Rattle.std.specs.{List.list_all, Prelude.{MatchBool, MatchOption, not, if◌then◌else◌}}
-use Rattle.cni_addr.specs.declared.{address.Addr.Addr, range.RangeSet.RangeSet}
-use Rattle.cni_result.specs.declared.cached.Cached.{Cached}
-use Rattle.kernel_types.specs.{Replies.is_fault, declared.call.Call.{Call, TheVariants.{Begin, LeaseNext, CachePut}}}
-use Rattle.kernel_types.specs.declared.call.{Kind.Kind, Reply.{Reply, TheVariants.{Done, Leased, Gone, Has, Entry}}}
-use Rattle.kernel_types.specs.declared.{call.Reply.TheVariants.Fault, object.{Att.Att, Host.Host}}
-use Rattle.kernel_types.proofs.ListLemmas.{list_all-append, list_all-weaker}
-use Rattle.plugin_registry.specs.Own.{is_own_call}
-use Rattle.pod_file.specs.declared.command.Command.{Command}
+use Rattle.plugin_session.proofs.Names.{◌≡◌, ℕ, ◌+◌, Bool, true, false, List, [], ◌∷◌, ◌++◌, length, Option, Some, None}
+use Rattle.plugin_session.proofs.Names.{refl, sym, ◌∙◌, ap, subst, append_assoc, not, and_parts, not-true, append-nil}
+use Rattle.plugin_session.proofs.Names.{same_Some, none-some, list_all, MatchBool, MatchOption, if◌then◌else◌, Addr}
+use Rattle.plugin_session.proofs.Names.{RangeSet, Cached, is_fault, Call, Begin, LeaseNext, CachePut, Kind, Reply, Done}
+use Rattle.plugin_session.proofs.Names.{Leased, Gone, Has, Entry, Fault, Att, Host, list_all-weaker, is_own_call}
+use Rattle.plugin_session.proofs.Names.{Command, att_of, Cause, Ending, Added, Yes, Refused, Question, is_done}
+use Rattle.plugin_session.proofs.Names.{is_granted, reply_to, State, AtBegin, Leasing, AfterLeases, ReadingCache}
+use Rattle.plugin_session.proofs.Names.{Deleting, FindingEntry, Collecting, Over, after_leases, asking, at_call_after}
+use Rattle.plugin_session.proofs.Names.{at_deletion, at_question, cause_of, deleting, faulted, faults_after, finish_of}
+use Rattle.plugin_session.proofs.Names.{next_call, swept, Work, work_after, Made, host_on, replies}
+use Rattle.kernel_types.proofs.ListLemmas.{list_all-append}
 use Rattle.pod_file.specs.declared.command.Verb.TheVariants as verbs
-use Rattle.cni_errors.specs.{CommandFields.att_of, declared.answer.{Cause.Cause, Ending.{Ending, TheVariants.Added}}}
-use Rattle.cni_errors.specs.declared.answer.{Ending.TheVariants.{Yes, Refused}, Question.Question}
 use Rattle.cni_errors.specs.declared.answer.Cause.TheVariants as causes
-use Rattle.cni_verbs.specs.{AddCalls.is_done, Replies.{is_granted, reply_to}, Script.{State, AtBegin, Leasing}}
-use Rattle.cni_verbs.specs.Script.{AfterLeases, ReadingCache, Deleting, FindingEntry, Collecting, Over, after_leases}
-use Rattle.cni_verbs.specs.Script.{asking, at_call_after, at_deletion, at_question, cause_of, deleting, faulted}
-use Rattle.cni_verbs.specs.{Script.{faults_after, finish_of, next_call, swept}, Sweep.{Work, work_after}}
-use Rattle.gc_sweep.specs.{Sweep.fault_numbers, Trace.{Made, host_on, replies}}
+use Rattle.gc_sweep.specs.Sweep.{fault_numbers}
 use Rattle.plugin_session.specs.Course.{Course, IsRunFrom, advance, at_begin, at_cache, at_entry, at_lease, leasing}
 use Rattle.plugin_session.specs.{Course.{start_work, state_from}, Holds.{add_cause, entry_cause, first_fault}}
 use Rattle.plugin_session.specs.{Holds.{first_lack, first_of_add, first_of_check, lack_by, of_faults}, Journal.IsOver}

@@ -1,21 +1,15 @@
 -- A check only asks, and succeeds exactly where all that it asks for is there.
-use Rattle.std.proofs.Common.{◌≡◌, ℕ, ◌+◌, Bool, true, false, List, [], ◌∷◌, map, Option, Some, None, refl, sym, ◌∙◌}
-use Rattle.std.proofs.{Common.{ap, subst}, lemmas.{Bool.{and_parts, or_parts}, Option.{same_Some, none-some}}}
-use Rattle.std.specs.{List.{list_all, list_any}, Prelude.{◌&&◌, is_some, MatchBool}}
-use Rattle.cni_addr.proofs.{Cases.by_test, Lists.list_all-append}
-use Rattle.cni_addr.specs.declared.address.Addr.{Addr}
-use Rattle.cni_result.specs.declared.cached.Cached.{Cached}
-use Rattle.kernel_types.specs.{Replies.is_fault, Terms.{cached_in, lease_of}, declared.call.Call.Call}
-use Rattle.kernel_types.specs.declared.call.Call.TheVariants.{VethAdd, MacvlanAdd, AddrAdd, RouteAdd, RuleAppend}
-use Rattle.kernel_types.specs.declared.call.{Call.TheVariants.{SettingSet, HasObj, CacheGet}, Reply.Reply}
-use Rattle.kernel_types.specs.declared.{call.Reply.TheVariants.{Entry, Has}, object.{Att.Att, Host.Host}}
-use Rattle.pod_file.specs.declared.command.Command.{Command}
-use Rattle.cni_errors.specs.{CommandFields.att_of, ObjectQuestions.lease_question, declared.answer.Cause.Cause}
-use Rattle.cni_errors.specs.declared.answer.{Ending.{Ending, TheVariants.{Yes, Refused}}, Question.Question}
+use Rattle.plugin_session.proofs.Names.{◌≡◌, ℕ, ◌+◌, Bool, true, false, List, [], ◌∷◌, map, Option, Some, None, refl}
+use Rattle.plugin_session.proofs.Names.{sym, ◌∙◌, ap, subst, ◌&&◌, is_some, and_parts, or_parts, same_Some, none-some}
+use Rattle.plugin_session.proofs.Names.{list_all, list_any, MatchBool, by_test, Addr, Cached, is_fault, lease_of, Call}
+use Rattle.plugin_session.proofs.Names.{VethAdd, MacvlanAdd, AddrAdd, RouteAdd, RuleAppend, SettingSet, HasObj}
+use Rattle.plugin_session.proofs.Names.{CacheGet, Reply, Entry, Has, Att, Host, Command, att_of, lease_question, Cause}
+use Rattle.plugin_session.proofs.Names.{Ending, Yes, Refused, Question, host_after, reply_to, State, FindingEntry}
+use Rattle.plugin_session.proofs.Names.{Asking, Over, asking, at_question, finish_of, next_call, refused, Made}
+use Rattle.plugin_session.proofs.Names.{host_from, host_on, replies}
+use Rattle.kernel_types.proofs.ListLemmas.{list_all-append}
+use Rattle.kernel_types.specs.Terms.{cached_in}
 use Rattle.cni_errors.specs.declared.answer.Cause.TheVariants as causes
-use Rattle.cni_verbs.specs.{Replies.{host_after, reply_to}, Script.{State, FindingEntry, Asking, Over, asking}}
-use Rattle.cni_verbs.specs.Script.{at_question, finish_of, next_call, refused}
-use Rattle.gc_sweep.specs.Trace.{Made, host_from, host_on, replies}
 use Rattle.plugin_session.specs.{Course.{Course, IsRunFrom, advance, at_entry, checking, state_from}, Holds.holds_by}
 use Rattle.plugin_session.specs.{Journal.IsOver, LawsOfAnswers.{are_questions, is_question, ChecksAreExact}}
 use Rattle.plugin_session.specs.{LawsOfAnswers.{ChecksLeaveTheHost, RowsAskForObjects}, Tasks.call_questions}

@@ -1,15 +1,10 @@
 -- What a collection leaves.
-use Rattle.std.proofs.Common.{◌≡◌, ℕ, Bool, true, List, [], ◌∷◌, Some, refl, sym, ◌∙◌, ap, subst, arith}
-use Rattle.std.proofs.lemmas.Option.{same_Some, none-some}
-use Rattle.std.specs.Prelude.{option_map}
-use Rattle.kernel_types.specs.{Apply.Calls.tags_of, Sound.IsSound, declared.call.Kind.{Kind, TheVariants.Links}}
-use Rattle.kernel_types.specs.declared.{call.Kind.TheVariants.{Rules, Settings, Leases, Cached}, object.Host.Host}
-use Rattle.kernel_types.specs.declared.object.Tag.{Tag}
-use Rattle.pod_file.specs.declared.command.Command.{Command}
-use Rattle.cni_errors.specs.declared.answer.Ending.{Ending, TheVariants.Yes}
-use Rattle.cni_verbs.specs.Script.{Collecting, Finish, call_of_work, finish_of, finish_of_work, next_call, swept}
-use Rattle.cni_verbs.specs.Sweep.{Gc, Job, Sweep}
-use Rattle.gc_sweep.specs.{Keep.{IsWithin, keep}, Trace.{Made, host_from, host_on, replies}}
+use Rattle.plugin_session.proofs.Names.{◌≡◌, ℕ, Bool, true, List, [], ◌∷◌, Some, refl, sym, ◌∙◌, ap, subst, arith}
+use Rattle.plugin_session.proofs.Names.{same_Some, none-some, option_map, IsSound, Kind, Links, Host, Tag, Command}
+use Rattle.plugin_session.proofs.Names.{Ending, Yes, Collecting, Finish, call_of_work, finish_of, finish_of_work}
+use Rattle.plugin_session.proofs.Names.{next_call, swept, Gc, Job, Sweep, IsWithin, keep, Made, host_from, host_on}
+use Rattle.plugin_session.proofs.Names.{replies}
+use Rattle.kernel_types.specs.{Apply.Calls.tags_of, declared.call.Kind.TheVariants.{Rules, Settings, Leases, Cached}}
 use Rattle.gc_sweep.proofs.{Covered.{WorkKept, is_covered}, Kept.stays_start, Leaves.{excused_all, excused_kind}}
 use Rattle.gc_sweep.proofs.{Leaves.{keep_all, keep_within, run_clean, run_kept}, Lists.all_true, Machine.IsTrail}
 use Rattle.gc_sweep.proofs.Machine.{Point, point_after, point_from}

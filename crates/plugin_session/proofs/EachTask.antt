@@ -1,10 +1,11 @@
 -- What there was up to each task of a session, over the next task.
-use Rattle.std.proofs.Common.{◌≡◌, ◌<◌, ℕ, ◌+◌, ◌==◌, true, List, [], ◌∷◌, ◌++◌, length, take, filter, Option, Some}
-use Rattle.std.proofs.{Common.{None, refl, sym, ap, subst, ◌∙◌, ◌&&◌, inl, inr, arith}, lemmas.Bool.cases_Bool}
-use Rattle.std.proofs.lemmas.{Bool.{eq-eqb, Decides.nat_tests}, List.{append-nil, length_push, take-append-le}}
-use Rattle.std.proofs.lemmas.List.{take_all, Elements.{All-head, All-tail, filter-append}, Folds.list_all-append}
-use Rattle.std.specs.{List.{All, list_all}, Option.IfSome, Prelude.{nat_le, nat_lt}}
-use Rattle.ip_pool.proofs.InOrder.{list_all-weaker}
+use Rattle.plugin_session.proofs.Names.{◌≡◌, ◌<◌, ℕ, ◌+◌, ◌==◌, true, List, [], ◌∷◌, ◌++◌, length, take, filter, Option}
+use Rattle.plugin_session.proofs.Names.{Some, None, refl, sym, ap, subst, ◌∙◌, ◌&&◌, inl, inr, arith, IfSome}
+use Rattle.plugin_session.proofs.Names.{cases_Bool, eq-eqb, nat_tests, append-nil, length_push, take_all, All-head}
+use Rattle.plugin_session.proofs.Names.{All-tail, filter-append, list_all-append, All, list_all, nat_lt}
+use Rattle.plugin_session.proofs.Names.{list_all-weaker}
+use Rattle.std.proofs.lemmas.List.{take-append-le}
+use Rattle.std.specs.Prelude.{nat_le}
 use Rattle.plugin_session.specs.EachTask.{EachTaskHoldsAtFirst, EachTaskHoldsWithOneMore, EarlierTasksStay}
 use Rattle.plugin_session.specs.EachTask.{GrownViewsGrow, IsGrown, KeptViewsAreGrown, TheFirstViewIsGrown}
 use Rattle.plugin_session.specs.{EachTask.TheLastTaskIsAll, Holds.{Grows, Suite, TaskHolds}, Kept.IsRowKept}

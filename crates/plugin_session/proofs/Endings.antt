@@ -1,15 +1,12 @@
 -- How a course may end: an ADD with its attachment or a refusal, another verb with yes or a refusal.
-use Rattle.std.proofs.Common.{◌≡◌, ℕ, ◌+◌, Bool, true, false, List, [], ◌∷◌, ◌++◌, Option, Some, None, subst}
-use Rattle.std.proofs.lemmas.Option.{none-some, same_Some}
-use Rattle.std.specs.{Bool.then_some, Prelude.option_map}
-use Rattle.cni_addr.specs.declared.{address.Addr.Addr, range.RangeSet.RangeSet}
-use Rattle.cni_result.specs.declared.cached.Cached.{Cached}
-use Rattle.kernel_types.specs.declared.call.{Call.Call, Kind.Kind, Reply.{Reply, TheVariants.{Done, Leased, Entry}}}
-use Rattle.kernel_types.specs.declared.call.Reply.TheVariants.{Gone, Has, Fault}
-use Rattle.cni_errors.specs.declared.answer.{Ending.{Ending, TheVariants.{Added, Yes, Refused}}, Question.Question}
-use Rattle.cni_verbs.specs.Script.{State, AtBegin, Leasing, AfterLeases, ReadingCache, Deleting, FindingEntry, Asking}
-use Rattle.cni_verbs.specs.Script.{Collecting, Over, Finish, after_leases, asking, at_call_after, at_deletion}
-use Rattle.cni_verbs.specs.Script.{at_question, deleting, faulted, finish_of, has_no_work, swept, swept_finish}
+use Rattle.plugin_session.proofs.Names.{◌≡◌, ℕ, ◌+◌, Bool, true, false, List, [], ◌∷◌, ◌++◌, Option, Some, None, subst}
+use Rattle.plugin_session.proofs.Names.{none-some, same_Some, then_some, option_map, Addr, RangeSet, Cached, Call, Kind}
+use Rattle.plugin_session.proofs.Names.{Reply, Done, Leased, Entry, Gone, Has, Fault, Ending, Added, Yes, Refused}
+use Rattle.plugin_session.proofs.Names.{Question, State, AtBegin, Leasing, AfterLeases, ReadingCache, Deleting}
+use Rattle.plugin_session.proofs.Names.{FindingEntry, Asking, Collecting, Over, Finish, after_leases, asking}
+use Rattle.plugin_session.proofs.Names.{at_call_after, at_deletion, at_question, deleting, faulted, finish_of}
+use Rattle.plugin_session.proofs.Names.{has_no_work, swept}
+use Rattle.cni_verbs.specs.Script.{swept_finish}
 use Rattle.plugin_session.specs.Course.{Course, advance, at_begin, at_cache, at_entry, at_lease, checking, leasing}
 use Rattle.plugin_session.specs.{Course.state_from, Journal.IsOver}
 

@@ -1,13 +1,8 @@
 -- What a course has come to where it is over.
-use Rattle.std.proofs.Common.{◌≡◌, ℕ, ◌+◌, false, List, [], ◌∷◌, Option, Some, None, sym, ◌∙◌}
-use Rattle.std.proofs.lemmas.Option.{same_Some, none-some}
-use Rattle.std.specs.{Option.option_or, Prelude.MatchOption}
-use Rattle.cni_addr.specs.declared.address.Addr.{Addr}
-use Rattle.kernel_types.specs.declared.call.{Call.Call, Kind.Kind, Reply.{Reply, TheVariants.{Gone, Fault}}}
-use Rattle.pod_file.specs.declared.command.Command.{Command}
-use Rattle.cni_errors.specs.declared.answer.{Cause.Cause, Ending.{Ending, TheVariants.Refused}}
-use Rattle.cni_verbs.specs.Script.{State, ReadingCache, Deleting, Over, at_deletion, deleting, faulted, finish_of}
-use Rattle.cni_verbs.specs.Script.{next_call}
+use Rattle.plugin_session.proofs.Names.{◌≡◌, ℕ, ◌+◌, false, List, [], ◌∷◌, Option, Some, None, sym, ◌∙◌, same_Some}
+use Rattle.plugin_session.proofs.Names.{none-some, option_or, MatchOption, Addr, Call, Kind, Reply, Gone, Fault}
+use Rattle.plugin_session.proofs.Names.{Command, Cause, Ending, Refused, State, ReadingCache, Deleting, Over}
+use Rattle.plugin_session.proofs.Names.{at_deletion, deleting, faulted, finish_of, next_call}
 use Rattle.plugin_session.specs.{Course.{Course, advance, at_cache, state_from}, Journal.IsOver}
 
 -- ---- over

@@ -1,16 +1,10 @@
 -- A check, from its cached result to its questions.
-use Rattle.std.proofs.Common.{◌≡◌, ℕ, ◌+◌, List, [], ◌∷◌, ◌++◌, map, Option, Some, None, Result, Ok, refl, sym, ap}
-use Rattle.std.proofs.Common.{subst, ◌∙◌}
-use Rattle.std.specs.Prelude.{IsErr}
-use Rattle.cni_addr.specs.declared.{address.Addr.Addr, memory.NoMemory.NoMemory}
-use Rattle.cni_errors.specs.{CommandFields.att_of, ObjectQuestions.lease_question, declared.answer.Question.Question}
+use Rattle.plugin_session.proofs.Names.{◌≡◌, ℕ, ◌+◌, List, [], ◌∷◌, ◌++◌, map, Option, Some, None, Result, Ok, refl}
+use Rattle.plugin_session.proofs.Names.{sym, ap, subst, ◌∙◌, IsErr, Addr, NoMemory, att_of, lease_question, Question}
+use Rattle.plugin_session.proofs.Names.{FindingEntry, asking, finish_of, next_call, refused, lease_of, Call, VethAdd}
+use Rattle.plugin_session.proofs.Names.{MacvlanAdd, AddrAdd, RouteAdd, RuleAppend, SettingSet, CacheGet, Reply, Entry}
+use Rattle.plugin_session.proofs.Names.{Att, Command, Made}
 use Rattle.cni_errors.specs.declared.answer.Cause.TheVariants as causes
-use Rattle.cni_verbs.specs.Script.{FindingEntry, asking, finish_of, next_call, refused}
-use Rattle.kernel_types.specs.{Terms.lease_of, declared.call.Call.{Call, TheVariants.{VethAdd, MacvlanAdd, AddrAdd}}}
-use Rattle.kernel_types.specs.declared.call.{Call.TheVariants.{RouteAdd, RuleAppend, SettingSet, CacheGet}, Reply.Reply}
-use Rattle.kernel_types.specs.declared.{call.Reply.TheVariants.Entry, object.Att.Att}
-use Rattle.pod_file.specs.declared.command.Command.{Command}
-use Rattle.gc_sweep.specs.Trace.{Made}
 use Rattle.plugin_session.specs.{Asking.{AreProbes, end_by_entry}, Course.{Course, advance, at_entry}, Journal.EndsAs}
 use Rattle.plugin_session.specs.{Journal.{JournalView, Went, after_entries, made_next}, Tasks.call_questions}
 use Rattle.plugin_session.specs.{Tasks.{next_rule, questions_by, row_questions}, declared.part.PartEnd.PartEnd}

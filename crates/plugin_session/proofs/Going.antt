@@ -1,12 +1,9 @@
 -- How parts of a task go on from one another.
-use Rattle.std.proofs.Common.{◌≡◌, ℕ, ◌+◌, Bool, List, [], ◌∷◌, ◌++◌, length, map, Some, refl, sym, ap, subst, ◌∙◌}
-use Rattle.std.proofs.{Common.{Result, Ok, Err, add-zero, arith}, lemmas.List.{append-nil, append_assoc, length-append}}
-use Rattle.std.proofs.lemmas.List.{map-append, Sums.fold-append}
-use Rattle.cni_addr.specs.declared.memory.NoMemory.{NoMemory}
-use Rattle.cni_verbs.specs.Script.{State, next_call}
-use Rattle.kernel_types.specs.declared.{call.Call.Call, object.Host.Host}
-use Rattle.pod_file.specs.declared.command.Command.{Command}
-use Rattle.gc_sweep.specs.Trace.{Made, host_from, host_on, replies}
+use Rattle.plugin_session.proofs.Names.{◌≡◌, ℕ, ◌+◌, Bool, List, [], ◌∷◌, ◌++◌, length, map, Some, refl, sym, ap, subst}
+use Rattle.plugin_session.proofs.Names.{◌∙◌, Result, Ok, Err, arith, append_assoc, append-nil, length-append}
+use Rattle.plugin_session.proofs.Names.{map-append, fold-append, NoMemory, State, next_call, Call, Host, Command, Made}
+use Rattle.plugin_session.proofs.Names.{host_from, host_on, replies}
+use Rattle.std.proofs.Common.{add-zero}
 use Rattle.plugin_session.specs.{Course.{Course, IsRunFrom, advance, state_from}, Journal.{EndsAs, JournalView, Went}}
 use Rattle.plugin_session.specs.{Journal.{after_entries, entry_of, made_next}, declared.entry.Entry.Entry}
 use Rattle.plugin_session.specs.declared.part.PartEnd.{PartEnd}

@@ -1,17 +1,10 @@
 -- How the deletions of one kind go on, call by call.
-use Rattle.std.proofs.Common.{◌≡◌, ℕ, ◌+◌, ◌<◌, ◌≤◌, Bool, true, false, List, [], ◌∷◌, ◌++◌, Some, None, Result, Ok}
-use Rattle.std.proofs.{Common.{Err, refl, sym, ap, subst, ◌∙◌, arith}, lemmas.Option.{same_Some, none-some}}
-use Rattle.std.specs.Prelude.{if◌then◌else◌}
-use Rattle.kernel_types.specs.{Apply.apply, Replies.is_fault, Sound.IsSound, declared.call.{Kind.Kind, Reply.Reply}}
-use Rattle.kernel_types.specs.declared.{call.Reply.TheVariants.{Fault, Gone}, object.{Att.Att, Host.Host}}
+use Rattle.plugin_session.proofs.Names.{◌≡◌, ℕ, ◌+◌, ◌<◌, ◌≤◌, Bool, true, false, List, [], ◌∷◌, ◌++◌, Some, None}
+use Rattle.plugin_session.proofs.Names.{Result, Ok, Err, refl, sym, ap, subst, ◌∙◌, arith, same_Some, none-some}
+use Rattle.plugin_session.proofs.Names.{if◌then◌else◌, apply, is_fault, IsSound, Kind, Reply, Fault, Gone, Att, Host}
+use Rattle.plugin_session.proofs.Names.{are_after, Command, att_of, Ending, reply_to, State, Deleting, Over, next_call}
+use Rattle.plugin_session.proofs.Names.{at_deletion, faulted, NoMemory, share_of, deletion, deletions_of, Made, host_on}
 use Rattle.net_conf.specs.Sets.{one_if}
-use Rattle.pod_file.specs.{Faults.are_after, declared.command.Command.Command}
-use Rattle.cni_errors.specs.{CommandFields.att_of, declared.answer.Ending.Ending}
-use Rattle.cni_verbs.specs.{Replies.reply_to, Script.{State, Deleting, Over, next_call, at_deletion, faulted}}
-use Rattle.cni_addr.specs.declared.memory.NoMemory.{NoMemory}
-use Rattle.plugin_base.specs.Share.{share_of}
-use Rattle.plugin_chain.specs.Wanted.{deletion}
-use Rattle.gc_sweep.specs.{Deletions.deletions_of, Trace.{Made, host_on}}
 use Rattle.gc_sweep.proofs.Deletable.{deletion-falls}
 use Rattle.plugin_session.specs.{Course.{Course, advance}, Journal.{JournalView, KindEndsAs, Went, after_entries}}
 use Rattle.plugin_session.specs.{Journal.{kind_end_by, made_next, may_go}, Pools.{IsReady, Pools}}

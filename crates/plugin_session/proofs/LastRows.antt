@@ -1,15 +1,13 @@
 -- Where the last row of an attachment stands, over a task.
-use Rattle.std.proofs.Common.{◌≡◌, ◌<◌, ℕ, suc, zero, ◌==◌, true, false, cond, List, [], ◌∷◌, ◌++◌, length, set, find}
-use Rattle.std.proofs.{Common.{Option, Some, None, refl, sym, ap, subst, ◌∙◌, inl, inr, arith}, lemmas.Bool.cases_Bool}
-use Rattle.std.proofs.lemmas.{Bool.{eqb-true, eqb-false}, List.append-nil, Option.same_Some}
-use Rattle.std.specs.{List.slice_get, Option.{option_map, option_or}, Prelude.reverse}
-use Rattle.kernel_types.specs.{Equal.att_eq, declared.object.Att.Att}
-use Rattle.gc_sweep.specs.Trace.{Made}
+use Rattle.plugin_session.proofs.Names.{◌≡◌, ◌<◌, ℕ, suc, zero, ◌==◌, true, false, cond, List, [], ◌∷◌, ◌++◌, length}
+use Rattle.plugin_session.proofs.Names.{find, Option, Some, None, refl, sym, ap, subst, ◌∙◌, inl, inr, arith, slice_get}
+use Rattle.plugin_session.proofs.Names.{cases_Bool, append-nil, same_Some, option_or, option_map, reverse, att_eq, Att}
+use Rattle.plugin_session.proofs.Names.{Made, Task}
+use Rattle.std.proofs.{Common.set, lemmas.Bool.{eqb-true, eqb-false}}
 use Rattle.plugin_session.specs.{Holds.Suite, Kept.{AreLastRows, AreNumbered, IsLastRow}, Ran.Ran}
 use Rattle.plugin_session.specs.Steps.{LastRowsAreRead, StepsKeepPlaces, after_task, handed, places_after}
 use Rattle.plugin_session.specs.Views.{SessionView, att_by, finish, number, row_of}
 use Rattle.plugin_session.specs.declared.{answer.TaskAnswer.TaskAnswer, row.Row.Row}
-use Rattle.session_file.specs.declared.session.Task.{Task}
 use Rattle.plugin_session.proofs.StepViews.{row_of-after}
 
 -- ---- lists

@@ -1,22 +1,15 @@
 -- Which calls may be leased an address.
-use Rattle.std.proofs.Common.{◌≡◌, ℕ, Bool, true, false, List, Option, Some, None, refl}
-use Rattle.std.specs.{List.list_any, Option.{option_map, option_or}, Prelude.{find, if◌then◌else◌}}
-use Rattle.cni_addr.proofs.Cases.{by_test}
-use Rattle.cni_addr.specs.declared.{address.Addr.Addr, range.RangeSet.RangeSet}
-use Rattle.ip_pool.specs.Pool.{pick_of}
-use Rattle.kernel_types.specs.Apply.{apply, Calls.{append_unless_taken, begin_of, bridge_or_new, has_link_of}}
-use Rattle.kernel_types.specs.Apply.Calls.{has_master, is_own_at, is_same_addr, is_same_route, is_same_setting}
-use Rattle.kernel_types.specs.Apply.Calls.{is_same_rule, last_leased, lease_taken, leased_addresses, new_bridge}
-use Rattle.kernel_types.specs.Apply.Calls.{master_is_bridge_or_none, new_forward, new_gateway, unless_there}
-use Rattle.kernel_types.specs.{Apply.Calls.without_link, Terms.{has_host_bridge, has_named_ns, has_objects, is_bridge}}
-use Rattle.kernel_types.specs.{Terms.{is_host_link, is_host_or_ns, is_own, link_at}, declared.call.Call.Call}
-use Rattle.kernel_types.specs.declared.call.Call.TheVariants.{Begin, BridgeEnsure, GatewayEnsure, ForwardEnsure}
-use Rattle.kernel_types.specs.declared.call.Call.TheVariants.{VethAdd, MacvlanAdd, LinkSet, AddrAdd, RouteAdd}
-use Rattle.kernel_types.specs.declared.call.Call.TheVariants.{RuleAppend, SettingSet, LeaseNext, CachePut, LinkDel}
-use Rattle.kernel_types.specs.declared.call.{Call.TheVariants.{NsChange, Outside}, Change.TheVariants.{DropLink, Flush}}
-use Rattle.kernel_types.specs.declared.{call.Reply.{Reply, TheVariants.{Done, Leased, NoNs, Taken}}, object.Att.Att}
-use Rattle.kernel_types.specs.declared.object.{Host.Host, Link.Link, Tag.Tag}
-use Rattle.cni_verbs.specs.{AddCalls.is_done, Replies.reply_to}
+use Rattle.plugin_session.proofs.Names.{◌≡◌, ℕ, Bool, true, false, List, Option, Some, None, refl, find, list_any}
+use Rattle.plugin_session.proofs.Names.{option_or, option_map, if◌then◌else◌, by_test, Addr, RangeSet, pick_of, apply}
+use Rattle.plugin_session.proofs.Names.{append_unless_taken, bridge_or_new, has_link_of, has_master, is_own_at}
+use Rattle.plugin_session.proofs.Names.{is_same_addr, is_same_route, is_same_setting, last_leased, lease_taken}
+use Rattle.plugin_session.proofs.Names.{leased_addresses, new_bridge, master_is_bridge_or_none, without_link}
+use Rattle.plugin_session.proofs.Names.{has_host_bridge, has_named_ns, has_objects, is_bridge, is_host_link}
+use Rattle.plugin_session.proofs.Names.{is_host_or_ns, is_own, link_at, Call, Begin, BridgeEnsure, GatewayEnsure}
+use Rattle.plugin_session.proofs.Names.{ForwardEnsure, VethAdd, MacvlanAdd, LinkSet, AddrAdd, RouteAdd, RuleAppend}
+use Rattle.plugin_session.proofs.Names.{SettingSet, LeaseNext, CachePut, LinkDel, NsChange, Outside, DropLink, Flush}
+use Rattle.plugin_session.proofs.Names.{Reply, Done, Leased, NoNs, Taken, Att, Host, Link, Tag, is_done, reply_to}
+use Rattle.kernel_types.specs.Apply.Calls.{begin_of, is_same_rule, new_forward, new_gateway, unless_there}
 use Rattle.plugin_session.specs.LawsOfAnswers.{asks_for_lease}
 
 -- ---- no other call is leased an address

@@ -19,6 +19,7 @@ mod Ends
 mod Entered
 mod LastRows
 mod Leased
+mod Names
 mod Numbered
 mod Numbers
 mod RanTasks

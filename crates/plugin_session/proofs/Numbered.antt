@@ -1,10 +1,9 @@
 -- Entries and rows by the numbers of their tasks.
-use Rattle.std.proofs.Common.{◌≡◌, ◌<◌, ◌==◌, ℕ, Bool, true, false, cond, List, [], ◌∷◌, ◌++◌, map, filter, find}
-use Rattle.std.proofs.{Common.{Option, Some, None, refl, sym, ap, subst, ◌∙◌, arith}, lemmas.Bool.{eq-eqb, ne_eqb}}
-use Rattle.std.proofs.lemmas.{Bool.Decides.nat_tests, List.{map-append, reverse-append, Elements.{All-head, All-tail}}}
-use Rattle.std.proofs.lemmas.List.{Elements.filter-append, Folds.find-append}
-use Rattle.std.specs.{List.{All, list_all}, Option.option_or, Prelude.{nat_lt, reverse}}
-use Rattle.gc_sweep.specs.Trace.{Made}
+use Rattle.plugin_session.proofs.Names.{◌≡◌, ◌<◌, ◌==◌, ℕ, Bool, true, false, cond, List, [], ◌∷◌, ◌++◌, map, filter}
+use Rattle.plugin_session.proofs.Names.{find, Option, Some, None, refl, sym, ap, subst, ◌∙◌, arith, eq-eqb, nat_tests}
+use Rattle.plugin_session.proofs.Names.{map-append, reverse-append, All-head, All-tail, filter-append, find-append, All}
+use Rattle.plugin_session.proofs.Names.{list_all, option_or, nat_lt, reverse, Made}
+use Rattle.std.proofs.lemmas.Bool.{ne_eqb}
 use Rattle.plugin_session.specs.{Journal.entry_of, Kept.is_numbered, Views.{entries_of, made_of}}
 use Rattle.plugin_session.specs.declared.entry.Entry.{Entry}
 

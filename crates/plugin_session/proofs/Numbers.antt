@@ -1,17 +1,15 @@
 -- How the attachments of tasks are numbered, one task after another.
-use Rattle.std.proofs.Common.{◌≡◌, ℕ, zero, suc, ◌+◌, ◌<◌, ◌≤◌, ◌⊎◌, Bool, true, false, cond, ◌&&◌, ◌==◌, List, [], ◌∷◌}
-use Rattle.std.proofs.Common.{◌++◌, length, take, get_or, Option, Some, None, slice_get, refl, sym, ap, subst, ◌∙◌}
-use Rattle.std.proofs.{Common.{arith, inl, inr, Bor, Decides}, lemmas.Bool.{and_parts, and_from, Decides.Decides-eqb}}
-use Rattle.std.proofs.lemmas.{Bool.Decides.same_from_decides, List.{length-append, take_more, take_all}}
-use Rattle.std.proofs.lemmas.{Map.Text.is_eq-slice_cmp, Option.{none-some, same_Some, slice_get_within}}
-use Rattle.std.proofs.lemmas.Slice.Eq.{bytes_eq-Decides}
+use Rattle.plugin_session.proofs.Names.{◌≡◌, ℕ, zero, suc, ◌+◌, ◌<◌, ◌≤◌, ◌⊎◌, Bool, true, false, cond, ◌&&◌, ◌==◌}
+use Rattle.plugin_session.proofs.Names.{List, [], ◌∷◌, ◌++◌, length, take, get_or, Option, Some, None, slice_get, refl}
+use Rattle.plugin_session.proofs.Names.{sym, ap, subst, ◌∙◌, arith, inl, inr, Bor, is_some, not, and_parts}
+use Rattle.plugin_session.proofs.Names.{length-append, take_all, none-some, same_Some, slice_get_within}
+use Rattle.plugin_session.proofs.Names.{bytes_eq-Decides, unwrap_or, bytes_eq, att_eq, Att, att_eq-refl, att_eq-same}
+use Rattle.plugin_session.proofs.Names.{Task}
+use Rattle.std.proofs.{Common.Decides, lemmas.Bool.{and_from, Decides.{Decides-eqb, same_from_decides}}}
+use Rattle.std.proofs.lemmas.{List.take_more, Map.Text.is_eq-slice_cmp}
 use Rattle.std.specs.{BTreeMap.BTreeMap, Cmp.Lexicographic.slice_cmp, Ordering.{is_eq, nat_cmp, ordering_then}}
-use Rattle.std.specs.{Prelude.{is_some, not, unwrap_or}, Str.bytes_eq, declared.cmp.Ordering.Ordering}
-use Rattle.std.specs.declared.cmp.Ordering.TheVariants.{Less, Equal, Greater}
+use Rattle.std.specs.declared.cmp.Ordering.{Ordering, TheVariants.{Less, Equal, Greater}}
 use Rattle.std.specs.BTreeMap as tree
-use Rattle.kernel_types.specs.{Equal.att_eq, declared.object.Att.Att}
-use Rattle.kernel_types.proofs.{Cases.att_eq-refl, Isolation.att_eq-same}
-use Rattle.session_file.specs.declared.session.Task.{Task}
 use Rattle.plugin_session.specs.Kept.{AreNumbered, att_in}
 
 -- the number that the map has for these names

@@ -1,30 +1,21 @@
 -- After its leases an ADD is leased nothing more, and where it is refused then, that is how it ends.
-use Rattle.std.proofs.Common.{◌≡◌, ℕ, ◌+◌, Bool, true, false, List, [], ◌∷◌, Option, Some, None, refl, sym, ◌∙◌, ap}
-use Rattle.std.proofs.{Common.subst, lemmas.{Bool.and_parts, Option.{none-some, same_Some}}}
-use Rattle.std.specs.{List.{list_all, list_any}, Option.{option_map, option_or}, Prelude.{not, find, if◌then◌else◌}}
-use Rattle.cni_addr.specs.declared.address.Addr.{Addr}
-use Rattle.cni_addr.proofs.Cases.{by_test}
-use Rattle.kernel_types.specs.Apply.{apply, Calls.{append_unless_taken, bridge_or_new, has_link_of, has_master}}
-use Rattle.kernel_types.specs.Apply.Calls.{is_own_at, is_same_addr, is_same_route, is_same_setting}
-use Rattle.kernel_types.specs.{Apply.Calls.{master_is_bridge_or_none, new_bridge, without_link}, Equal.rule_eq}
-use Rattle.kernel_types.specs.Terms.{has_host_bridge, has_named_ns, has_objects, is_bridge, is_host_link, is_host_or_ns}
-use Rattle.kernel_types.specs.{Terms.{is_own, link_at}, declared.call.Call.{Call, TheVariants.{Begin, BridgeEnsure}}}
-use Rattle.kernel_types.specs.declared.call.Call.TheVariants.{GatewayEnsure, ForwardEnsure, VethAdd, MacvlanAdd}
-use Rattle.kernel_types.specs.declared.call.Call.TheVariants.{LinkSet, AddrAdd, RouteAdd, RuleAppend, SettingSet}
-use Rattle.kernel_types.specs.declared.call.Call.TheVariants.{LeaseNext, CachePut, LinkDel, RuleDel, SettingDel}
-use Rattle.kernel_types.specs.declared.call.Call.TheVariants.{LeaseDel, CacheDel, HasObj, CacheGet, OwnersOf, PoolFree}
-use Rattle.kernel_types.specs.declared.call.{Call.TheVariants.{NsChange, Outside}, Change.TheVariants.{DropLink, Flush}}
-use Rattle.kernel_types.specs.declared.call.{Kind.Kind, Reply.{Reply, TheVariants.{Done, NoNs, Taken, Gone, Fault}}}
-use Rattle.kernel_types.specs.declared.object.{Host.Host, Link.Link, Tag.Tag}
+use Rattle.plugin_session.proofs.Names.{◌≡◌, ℕ, ◌+◌, Bool, true, false, List, [], ◌∷◌, Option, Some, None, refl, sym}
+use Rattle.plugin_session.proofs.Names.{◌∙◌, ap, subst, not, find, and_parts, none-some, same_Some, list_all, list_any}
+use Rattle.plugin_session.proofs.Names.{option_or, option_map, if◌then◌else◌, Addr, by_test, apply, append_unless_taken}
+use Rattle.plugin_session.proofs.Names.{bridge_or_new, has_link_of, has_master, is_own_at, is_same_addr, is_same_route}
+use Rattle.plugin_session.proofs.Names.{is_same_setting, master_is_bridge_or_none, new_bridge, without_link, rule_eq}
+use Rattle.plugin_session.proofs.Names.{has_host_bridge, has_named_ns, has_objects, is_bridge, is_host_link}
+use Rattle.plugin_session.proofs.Names.{is_host_or_ns, is_own, link_at, Call, Begin, BridgeEnsure, GatewayEnsure}
+use Rattle.plugin_session.proofs.Names.{ForwardEnsure, VethAdd, MacvlanAdd, LinkSet, AddrAdd, RouteAdd, RuleAppend}
+use Rattle.plugin_session.proofs.Names.{SettingSet, LeaseNext, CachePut, LinkDel, RuleDel, SettingDel, LeaseDel}
+use Rattle.plugin_session.proofs.Names.{CacheDel, HasObj, CacheGet, OwnersOf, PoolFree, NsChange, Outside, DropLink}
+use Rattle.plugin_session.proofs.Names.{Flush, Kind, Reply, Done, NoNs, Taken, Gone, Fault, Host, Link, Tag, Command}
+use Rattle.plugin_session.proofs.Names.{deletion, att_of, Cause, Ending, Refused, reply_to, State, AfterLeases}
+use Rattle.plugin_session.proofs.Names.{ReadingCache, Deleting, Over, after_leases, at_call_after, at_deletion}
+use Rattle.plugin_session.proofs.Names.{deleting, faulted, leased_by, leases_in, next_call, finish_of, Made, host_on}
+use Rattle.plugin_session.proofs.Names.{replies}
 use Rattle.kernel_types.specs.declared.object.Tag.TheVariants as tags
 use Rattle.kernel_types.specs.declared.call.Kind.TheVariants as kinds
-use Rattle.pod_file.specs.declared.command.Command.{Command}
-use Rattle.plugin_chain.specs.Wanted.{deletion}
-use Rattle.cni_errors.specs.{CommandFields.att_of, declared.answer.{Cause.Cause, Ending.{Ending, TheVariants.Refused}}}
-use Rattle.cni_verbs.specs.{Replies.reply_to, Script.{State, AfterLeases, ReadingCache, Deleting, Over, after_leases}}
-use Rattle.cni_verbs.specs.Script.{at_call_after, at_deletion, deleting, faulted, leased_by, leases_in, next_call}
-use Rattle.cni_verbs.specs.Script.{finish_of}
-use Rattle.gc_sweep.specs.Trace.{Made, host_on, replies}
 use Rattle.plugin_session.specs.{Course.{Course, IsRunFrom, advance, at_cache, state_from}, Journal.IsOver}
 use Rattle.plugin_session.proofs.Ready.{moves_last}
 

@@ -1,15 +1,10 @@
 -- From a run of a verb to what is said of a task.
-use Rattle.std.proofs.Common.{◌≡◌, ℕ, ◌+◌, ◌++◌, Bool, true, false, List, [], ◌∷◌, Option, Some, None, map, refl, sym}
-use Rattle.std.proofs.Common.{ap, subst, ◌∙◌, ◌⊎◌, ◌≤◌, arith, is_some, length, IfSome, inl, inr}
-use Rattle.std.proofs.lemmas.{List.append-nil, Option.same_Some}
-use Rattle.std.specs.{Bool.then_some, Prelude.{MatchOption, Result, Ok, Err, IfOk, IsErr, option_map}}
-use Rattle.cni_addr.specs.declared.memory.NoMemory.{NoMemory}
-use Rattle.cni_result.specs.declared.error.CniError.{CniError}
-use Rattle.kernel_types.specs.declared.{call.{Call.{Call, TheVariants.CacheGet}, Reply.Reply}, object.Host.Host}
-use Rattle.pod_file.specs.declared.command.{Command.Command, Verb.Verb}
-use Rattle.cni_errors.specs.{CommandFields.att_of, declared.answer.{Cause.Cause, Ending.TheVariants.{Yes, Refused}}}
-use Rattle.cni_verbs.specs.Script.{State, Collecting, FindingEntry, ReadingCache, leases_in, next_call}
-use Rattle.gc_sweep.specs.Trace.{Made, host_from, replies}
+use Rattle.plugin_session.proofs.Names.{◌≡◌, ℕ, ◌+◌, ◌++◌, Bool, true, false, List, [], ◌∷◌, Option, Some, None, map}
+use Rattle.plugin_session.proofs.Names.{refl, sym, ap, subst, ◌∙◌, ◌⊎◌, ◌≤◌, arith, is_some, length, IfSome, inl, inr}
+use Rattle.plugin_session.proofs.Names.{Result, Ok, Err, IfOk, append-nil, same_Some, then_some, MatchOption, IsErr}
+use Rattle.plugin_session.proofs.Names.{option_map, NoMemory, CniError, Call, CacheGet, Reply, Host, Command, Verb}
+use Rattle.plugin_session.proofs.Names.{att_of, Cause, Yes, Refused, State, Collecting, FindingEntry, ReadingCache}
+use Rattle.plugin_session.proofs.Names.{leases_in, next_call, Made, host_from, replies}
 use Rattle.plugin_session.specs.{Course.{Course, IsRunFrom, begins, start_work}, Holds.{Suite, TaskCause, Known}}
 use Rattle.plugin_session.specs.{Holds.{early_by, error_by, has_begun, is_begun}, Journal.{JournalView, after_entries}}
 use Rattle.plugin_session.specs.{Journal.entry_of, Ran.{Handed, IsNewRow, Ran, RanByCourse, WasEarly, command_for}}

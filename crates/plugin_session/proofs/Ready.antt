@@ -1,27 +1,21 @@
 -- A host that is ready for a session's pools stays so, whichever of the session's calls is made or is a fault.
-use Rattle.std.proofs.Common.{◌≡◌, ℕ, Bool, true, false, cond, List, [], ◌∷◌, ◌++◌, map, Option, Some, None, refl, sym}
-use Rattle.std.proofs.{Common.{◌∙◌, ap, subst, inl, inr, arith}, lemmas.{Bool.Decides.eqb_tells, Option.same_Some}}
-use Rattle.std.proofs.lemmas.{Option.none-some, Slice.Eq.bytes_eq-Decides}
-use Rattle.std.specs.{List.AllByRecursion, Option.option_map, Prelude.{if◌then◌else◌, find, slice_get}}
-use Rattle.cni_addr.specs.declared.{address.Addr.Addr, range.RangeSet.RangeSet}
-use Rattle.ip_pool.specs.{NextAddress.{is_candidate, is_candidate_or_none}, Pool.pick_of}
-use Rattle.kernel_types.specs.{Allowed.{HasRangesApart, IsAllowed}, Apply.{apply, Calls.{is_of_pool, last_leased}}}
-use Rattle.kernel_types.specs.{Apply.Calls.{lease_taken, leased_addresses, moved_last}, Replies.is_fault, Touch.Touches}
-use Rattle.kernel_types.specs.{Touch.TouchesTag, declared.call.Call.{Call, TheVariants.{Begin, BridgeEnsure}}}
-use Rattle.kernel_types.specs.declared.call.Call.TheVariants.{GatewayEnsure, ForwardEnsure, VethAdd, MacvlanAdd}
-use Rattle.kernel_types.specs.declared.call.Call.TheVariants.{LinkSet, AddrAdd, RouteAdd, RuleAppend, SettingSet}
-use Rattle.kernel_types.specs.declared.call.Call.TheVariants.{LeaseNext, CachePut, LinkDel, RuleDel, SettingDel}
-use Rattle.kernel_types.specs.declared.call.Call.TheVariants.{LeaseDel, CacheDel, HasObj, CacheGet, OwnersOf, PoolFree}
-use Rattle.kernel_types.specs.declared.call.{Call.TheVariants.{NsChange, Outside}, Kind.Kind, Probe.Probe}
-use Rattle.kernel_types.specs.declared.{call.Reply.TheVariants.Leased, object.{Att.Att, Host.Host, Last.Last, Tag.Tag}}
+use Rattle.plugin_session.proofs.Names.{◌≡◌, ℕ, Bool, true, false, cond, List, [], ◌∷◌, ◌++◌, map, Option, Some, None}
+use Rattle.plugin_session.proofs.Names.{refl, sym, ◌∙◌, ap, subst, inl, inr, arith, find, slice_get, same_Some}
+use Rattle.plugin_session.proofs.Names.{none-some, bytes_eq-Decides, AllByRecursion, option_map, if◌then◌else◌, Addr}
+use Rattle.plugin_session.proofs.Names.{RangeSet, pick_of, HasRangesApart, IsAllowed, apply, last_leased, lease_taken}
+use Rattle.plugin_session.proofs.Names.{leased_addresses, is_fault, Call, Begin, BridgeEnsure, GatewayEnsure}
+use Rattle.plugin_session.proofs.Names.{ForwardEnsure, VethAdd, MacvlanAdd, LinkSet, AddrAdd, RouteAdd, RuleAppend}
+use Rattle.plugin_session.proofs.Names.{SettingSet, LeaseNext, CachePut, LinkDel, RuleDel, SettingDel, LeaseDel}
+use Rattle.plugin_session.proofs.Names.{CacheDel, HasObj, CacheGet, OwnersOf, PoolFree, NsChange, Outside, Kind, Leased}
+use Rattle.plugin_session.proofs.Names.{Att, Host, Tag, passes-find, is_plugin_call_of, deletion, reply_to, Made}
+use Rattle.plugin_session.proofs.Names.{host_on}
+use Rattle.std.proofs.lemmas.Bool.Decides.{eqb_tells}
+use Rattle.ip_pool.specs.NextAddress.{is_candidate, is_candidate_or_none}
+use Rattle.kernel_types.specs.{Apply.Calls.{is_of_pool, moved_last}, Touch.{Touches, TouchesTag}}
+use Rattle.kernel_types.specs.declared.{call.Probe.Probe, object.Last.Last}
 use Rattle.kernel_types.proofs.{EveryCall.{IsSound-apply, Touches-apply}, LeasedAddress.leased-candidate}
-use Rattle.kernel_types.proofs.ListLemmas.{passes-find}
 use Rattle.kernel_types.specs.declared.object.Tag.TheVariants as tags
 use Rattle.kernel_types.specs.declared.call.Kind.TheVariants as kinds
-use Rattle.plugin_base.specs.Calls.{is_plugin_call_of}
-use Rattle.plugin_chain.specs.Wanted.{deletion}
-use Rattle.cni_verbs.specs.Replies.{reply_to}
-use Rattle.gc_sweep.specs.Trace.{Made, host_on}
 use Rattle.plugin_session.specs.{Journal.{JournalView, after_entries, made_next}, Pools.{IsLastOf, IsReady, Pools}}
 
 -- ---- the host after one call

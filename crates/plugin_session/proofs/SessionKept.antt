@@ -1,16 +1,15 @@
 -- What a session keeps, from before its first task and over each.
-use Rattle.std.proofs.Common.{◌≡◌, ◌<◌, ℕ, ◌+◌, List, [], ◌∷◌, ◌++◌, length, map, get_or, Option, Some, None, refl, sym}
-use Rattle.std.proofs.{Common.{ap, subst, ◌∙◌}, lemmas.{List.length-set, Option.{slice_get-map, slice_get_read}}}
-use Rattle.std.specs.{List.slice_get, Option.{IfSome, option_and_then, option_map, option_map_or, unwrap_or}}
-use Rattle.cni_addr.specs.declared.address.Addr.{Addr}
-use Rattle.cni_verbs.specs.Script.{leases_in}
-use Rattle.gc_sweep.specs.Trace.{Made, host_from, replies}
+use Rattle.plugin_session.proofs.Names.{◌≡◌, ◌<◌, ℕ, ◌+◌, List, [], ◌∷◌, ◌++◌, length, map, get_or, Option, Some, None}
+use Rattle.plugin_session.proofs.Names.{refl, sym, ap, subst, ◌∙◌, slice_get, IfSome, option_map, unwrap_or, Addr}
+use Rattle.plugin_session.proofs.Names.{leases_in, Made, host_from, replies, Task}
+use Rattle.std.proofs.lemmas.{List.length-set, Option.{slice_get-map, slice_get_read}}
+use Rattle.std.specs.Option.{option_and_then, option_map_or}
 use Rattle.plugin_session.specs.{Holds.{Grows, Suite, TaskHolds}, Journal.{JournalView, entry_of}, Kept.AreNumbered}
 use Rattle.plugin_session.specs.{Kept.{AreLastRows, IsKept, IsLastRow, pools_of}, Pools.IsReady, Ran.{Handed, Ran}}
 use Rattle.plugin_session.specs.{Runs.RanTask, Steps.{Step, handed, if_any, places_after}, Views.{SessionView, att_by}}
 use Rattle.plugin_session.specs.Views.{begun, finish, leased_by, leased_to, number, row_of}
 use Rattle.plugin_session.specs.declared.{begun.Begun.Begun, row.Row.Row, run.TaskRun.TaskRun}
-use Rattle.session_file.specs.{WellFormed.IsSessionConf, declared.session.{SessionConf.SessionConf, Task.Task}}
+use Rattle.session_file.specs.{WellFormed.IsSessionConf, declared.session.SessionConf.SessionConf}
 use Rattle.plugin_session.proofs.{LastRows.{last_row-read, steps-places}, StepViews.{finish-after, steps-grow}}
 use Rattle.plugin_session.proofs.{StepsHold.steps-hold_of_the_last, StepsKeep.{first-kept, steps-keep, steps-leases}}
 use Rattle.plugin_session.proofs.StepsKeep.{view-kept}

@@ -1,13 +1,9 @@
 -- What a task is answered, by how its entries ended.
-use Rattle.std.proofs.Common.{◌≡◌, ℕ, Bool, true, false, List, Option, Some, None, refl, sym, ap, subst, ◌∙◌, inl, inr}
-use Rattle.std.specs.{Option.{MatchOption, option_map}, Prelude.{MatchBool, ◌⊎◌}}
-use Rattle.cni_result.specs.declared.result.AddResult.{AddResult}
-use Rattle.pod_file.specs.declared.command.{Command.Command, Verb.Verb}
+use Rattle.plugin_session.proofs.Names.{◌≡◌, ℕ, Bool, true, false, List, Option, Some, None, refl, sym, ap, subst, ◌∙◌}
+use Rattle.plugin_session.proofs.Names.{inl, inr, ◌⊎◌, MatchOption, option_map, MatchBool, AddResult, Command, Verb}
+use Rattle.plugin_session.proofs.Names.{Cause, Ending, State, IsOpen, Made}
 use Rattle.pod_file.specs.declared.command.Verb.TheVariants as verbs
-use Rattle.cni_errors.specs.declared.answer.{Cause.Cause, Ending.Ending}
 use Rattle.cni_errors.specs.declared.answer.Ending.TheVariants as endings
-use Rattle.cni_verbs.specs.Script.{State, IsOpen}
-use Rattle.gc_sweep.specs.Trace.{Made}
 use Rattle.plugin_session.specs.{Holds.{IsSuccess, Known, TaskCause, error_by, is_cut_off}, Journal.IsOver}
 use Rattle.plugin_session.specs.{LawsOfAnswers.success_of, Ran.{Handed, IsAnswerAt, WasEarly, command_for}}
 use Rattle.plugin_session.specs.declared.{answer.TaskAnswer.TaskAnswer, row.Row.Row}

@@ -1,18 +1,14 @@
 -- Where a task's entries began, and how they ended.
-use Rattle.std.proofs.Common.{◌≡◌, ℕ, Bool, true, false, List, [], ◌∷◌, ◌++◌, Some, None, refl, ap}
-use Rattle.std.specs.{Bool.then_some, Option.option_map, Prelude.MatchBool}
-use Rattle.cni_addr.specs.declared.{address.Addr.Addr, range.RangeSet.RangeSet}
-use Rattle.kernel_types.specs.declared.call.{Call.{Call, TheVariants.Begin}, Kind.Kind, Reply.{Reply, TheVariants.Done}}
-use Rattle.kernel_types.specs.declared.{call.Reply.TheVariants.{Leased, Gone, Has, Fault, Entry}, object.Host.Host}
-use Rattle.pod_file.specs.declared.command.{Command.Command, Verb.Verb}
+use Rattle.plugin_session.proofs.Names.{◌≡◌, ℕ, Bool, true, false, List, [], ◌∷◌, ◌++◌, Some, None, refl, ap, then_some}
+use Rattle.plugin_session.proofs.Names.{option_map, MatchBool, Addr, RangeSet, Call, Begin, Kind, Reply, Done, Leased}
+use Rattle.plugin_session.proofs.Names.{Gone, Has, Fault, Entry, Host, Command, Verb, Ending, Question, State, AtBegin}
+use Rattle.plugin_session.proofs.Names.{Leasing, AfterLeases, ReadingCache, Deleting, FindingEntry, Asking, Collecting}
+use Rattle.plugin_session.proofs.Names.{Over, Finish, IsOpen, next_call, finish_of, has_no_work, finish_of_work, swept}
+use Rattle.plugin_session.proofs.Names.{after_leases, deleting, asking, at_call_after, at_deletion, at_question, Job}
+use Rattle.plugin_session.proofs.Names.{Sweep, Made}
 use Rattle.pod_file.specs.declared.command.Verb.TheVariants as verbs
-use Rattle.cni_errors.specs.declared.answer.{Ending.Ending, Question.Question}
-use Rattle.cni_verbs.specs.Script.{State, AtBegin, Leasing, AfterLeases, ReadingCache, Deleting, FindingEntry, Asking}
-use Rattle.cni_verbs.specs.Script.{Collecting, Over, Finish, IsOpen, IsWork, next_call, finish_of, has_no_work}
-use Rattle.cni_verbs.specs.Script.{finish_of_work, swept, after_leases, deleting, asking, at_call_after, at_deletion}
-use Rattle.cni_verbs.specs.{Script.at_question, Sweep.{Job, Sweep}}
+use Rattle.cni_verbs.specs.Script.{IsWork}
 use Rattle.cni_verbs.proofs.AfterReplies.{after_replies-keeps}
-use Rattle.gc_sweep.specs.Trace.{Made}
 use Rattle.plugin_session.specs.Course.{Course, IsRunFrom, advance, at_begin, begins, leasing, state_from, at_cache}
 use Rattle.plugin_session.specs.{Course.{at_entry, at_lease}, Holds.{has_begun, is_begun}, Journal.IsOver}
 

@@ -1,23 +1,16 @@
 -- The rows of a session, before a task and after it.
-use Rattle.std.proofs.Common.{◌≡◌, ℕ, ◌+◌, true, not, ◌&&◌, List, [], Option, Some, None, refl, sym, ap, ◌∙◌, arith}
-use Rattle.std.proofs.lemmas.{Bool.Decides.nat_tests, List.Elements.{All-weaker, recursion_from_All}}
-use Rattle.std.proofs.lemmas.List.Folds.{list_all-append}
-use Rattle.std.specs.{List.{AllByRecursion, list_all}, Option.{IfSome, MatchOption}, Prelude.reverse}
-use Rattle.cni_result.specs.declared.cached.Cached.{Cached}
-use Rattle.ip_pool.proofs.InOrder.{list_all-weaker, passes-find}
-use Rattle.kernel_types.specs.{Allowed.HasRangesApart, Equal.att_eq, declared.call.Call.{Call, TheVariants.VethAdd}}
-use Rattle.kernel_types.specs.declared.call.Call.TheVariants.{MacvlanAdd, AddrAdd, RouteAdd, RuleAppend, SettingSet}
-use Rattle.kernel_types.specs.declared.{call.Kind.Kind, object.Att.Att}
-use Rattle.kernel_types.proofs.Isolation.{att_eq-same}
-use Rattle.net_conf.specs.{WellFormed.{IsWellFormedIpam, IsWellFormedSet}, declared.first.HostLocalConf.HostLocalConf}
-use Rattle.plugin_registry.specs.Own.{is_own_call}
-use Rattle.cni_errors.specs.CommandFields.{att_of}
-use Rattle.gc_sweep.specs.Trace.{Made}
+use Rattle.plugin_session.proofs.Names.{◌≡◌, ℕ, ◌+◌, true, not, ◌&&◌, List, [], Option, Some, None, refl, sym, ap, ◌∙◌}
+use Rattle.plugin_session.proofs.Names.{arith, IfSome, nat_tests, All-weaker, list_all-append, AllByRecursion, list_all}
+use Rattle.plugin_session.proofs.Names.{MatchOption, reverse, Cached, att_eq-same, list_all-weaker, passes-find}
+use Rattle.plugin_session.proofs.Names.{HasRangesApart, att_eq, Call, VethAdd, MacvlanAdd, AddrAdd, RouteAdd}
+use Rattle.plugin_session.proofs.Names.{RuleAppend, SettingSet, Kind, Att, HostLocalConf, is_own_call, att_of, Made}
+use Rattle.plugin_session.proofs.Names.{Task}
+use Rattle.std.proofs.lemmas.List.Elements.{recursion_from_All}
+use Rattle.net_conf.specs.WellFormed.{IsWellFormedIpam, IsWellFormedSet}
 use Rattle.plugin_session.specs.{Holds.Suite, Kept.IsRowKept, Laws.IsOwnRow, LawsOfAnswers.asks_for_lease}
 use Rattle.plugin_session.specs.{Pools.sets_by, Ran.{Handed, IsAnswered, IsNewRow, command_for}, Steps.IsViewKept}
 use Rattle.plugin_session.specs.{Steps.handed, Tasks.{forward_by, forward_of}, Views.{SessionView, number, row_of}}
 use Rattle.plugin_session.specs.declared.row.Row.{Row}
-use Rattle.session_file.specs.declared.session.Task.{Task}
 use Rattle.plugin_session.proofs.Numbered.{last_found}
 
 -- ---- a row

@@ -1,14 +1,10 @@
 -- A task whose Begin was granted, and one whose Begin was not.
-use Rattle.std.proofs.Common.{◌≡◌, ◌+◌, Bool, true, false, cond, List, [], ◌∷◌, find, Option, Some, None, refl, sym, ap}
-use Rattle.std.proofs.{Common.{subst, ◌∙◌, inl, inr}, lemmas.Bool.cases_Bool}
-use Rattle.std.specs.Option.{IfSome, MatchOption, option_or}
-use Rattle.kernel_types.specs.{Equal.att_eq, declared.object.{Att.Att, Host.Host}}
-use Rattle.kernel_types.proofs.{Cases.att_eq-refl, Isolation.att_eq-same}
+use Rattle.plugin_session.proofs.Names.{◌≡◌, ◌+◌, Bool, true, false, cond, List, [], ◌∷◌, find, Option, Some, None}
+use Rattle.plugin_session.proofs.Names.{refl, sym, ap, subst, ◌∙◌, inl, inr, IfSome, cases_Bool, option_or, MatchOption}
+use Rattle.plugin_session.proofs.Names.{att_eq, Att, Host, att_eq-refl, att_eq-same, no_objects, share_of, AtBegin}
+use Rattle.plugin_session.proofs.Names.{leases_in, Made, host_from, replies, HasKindsAlone, Task}
 use Rattle.pod_file.specs.declared.command.Verb.TheVariants as verbs
-use Rattle.plugin_base.specs.Share.{no_objects, share_of}
-use Rattle.cni_verbs.specs.Script.{AtBegin, leases_in}
-use Rattle.gc_sweep.specs.Trace.{Made, host_from, replies}
-use Rattle.gc_sweep.proofs.OfKinds.{HasKindsAlone, HasKindsAlone-nothing}
+use Rattle.gc_sweep.proofs.OfKinds.{HasKindsAlone-nothing}
 use Rattle.plugin_session.specs.{Course.begins, Holds.{HasByRow, IsPartOf, Suite, TaskCause, has_begun, is_faulty}}
 use Rattle.plugin_session.specs.{Kept.{IsRowKept, pools_of}, Laws.{BeginsAt, IsAdd, Run, part_of}}
 use Rattle.plugin_session.specs.{LawsOfAnswers.LeasesBySetsAlone, Pools.IsReady, Ran.{Handed, IsNewRow, Ran}}
@@ -16,7 +12,6 @@ use Rattle.plugin_session.specs.Ran.{RanByCourse, WasEarly, command_for, course_
 use Rattle.plugin_session.specs.{Steps.{IsViewKept, after_task, handed, if_any}, Tasks.kinds_back, Views.SessionView}
 use Rattle.plugin_session.specs.Views.{att_by, finish, leased_to, number, part_by, row_of}
 use Rattle.plugin_session.specs.declared.{answer.TaskAnswer.TaskAnswer, row.Row.Row}
-use Rattle.session_file.specs.declared.session.Task.{Task}
 use Rattle.plugin_session.proofs.{Checked.row-asks, Courses.Added.{add_leaves_others, add_makes_parts, add_stays_ready}}
 use Rattle.plugin_session.proofs.{Courses.Calls.part-of_kinds, Numbered.last_found, StepEnds.begun-add}
 use Rattle.plugin_session.proofs.StepRows.{found-att, found-kept, kept-later, kept-new, own-kept, ranges-apart}

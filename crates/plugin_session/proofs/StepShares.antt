@@ -1,13 +1,8 @@
 -- What an attachment has after a task, as part of what it had.
-use Rattle.std.proofs.Common.{◌≡◌, true, false, Option, Some, None, refl, sym, ap, subst, inl, inr}
-use Rattle.std.proofs.lemmas.Bool.{cases_Bool}
-use Rattle.std.specs.{List.AllByRecursion, Option.MatchOption}
-use Rattle.kernel_types.specs.{Equal.att_eq, Sound.IsSound, declared.object.{Att.Att, Host.Host}}
-use Rattle.kernel_types.proofs.Isolation.{att_eq-same}
-use Rattle.pod_file.specs.declared.command.Verb.{Verb}
+use Rattle.plugin_session.proofs.Names.{◌≡◌, true, false, Option, Some, None, refl, sym, ap, subst, inl, inr}
+use Rattle.plugin_session.proofs.Names.{cases_Bool, AllByRecursion, MatchOption, att_eq, IsSound, Att, Host}
+use Rattle.plugin_session.proofs.Names.{att_eq-same, Verb, Share, no_objects, share_of, HasKindsAlone}
 use Rattle.pod_file.specs.declared.command.Verb.TheVariants as verbs
-use Rattle.plugin_base.specs.Share.{Share, no_objects, share_of}
-use Rattle.gc_sweep.proofs.OfKinds.{HasKindsAlone}
 use Rattle.plugin_session.specs.{Course.begins, Holds.{IsPartOf, has_begun}, Laws.{BeginsAt, IsDel, Run, finish}}
 use Rattle.plugin_session.specs.{Laws.own_att, LawsOfAnswers.are_questions, Pools.{IsLastOf, IsReady, Pools}}
 use Rattle.plugin_session.specs.{Views.{SessionView, part_by}, declared.row.Row.Row}

@@ -1,21 +1,16 @@
 -- What is said of a session's last task, by what the task was handed and what it did.
-use Rattle.std.proofs.Common.{◌≡◌, ◌==◌, ℕ, ◌+◌, false, cond, List, [], ◌∷◌, ◌++◌, map, filter, find, Option, Some}
-use Rattle.std.proofs.{Common.{None, refl, ap, ◌∙◌, arith}, lemmas.{Bool.{eq-eqb, Decides.nat_tests}, List.append-nil}}
-use Rattle.std.proofs.lemmas.List.{length_push, map-append, reverse-append, Elements.filter-append, Folds.find-append}
-use Rattle.std.proofs.lemmas.{List.Sums.fold-append, Option.IfSome_then}
-use Rattle.std.specs.{Option.{IfSome, option_or}, Prelude.{nat_lt, reverse}}
+use Rattle.plugin_session.proofs.Names.{◌≡◌, ◌==◌, ℕ, ◌+◌, false, cond, List, [], ◌∷◌, ◌++◌, map, filter, find, Option}
+use Rattle.plugin_session.proofs.Names.{Some, None, refl, ap, ◌∙◌, arith, IfSome, eq-eqb, nat_tests, append-nil}
+use Rattle.plugin_session.proofs.Names.{length_push, map-append, reverse-append, filter-append, find-append}
+use Rattle.plugin_session.proofs.Names.{fold-append, IfSome_then, option_or, nat_lt, reverse, att_eq, Att, att_eq-refl}
+use Rattle.plugin_session.proofs.Names.{leases_in, Made, host_from, host_on, replies, Task}
 use Rattle.host_local.specs.Leases.{given_of}
-use Rattle.kernel_types.specs.{Equal.att_eq, declared.object.Att.Att}
-use Rattle.kernel_types.proofs.Cases.{att_eq-refl}
-use Rattle.cni_verbs.specs.Script.{leases_in}
-use Rattle.gc_sweep.specs.Trace.{Made, host_from, host_on, replies}
 use Rattle.plugin_session.specs.{Holds.{Suite, rows_of_task}, Journal.entry_of, Kept.IsRowKept, Pools.sets_by}
 use Rattle.plugin_session.specs.{Ran.{IsNewRow, leased_after, row_after}, Steps.{IsViewKept, StepsAreSeen, StepsGrow}}
 use Rattle.plugin_session.specs.{Steps.{after_task, handed, if_any, seen, seen_for}, Tasks.{command_of, course_by}}
 use Rattle.plugin_session.specs.Views.{SessionView, att_by, entries_of, finish, leased_by, leased_to, made_of, number}
 use Rattle.plugin_session.specs.{Views.{own, row_of, start}, declared.{answer.TaskAnswer.TaskAnswer, entry.Entry.Entry}}
 use Rattle.plugin_session.specs.declared.row.Row.{Row}
-use Rattle.session_file.specs.declared.session.Task.{Task}
 use Rattle.plugin_session.proofs.Numbered.{before-all, before-own, entries_of-append, entries_of-later}
 use Rattle.plugin_session.proofs.Numbered.{entries_of-others, all-numbered, entries_of-own, filter-none_all, last_found}
 use Rattle.plugin_session.proofs.Numbered.{map-made}

@@ -1,19 +1,13 @@
 -- The session's law after a task, field by field.
-use Rattle.std.proofs.Common.{◌≡◌, ◌≤◌, ℕ, ◌-◌, Bool, false, List, [], ◌∷◌, ◌++◌, length, Option, Some, None, refl, sym}
-use Rattle.std.proofs.{Common.{ap, subst, ◌∙◌, arith}, lemmas.{List.length_push, Option.MatchOption-at_some}}
-use Rattle.std.proofs.lemmas.Option.{same_Some}
-use Rattle.std.specs.{List.{list_any, slice_get}, Option.{IfSome, MatchOption, option_map, option_or}}
-use Rattle.std.specs.Prelude.{MatchBool, ◌⊎◌}
-use Rattle.cni_result.specs.declared.{cached.Cached.Cached, error.CniError.CniError, result.AddResult.AddResult}
-use Rattle.kernel_types.specs.{Replies.is_fault, declared.object.{Att.Att, Host.Host}}
-use Rattle.pod_file.specs.declared.command.Command.{Command}
+use Rattle.plugin_session.proofs.Names.{◌≡◌, ◌≤◌, ℕ, Bool, false, List, [], ◌∷◌, ◌++◌, length, Option, Some, None, refl}
+use Rattle.plugin_session.proofs.Names.{sym, ap, subst, ◌∙◌, arith, slice_get, IfSome, ◌⊎◌, length_push, same_Some}
+use Rattle.plugin_session.proofs.Names.{list_any, option_or, MatchOption, option_map, MatchBool, Cached, CniError}
+use Rattle.plugin_session.proofs.Names.{AddResult, is_fault, Att, Host, Command, no_objects, share_of, OwnCalls}
+use Rattle.plugin_session.proofs.Names.{del_refusal, State, AtBegin, ReadingCache, IsOpen, keep, Made, host_from}
+use Rattle.plugin_session.proofs.Names.{replies, Task}
+use Rattle.std.proofs.{Common.◌-◌, lemmas.Option.MatchOption-at_some}
 use Rattle.pod_file.specs.declared.command.Verb.TheVariants as verbs
-use Rattle.plugin_base.specs.Share.{no_objects, share_of}
-use Rattle.plugin_registry.specs.Own.{OwnCalls}
-use Rattle.cni_errors.specs.CommandFields.{del_refusal}
 use Rattle.cni_errors.specs.declared.answer.Ending.TheVariants as endings
-use Rattle.cni_verbs.specs.Script.{State, AtBegin, ReadingCache, IsOpen}
-use Rattle.gc_sweep.specs.{Keep.keep, Trace.{Made, host_from, replies}}
 use Rattle.plugin_session.specs.{Course.{Course, IsRunFrom, begins, state_from}, Holds.{HasAdded, HasRow, HoldsOf}}
 use Rattle.plugin_session.specs.Holds.{IsFilled, IsRowBy, IsSuccess, Known, RefusedAt, Suite, TaskCause, early}
 use Rattle.plugin_session.specs.{Holds.{early_by, error_by, has_begun, is_cut_off, is_faulty, late_by}, Journal.IsOver}
@@ -22,7 +16,6 @@ use Rattle.plugin_session.specs.Ran.{IsAnswered, IsNewRow, Ran, RanByCourse, Was
 use Rattle.plugin_session.specs.Steps.{IsViewKept, Seen, StepsHold, StepsHoldOfTheLast, after_task, handed, if_any}
 use Rattle.plugin_session.specs.{Steps.{seen, seen_for}, Views.{SessionView, ask_by, att_by, finish, number, own}}
 use Rattle.plugin_session.specs.declared.{answer.TaskAnswer.TaskAnswer, row.Row.Row}
-use Rattle.session_file.specs.declared.session.Task.{Task}
 use Rattle.plugin_session.specs.declared.answer.TaskAnswer.TheVariants as answers
 use Rattle.plugin_session.proofs.{Causes.each-cause, Checked.{check-exact, check-same, row-asks}, Collected.gc-keeps}
 use Rattle.plugin_session.proofs.Courses.{Added.{added_is_whole, refused_add_is_undone}, Deleted.deleted-gone}

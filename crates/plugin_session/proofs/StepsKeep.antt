@@ -1,25 +1,21 @@
 -- What a session keeps over a task.
-use Rattle.std.proofs.Common.{◌≡◌, ◌≤◌, ℕ, ◌+◌, true, false, List, [], ◌∷◌, ◌++◌, length, map, Option, Some, None, refl}
-use Rattle.std.proofs.{Common.{sym, ap, subst, ◌∙◌, ◌&&◌, arith}, lemmas.{Bool.Decides.nat_tests, List.append-nil}}
-use Rattle.std.proofs.lemmas.List.{length-append, length_push, map-append, Elements.{All-head, All-nil, All-push}}
-use Rattle.std.proofs.lemmas.{List.{Elements.{All-tail, All-weaker}, Folds.list_all-append}, Option.IfSome_then}
-use Rattle.std.proofs.lemmas.Option.{slice_get_within}
-use Rattle.std.specs.{List.{All, AllByRecursion, list_all, slice_get}, Option.IfSome, Prelude.{filter, slice_index_or}}
-use Rattle.ip_pool.proofs.InOrder.{list_all-weaker}
-use Rattle.kernel_types.specs.{Equal.tag_eq, Terms.is_own, declared.object.{AddrObj.AddrObj, Att.Att}}
-use Rattle.kernel_types.specs.declared.object.{CachedObj.CachedObj, Host.Host, Lease.Lease, Link.Link}
-use Rattle.kernel_types.specs.declared.{object.{RouteObj.RouteObj, Setting.Setting, Tag.Tag}, rule.Rule.Rule}
+use Rattle.plugin_session.proofs.Names.{◌≡◌, ◌≤◌, ℕ, ◌+◌, true, false, List, [], ◌∷◌, ◌++◌, length, map, Option, Some}
+use Rattle.plugin_session.proofs.Names.{None, refl, sym, ap, subst, ◌∙◌, ◌&&◌, arith, slice_get, IfSome, filter}
+use Rattle.plugin_session.proofs.Names.{nat_tests, append-nil, length-append, length_push, map-append, All-head}
+use Rattle.plugin_session.proofs.Names.{All-tail, All-weaker, list_all-append, IfSome_then, slice_get_within, All}
+use Rattle.plugin_session.proofs.Names.{AllByRecursion, list_all, list_all-weaker, is_own, Att, Host, Link, Tag}
+use Rattle.plugin_session.proofs.Names.{no_objects, share_of, leases_in, Made, replies, Task}
+use Rattle.std.proofs.lemmas.List.Elements.{All-nil, All-push}
+use Rattle.std.specs.Prelude.{slice_index_or}
+use Rattle.kernel_types.specs.{Equal.tag_eq, declared.object.{AddrObj.AddrObj, CachedObj.CachedObj, Lease.Lease}}
+use Rattle.kernel_types.specs.declared.{object.{RouteObj.RouteObj, Setting.Setting}, rule.Rule.Rule}
 use Rattle.kernel_types.specs.declared.object.Tag.TheVariants as tags
-use Rattle.plugin_base.specs.Share.{no_objects, share_of}
 use Rattle.pod_file.specs.WellFormed.{IsOpening}
-use Rattle.cni_verbs.specs.Script.{leases_in}
-use Rattle.gc_sweep.specs.Trace.{Made, replies}
 use Rattle.plugin_session.specs.{Holds.Suite, Journal.entry_of, Kept.{IsRowKept, is_numbered, pools_of}, Pools.IsLastOf}
 use Rattle.plugin_session.specs.{Pools.{IsReady, sets_by}, Ran.Ran, Steps.{IsViewKept, StepsKeep, StepsKeepLeases}}
 use Rattle.plugin_session.specs.Steps.{TheFirstViewIsKept, TheViewIsKept, after_task, handed, if_any}
 use Rattle.plugin_session.specs.Views.{SessionView, begun, finish, leased_to, number}
 use Rattle.plugin_session.specs.declared.{answer.TaskAnswer.TaskAnswer, entry.Entry.Entry, row.Row.Row}
-use Rattle.session_file.specs.declared.session.Task.{Task}
 use Rattle.plugin_session.proofs.{Numbered.{filter-none_of, numbered-own}, StepRows.{kept-later, kept-new}}
 use Rattle.plugin_session.proofs.StepShapes.{begun-found, leases-alone, objects-after, ready-after, run_of}
 use Rattle.plugin_session.proofs.{StepViews.{leased_to-before, leased_to-own}, Unpooled.unpooled-leases}

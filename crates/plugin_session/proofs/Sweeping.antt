@@ -1,19 +1,13 @@
 -- A collection, a call at a time.
-use Rattle.std.proofs.Common.{◌≡◌, ℕ, ◌+◌, ◌<◌, Bool, true, false, List, [], ◌∷◌, ◌++◌, Option, Some, None, Result, Ok}
-use Rattle.std.proofs.{Common.{sym, ap, subst, ◌∙◌, refl, inl, inr}, lemmas.Option.{none-some, same_Some}}
-use Rattle.std.specs.Prelude.{IsErr, if◌then◌else◌}
-use Rattle.cni_addr.specs.declared.memory.NoMemory.{NoMemory}
-use Rattle.kernel_types.specs.{Allowed.IsAllowed, Apply.apply, Replies.is_fault, declared.call.Call.Call}
-use Rattle.kernel_types.specs.declared.{call.Call.TheVariants.OwnersOf, object.{Att.Att, Host.Host}}
-use Rattle.kernel_types.proofs.Replies.{IsReplyOf-apply}
-use Rattle.pod_file.specs.declared.command.{Command.Command, ValidAtt.ValidAtt}
-use Rattle.cni_errors.specs.declared.answer.Ending.{Ending}
-use Rattle.cni_verbs.specs.{Replies.{host_after, reply_to}, Script.{State, Collecting, IsOpen, call_of_work}}
-use Rattle.cni_verbs.specs.{Script.{faults_after, finish_of, next_call, swept}, Sweep.{Gc, Job, Step, AskCached}}
-use Rattle.cni_verbs.specs.Sweep.{Delete, Sweep, Work, step_call, work_after}
-use Rattle.gc_sweep.specs.{Trace.{Made, host_on}, View.{HasTaken, jobs_left, sweeps_after, work_of}}
-use Rattle.gc_sweep.specs.declared.place.SweepPlace.{SweepPlace}
-use Rattle.gc_sweep.proofs.{Collected.{fault-falls, work-falls}, Weights.collection_left}
+use Rattle.plugin_session.proofs.Names.{◌≡◌, ℕ, ◌+◌, ◌<◌, Bool, true, false, List, [], ◌∷◌, ◌++◌, Option, Some, None}
+use Rattle.plugin_session.proofs.Names.{Result, Ok, sym, ap, subst, ◌∙◌, refl, inl, inr, none-some, same_Some, IsErr}
+use Rattle.plugin_session.proofs.Names.{if◌then◌else◌, NoMemory, IsAllowed, apply, is_fault, Call, OwnersOf, Att, Host}
+use Rattle.plugin_session.proofs.Names.{IsReplyOf-apply, Command, ValidAtt, Ending, host_after, reply_to, State}
+use Rattle.plugin_session.proofs.Names.{Collecting, IsOpen, call_of_work, faults_after, finish_of, next_call, swept, Gc}
+use Rattle.plugin_session.proofs.Names.{Job, Sweep, Work, work_after, Made, host_on, work_of, collection_left}
+use Rattle.cni_verbs.specs.Sweep.{Step, AskCached, Delete, step_call}
+use Rattle.gc_sweep.specs.{View.{HasTaken, jobs_left, sweeps_after}, declared.place.SweepPlace.SweepPlace}
+use Rattle.gc_sweep.proofs.Collected.{fault-falls, work-falls}
 use Rattle.plugin_session.specs.{Course.{Course, advance, start_work}, Journal.{EndsAs, IsOver, JournalView, Went}}
 use Rattle.plugin_session.specs.{Journal.{after_entries, made_next, may_go}, Pools.{IsReady, Pools}, Sweeping.IsNextOf}
 use Rattle.plugin_session.specs.{Sweeping.MayHaveMade, declared.part.PartEnd.PartEnd}

@@ -1,12 +1,8 @@
 -- How the deletions of several kinds go on, kind by kind, and what goes before them.
-use Rattle.std.proofs.Common.{◌≡◌, ℕ, ◌+◌, ◌<◌, ◌≤◌, true, false, List, [], ◌∷◌, ◌++◌, length, drop, get_or, Some}
-use Rattle.std.proofs.{Common.{Result, Ok, Err, refl, sym, ap, subst, ◌∙◌}, lemmas.List.{drop_all, drop_more}}
-use Rattle.kernel_types.specs.{Replies.is_fault, declared.call.{Call.TheVariants.CacheGet, Kind.Kind, Reply.Reply}}
-use Rattle.kernel_types.specs.declared.{call.Reply.TheVariants.Fault, object.Att.Att}
-use Rattle.pod_file.specs.{Faults.are_after, declared.command.Command.Command}
-use Rattle.cni_errors.specs.{CommandFields.att_of, declared.answer.Ending.Ending}
-use Rattle.cni_verbs.specs.Script.{State, Deleting, Over, ReadingCache, deleting, faulted, finish_of, next_call}
-use Rattle.cni_addr.specs.declared.memory.NoMemory.{NoMemory}
+use Rattle.plugin_session.proofs.Names.{◌≡◌, ℕ, ◌+◌, ◌<◌, ◌≤◌, true, false, List, [], ◌∷◌, ◌++◌, length, drop, get_or}
+use Rattle.plugin_session.proofs.Names.{Some, Result, Ok, Err, refl, sym, ap, subst, ◌∙◌, drop_all, drop_more, is_fault}
+use Rattle.plugin_session.proofs.Names.{CacheGet, Kind, Reply, Fault, Att, are_after, Command, att_of, Ending, State}
+use Rattle.plugin_session.proofs.Names.{Deleting, Over, ReadingCache, deleting, faulted, finish_of, next_call, NoMemory}
 use Rattle.plugin_session.specs.{Course.{Course, advance, at_cache}, Journal.{EndsAs, JournalView, KindEndsAs}}
 use Rattle.plugin_session.specs.Journal.{KindsEndAs, IsOver, Went, after_entries, made_next}
 use Rattle.plugin_session.specs.declared.{delete.KindEnd.KindEnd, part.PartEnd.PartEnd}

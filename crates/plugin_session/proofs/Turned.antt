@@ -1,13 +1,8 @@
 -- From the parts of a task that the journal is turned to, to what is said of the task.
-use Rattle.std.proofs.Common.{◌≡◌, ℕ, ◌+◌, Bool, false, List, [], ◌∷◌, Option, Some, None, refl, sym, ap, subst, ◌∙◌}
-use Rattle.std.proofs.Common.{length, inl, inr, arith}
-use Rattle.std.specs.Prelude.{MatchOption, Result, Ok, Err, IfOk, IsErr}
-use Rattle.cni_addr.specs.declared.memory.NoMemory.{NoMemory}
-use Rattle.kernel_types.specs.declared.object.Host.{Host}
-use Rattle.pod_file.specs.{Faults.are_after, declared.command.Command.Command}
-use Rattle.cni_errors.specs.declared.answer.{Cause.Cause, Ending.{Ending, TheVariants.{Added, Yes, Refused}}}
-use Rattle.cni_verbs.specs.{Replies.reply_to, Script.State}
-use Rattle.gc_sweep.specs.Trace.{Made, host_on, replies}
+use Rattle.plugin_session.proofs.Names.{◌≡◌, ℕ, ◌+◌, Bool, false, List, [], ◌∷◌, Option, Some, None, refl, sym, ap}
+use Rattle.plugin_session.proofs.Names.{subst, ◌∙◌, length, inl, inr, arith, Result, Ok, Err, IfOk, MatchOption, IsErr}
+use Rattle.plugin_session.proofs.Names.{NoMemory, Host, are_after, Command, Cause, Ending, Added, Yes, Refused}
+use Rattle.plugin_session.proofs.Names.{reply_to, State, Made, host_on, replies}
 use Rattle.plugin_session.specs.{Course.{Course, IsRunFrom, advance, begins, state_from}, Holds.{Known, is_faulty}}
 use Rattle.plugin_session.specs.{Journal.{EndsAs, IsOver, JournalView, Went, may_go}, Ran.{Handed, IsAnswerAt}}
 use Rattle.plugin_session.specs.{Ran.{RanByCourse, WasEarly, command_for, course_for}, Runs.{IsAnswerToEnd, IsTurnedTo}}

@@ -1,17 +1,10 @@
 -- An ADD without pools leases nothing.
-use Rattle.std.proofs.Common.{◌≡◌, ℕ, Bool, true, false, not, List, [], ◌∷◌, Some, refl, sym, ap, ◌∙◌}
-use Rattle.std.proofs.lemmas.{Bool.{and_parts, not-true}, Option.same_Some}
-use Rattle.std.specs.List.{list_all}
-use Rattle.cni_addr.specs.declared.address.Addr.{Addr}
-use Rattle.cni_errors.specs.{CommandFields.att_of, declared.answer.Ending.Ending}
-use Rattle.cni_verbs.specs.{Replies.reply_to, Script.{State, AtBegin, AfterLeases, ReadingCache, Deleting, Over}}
-use Rattle.cni_verbs.specs.Script.{after_leases, at_call_after, at_deletion, deleting, leases_in, next_call}
-use Rattle.gc_sweep.specs.Trace.{Made, replies}
-use Rattle.kernel_types.specs.declared.call.{Call.{Call, TheVariants.{Begin, CacheGet}}, Kind.Kind, Reply.Reply}
-use Rattle.kernel_types.specs.declared.{call.Reply.TheVariants.{Done, Fault, Gone, Leased}, object.{Att.Att, Host.Host}}
+use Rattle.plugin_session.proofs.Names.{◌≡◌, ℕ, Bool, true, false, not, List, [], ◌∷◌, Some, refl, sym, ap, ◌∙◌}
+use Rattle.plugin_session.proofs.Names.{and_parts, not-true, same_Some, list_all, Addr, att_of, Ending, reply_to, State}
+use Rattle.plugin_session.proofs.Names.{AtBegin, AfterLeases, ReadingCache, Deleting, Over, after_leases, at_call_after}
+use Rattle.plugin_session.proofs.Names.{at_deletion, deleting, leases_in, next_call, Made, replies, Call, Begin}
+use Rattle.plugin_session.proofs.Names.{CacheGet, Kind, Reply, Done, Fault, Gone, Leased, Att, Host, deletion, Command}
 use Rattle.kernel_types.specs.declared.call.Kind.TheVariants as kinds
-use Rattle.plugin_chain.specs.Wanted.{deletion}
-use Rattle.pod_file.specs.declared.command.Command.{Command}
 use Rattle.plugin_session.specs.{Course.{Course, advance, at_begin, at_cache, leasing}, Laws.{BeginsAt, Run}}
 use Rattle.plugin_session.specs.LawsOfAnswers.{LeasesBySetsAlone, asks_for_lease}
 use Rattle.plugin_session.proofs.{Courses.Runs.{Keeps, along, leases-same}, Leased.{is_lease, none-reply}}

@@ -1,23 +1,14 @@
 -- What an ADD makes, and what it leaves where it was refused.
-use Rattle.std.proofs.Common.{◌≡◌, ℕ, Bool, true, false, List, [], ◌∷◌, ◌++◌, length, Option, Some, None, refl, sym}
-use Rattle.std.proofs.{Common.{◌∙◌, ap, subst, inl, inr, slice_get}, lemmas.{Bool.both_ways, List.append-nil}}
-use Rattle.std.proofs.lemmas.Option.{same_Some}
-use Rattle.std.specs.List.{AllByRecursion}
-use Rattle.cni_addr.specs.declared.{address.Addr.Addr, range.RangeSet.RangeSet}
-use Rattle.cni_errors.specs.declared.answer.{Cause.Cause, Ending.TheVariants.{Added, Refused}}
-use Rattle.cni_verbs.specs.{Replies.{is_granted, reply_to}, Script.{State, AtBegin, Leasing, AfterLeases, ReadingCache}}
-use Rattle.cni_verbs.specs.Script.{Deleting, Over, finish_of, leased_by, leases_in, next_call, Collecting}
-use Rattle.gc_sweep.specs.Trace.{Made, host_on, replies}
-use Rattle.kernel_types.specs.{Allowed.{HasRangesApart, IsAllowed}, Apply.Calls.{last_leased, lease_taken}}
-use Rattle.kernel_types.specs.{Apply.Calls.leased_addresses, Equal.att_eq, Sound.IsSound, Terms.lease_of}
-use Rattle.kernel_types.specs.declared.call.{Call.{Call, TheVariants.{Begin, LeaseNext}}, Kind.Kind, Reply.Reply}
-use Rattle.kernel_types.specs.declared.{call.Reply.TheVariants.{Done, Leased}, object.{Att.Att, Host.Host}}
-use Rattle.ip_pool.specs.Pool.{pick_of}
-use Rattle.kernel_types.proofs.Cases.{att_eq-refl}
-use Rattle.net_conf.specs.declared.first.HostLocalConf.{HostLocalConf}
-use Rattle.plugin_base.specs.{Calls.{is_call_of, is_plugin_call_of}, Share.{no_objects, share_of, share_after_call}}
-use Rattle.plugin_base.specs.Share.{share_after_calls}
-use Rattle.plugin_base.proofs.{OtherCalls.{call-plugin, share-other}, OwnCalls.{share-begin, share-lease, share-own}}
+use Rattle.plugin_session.proofs.Names.{◌≡◌, ℕ, Bool, true, false, List, [], ◌∷◌, ◌++◌, length, Option, Some, None}
+use Rattle.plugin_session.proofs.Names.{refl, sym, ◌∙◌, ap, subst, inl, inr, slice_get, both_ways, append-nil}
+use Rattle.plugin_session.proofs.Names.{same_Some, AllByRecursion, Addr, RangeSet, Cause, Added, Refused, is_granted}
+use Rattle.plugin_session.proofs.Names.{reply_to, State, AtBegin, Leasing, AfterLeases, ReadingCache, Deleting, Over}
+use Rattle.plugin_session.proofs.Names.{finish_of, leased_by, leases_in, next_call, Collecting, Made, host_on, replies}
+use Rattle.plugin_session.proofs.Names.{HasRangesApart, IsAllowed, last_leased, lease_taken, leased_addresses, att_eq}
+use Rattle.plugin_session.proofs.Names.{IsSound, lease_of, Call, Begin, LeaseNext, Kind, Reply, Done, Leased, Att, Host}
+use Rattle.plugin_session.proofs.Names.{pick_of, att_eq-refl, HostLocalConf, is_call_of, is_plugin_call_of, no_objects}
+use Rattle.plugin_session.proofs.Names.{share_of, share_after_call, share_after_calls, share-other}
+use Rattle.plugin_base.proofs.{OtherCalls.call-plugin, OwnCalls.{share-begin, share-lease, share-own}}
 use Rattle.plugin_base.proofs.Refusals.{refused-lease, refused-same}
 use Rattle.plugin_session.specs.{Course.advance, Holds.{IsPartOf, has_begun, is_begun}, Journal.IsOver}
 use Rattle.plugin_session.specs.Laws.{EachAddLeavesOthers, EachAddMakesParts, EachAddStaysReady, EachAddedIsWhole}

@@ -1,21 +1,14 @@
 -- What holds of an ADD after each of its entries.
-use Rattle.std.proofs.Common.{◌≡◌, ℕ, Bool, true, false, List, [], ◌∷◌, ◌++◌, length, Option, Some, None, refl, sym}
-use Rattle.std.proofs.{Common.{◌∙◌, ap, subst, append_assoc, arith, ◌⊎◌, inl, inr}, lemmas.List.append-nil}
-use Rattle.std.proofs.lemmas.List.{length_push, map-append}
-use Rattle.std.specs.List.{list_all}
-use Rattle.cni_addr.specs.declared.{address.Addr.Addr, range.RangeSet.RangeSet}
+use Rattle.plugin_session.proofs.Names.{◌≡◌, ℕ, Bool, true, false, List, [], ◌∷◌, ◌++◌, length, Option, Some, None}
+use Rattle.plugin_session.proofs.Names.{refl, sym, ◌∙◌, ap, subst, append_assoc, arith, ◌⊎◌, inl, inr, append-nil}
+use Rattle.plugin_session.proofs.Names.{length_push, map-append, list_all, Addr, RangeSet, Cause, Added, Refused}
+use Rattle.plugin_session.proofs.Names.{is_granted, reply_to, State, AtBegin, BeforeLeases, Leasing, AfterLeases}
+use Rattle.plugin_session.proofs.Names.{ReadingCache, Deleting, FindingEntry, Asking, Changing, Collecting, Over}
+use Rattle.plugin_session.proofs.Names.{after_leases, at_call_after, faulted, leased_by, leases_in, next_call, Made}
+use Rattle.plugin_session.proofs.Names.{host_on, replies, HasKindsAlone, IsSound, lease_of, Call, Begin, Reply, Done}
+use Rattle.plugin_session.proofs.Names.{Leased, Host, HostLocalConf, Share, no_objects, share_of, share_after_call}
+use Rattle.plugin_session.proofs.Names.{share_after_calls, share_after_calls-append}
 use Rattle.cni_addr.proofs.Lists.{list_all-push}
-use Rattle.cni_errors.specs.declared.answer.{Cause.Cause, Ending.TheVariants.{Added, Refused}}
-use Rattle.cni_verbs.specs.{Replies.{is_granted, reply_to}, Script.{State, AtBegin, BeforeLeases, Leasing, AfterLeases}}
-use Rattle.cni_verbs.specs.Script.{ReadingCache, Deleting, FindingEntry, Asking, Changing, Collecting, Over}
-use Rattle.cni_verbs.specs.Script.{after_leases, at_call_after, faulted, leased_by, leases_in, next_call}
-use Rattle.gc_sweep.specs.Trace.{Made, host_on, replies}
-use Rattle.gc_sweep.proofs.OfKinds.{HasKindsAlone}
-use Rattle.kernel_types.specs.{Sound.IsSound, Terms.lease_of, declared.call.Call.{Call, TheVariants.Begin}}
-use Rattle.kernel_types.specs.declared.{call.Reply.{Reply, TheVariants.{Done, Leased}}, object.Host.Host}
-use Rattle.net_conf.specs.declared.first.HostLocalConf.{HostLocalConf}
-use Rattle.plugin_base.specs.Share.{Share, no_objects, share_of, share_after_call, share_after_calls}
-use Rattle.plugin_base.proofs.CallLists.{share_after_calls-append}
 use Rattle.plugin_session.specs.{Course.{advance, at_begin, at_lease, leasing}, Holds.{IsPartOf, has_begun}, Laws.IsAdd}
 use Rattle.plugin_session.specs.{Laws.{Run, own_att, part_of}, Pools.sets_by, Tasks.{forward_of, kinds_back}}
 use Rattle.plugin_session.specs.declared.row.Row.{Row}

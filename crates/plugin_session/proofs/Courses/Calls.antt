@@ -1,25 +1,20 @@
 -- The calls of an ADD after its leases, and what all of them make.
-use Rattle.std.proofs.Common.{◌≡◌, Bool, true, false, List, [], ◌∷◌, ◌++◌, map, Option, Some, None, refl, sym, ◌∙◌, ap}
-use Rattle.std.proofs.{Common.subst, lemmas.Bool.and_parts}
-use Rattle.std.specs.{List.{AllByRecursion, list_all, list_any}, Option.{option_map, option_or}, Prelude.find}
-use Rattle.cni_addr.specs.declared.address.Addr.{Addr}
-use Rattle.cni_addr.proofs.{Cases.by_test, Lists.{list_any-append_left, list_any-append_right}}
-use Rattle.cni_result.specs.declared.cached.Cached.{Cached}
-use Rattle.cni_verbs.specs.Script.{leased_by}
-use Rattle.gc_sweep.proofs.OfKinds.{HasKindsAlone, HasKindsAlone-call}
-use Rattle.kernel_types.specs.{Allowed.IsAllowed, Apply.{apply, Calls.{has_link_of, has_master, is_same_addr}}}
-use Rattle.kernel_types.specs.{Apply.Calls.{is_same_route, is_same_setting, master_is_bridge_or_none}, Codes.kind_eq}
-use Rattle.kernel_types.specs.{Equal.rule_eq, Terms.{has_named_ns, is_own, lease_of, link_at}, declared.call.Call.Call}
-use Rattle.kernel_types.specs.declared.call.Call.TheVariants.{VethAdd, MacvlanAdd, AddrAdd, RouteAdd, RuleAppend}
-use Rattle.kernel_types.specs.declared.call.{Call.TheVariants.{SettingSet, LeaseNext, CachePut}, Kind.Kind, Reply.Reply}
-use Rattle.kernel_types.specs.declared.object.{Att.Att, Host.Host}
+use Rattle.plugin_session.proofs.Names.{◌≡◌, Bool, true, false, List, [], ◌∷◌, ◌++◌, map, Option, Some, None, refl, sym}
+use Rattle.plugin_session.proofs.Names.{◌∙◌, ap, subst, find, and_parts, AllByRecursion, list_all, list_any, option_or}
+use Rattle.plugin_session.proofs.Names.{option_map, Addr, by_test, Cached, leased_by, HasKindsAlone, IsAllowed, apply}
+use Rattle.plugin_session.proofs.Names.{has_link_of, has_master, is_same_addr, is_same_route, is_same_setting}
+use Rattle.plugin_session.proofs.Names.{master_is_bridge_or_none, rule_eq, has_named_ns, is_own, lease_of, link_at}
+use Rattle.plugin_session.proofs.Names.{Call, VethAdd, MacvlanAdd, AddrAdd, RouteAdd, RuleAppend, SettingSet, LeaseNext}
+use Rattle.plugin_session.proofs.Names.{CachePut, Kind, Reply, Att, Host, att_eq-refl, HostLocalConf, IsWellFormedCall}
+use Rattle.plugin_session.proofs.Names.{is_plugin_call_of, Share, no_objects, share_after_call, share_after_calls}
+use Rattle.plugin_session.proofs.Names.{share_after_calls-append, is_own_call}
+use Rattle.cni_addr.proofs.Lists.{list_any-append_left, list_any-append_right}
+use Rattle.gc_sweep.proofs.OfKinds.{HasKindsAlone-call}
+use Rattle.kernel_types.specs.Codes.{kind_eq}
 use Rattle.kernel_types.specs.declared.call.Kind.TheVariants as kinds
-use Rattle.kernel_types.proofs.Cases.{att_eq-refl, by_way}
-use Rattle.net_conf.specs.declared.first.HostLocalConf.{HostLocalConf}
-use Rattle.plugin_base.specs.{Calls.{IsWellFormedCall, has_kind, is_of_kinds, is_plugin_call_of}, Share.Share}
-use Rattle.plugin_base.specs.Share.{no_objects, share_after_call, share_after_calls}
-use Rattle.plugin_base.proofs.CallLists.{share_after_calls-append}
-use Rattle.plugin_registry.specs.Own.{IsPluginCall, is_own_call}
+use Rattle.kernel_types.proofs.Cases.{by_way}
+use Rattle.plugin_base.specs.Calls.{has_kind, is_of_kinds}
+use Rattle.plugin_registry.specs.Own.{IsPluginCall}
 use Rattle.plugin_registry.proofs.OwnCalls.{own-plugin_call}
 use Rattle.plugin_session.specs.{Holds.IsPartOf, Laws.{IsOwnRow, part_of}, Tasks.{forward_by, forward_of, kinds_back}}
 use Rattle.plugin_session.specs.{Views.cached_by, declared.row.Row.Row}

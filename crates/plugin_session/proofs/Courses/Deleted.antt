@@ -1,11 +1,7 @@
 -- What a DEL leaves.
-use Rattle.std.proofs.Common.{◌≡◌, ℕ, List, [], refl, ◌∙◌, ap, subst, inl, inr}
-use Rattle.cni_errors.specs.declared.answer.Ending.TheVariants.{Yes}
-use Rattle.cni_verbs.specs.Script.{State, ReadingCache, Over, faulted}
-use Rattle.gc_sweep.specs.Trace.{Made}
+use Rattle.plugin_session.proofs.Names.{◌≡◌, ℕ, List, [], refl, ◌∙◌, ap, subst, inl, inr, Yes, State, ReadingCache}
+use Rattle.plugin_session.proofs.Names.{Over, faulted, Made, Att, Host, share_of}
 use Rattle.gc_sweep.proofs.Removes.{within_trans}
-use Rattle.kernel_types.specs.declared.object.{Att.Att, Host.Host}
-use Rattle.plugin_base.specs.Share.{share_of}
 use Rattle.plugin_session.specs.Laws.{EachDelLeavesOthers, EachDelMakesParts, EachDelOnlyRemoves, EachDelStaysReady}
 use Rattle.plugin_session.specs.Laws.{EachDeletedIsGone, EachIdleDelLeavesTheHost, IsDel, Run, end_from, finish}
 use Rattle.plugin_session.specs.Laws.{own_att}

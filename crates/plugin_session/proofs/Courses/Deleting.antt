@@ -1,23 +1,16 @@
 -- What the deletions of a course leave, whichever ending they come to.
-use Rattle.std.proofs.Common.{◌≡◌, ℕ, Bool, true, false, List, [], ◌∷◌, ◌++◌, Some, refl, sym, ◌∙◌, ap, subst, inl, inr}
-use Rattle.std.proofs.{Common.{◌⊎◌, arith}, lemmas.Option.same_Some}
-use Rattle.std.specs.{List.list_any, Prelude.find}
-use Rattle.cni_errors.specs.{CommandFields.att_of, declared.answer.Ending.Ending}
-use Rattle.cni_verbs.specs.{Replies.reply_to, Script.{State, AtBegin, BeforeLeases, Leasing, AfterLeases, ReadingCache}}
-use Rattle.cni_verbs.specs.Script.{Deleting, FindingEntry, Asking, Changing, Collecting, Over, deleting, faulted}
-use Rattle.cni_verbs.specs.Script.{next_call, at_deletion, leases_in}
-use Rattle.gc_sweep.specs.{Keep.IsWithin, Trace.{Made, host_on}}
-use Rattle.gc_sweep.proofs.{Deletions.{deletes, deletion-none}, Lists.list_any-snoc, OfKinds.HasKindsAlone}
-use Rattle.gc_sweep.proofs.{OfKinds.HasKindsAlone-removes, Removes.within_same}
-use Rattle.kernel_types.specs.{Apply.apply, Equal.att_eq, Replies.is_fault, Sound.IsSound, Terms.is_own}
-use Rattle.kernel_types.specs.declared.call.{Call.{Call, TheVariants.CacheGet}, Kind.Kind, Reply.Reply}
-use Rattle.kernel_types.specs.declared.{call.Reply.TheVariants.{Gone, Fault}, object.{Att.Att, Host.Host}}
+use Rattle.plugin_session.proofs.Names.{◌≡◌, ℕ, Bool, true, false, List, [], ◌∷◌, ◌++◌, Some, refl, sym, ◌∙◌, ap, subst}
+use Rattle.plugin_session.proofs.Names.{inl, inr, ◌⊎◌, arith, find, same_Some, list_any, att_of, Ending, reply_to}
+use Rattle.plugin_session.proofs.Names.{State, AtBegin, BeforeLeases, Leasing, AfterLeases, ReadingCache, Deleting}
+use Rattle.plugin_session.proofs.Names.{FindingEntry, Asking, Changing, Collecting, Over, deleting, faulted, next_call}
+use Rattle.plugin_session.proofs.Names.{at_deletion, leases_in, IsWithin, Made, host_on, HasKindsAlone, apply, att_eq}
+use Rattle.plugin_session.proofs.Names.{is_fault, IsSound, is_own, Call, CacheGet, Kind, Reply, Gone, Fault, Att, Host}
+use Rattle.plugin_session.proofs.Names.{att_eq-refl, is_call_of, Share, no_objects, share_of, share-other, deletion}
+use Rattle.plugin_session.proofs.Names.{Command}
+use Rattle.gc_sweep.proofs.{Deletions.{deletes, deletion-none}, Lists.list_any-snoc, OfKinds.HasKindsAlone-removes}
+use Rattle.gc_sweep.proofs.Removes.{within_same}
 use Rattle.kernel_types.specs.declared.call.Kind.TheVariants as kinds
-use Rattle.kernel_types.proofs.Cases.{att_eq-refl}
-use Rattle.plugin_base.specs.{Calls.is_call_of, Share.{Share, no_objects, share_of}}
-use Rattle.plugin_base.proofs.{Deletions.{gone-links, gone-none, no-links}, OtherCalls.share-other}
-use Rattle.plugin_chain.specs.Wanted.{deletion}
-use Rattle.pod_file.specs.declared.command.Command.{Command}
+use Rattle.plugin_base.proofs.Deletions.{gone-links, gone-none, no-links}
 use Rattle.plugin_session.specs.{Course.{Course, advance, at_cache}, Pools.{IsReady, Pools}}
 use Rattle.plugin_session.proofs.{Courses.Runs.{host-made, on-call, replied}, Ready.{deletion-allowed, made_on}}
 use Rattle.plugin_session.proofs.Ready.{ready-deletion}

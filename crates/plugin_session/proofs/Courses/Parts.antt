@@ -1,11 +1,10 @@
 -- Objects that are some of others, list by list.
-use Rattle.std.proofs.Common.{◌≡◌, Bool, true, false, List, [], ◌∷◌, ◌++◌, refl, ap, subst, inl, inr}
-use Rattle.std.specs.Prelude.{filter, if◌then◌else◌}
+use Rattle.plugin_session.proofs.Names.{◌≡◌, Bool, true, false, List, [], ◌∷◌, ◌++◌, refl, ap, subst, inl, inr, filter}
+use Rattle.plugin_session.proofs.Names.{if◌then◌else◌, HasKindsAlone, is_own, Kind, Att, Host, Share, share_of}
 use Rattle.gc_sweep.specs.Keep.{OnlyRemoves}
-use Rattle.gc_sweep.proofs.{Lists.drops-trans, OfKinds.HasKindsAlone}
-use Rattle.kernel_types.specs.{Terms.is_own, Touch.DropsOnly, declared.{call.Kind.Kind, object.{Att.Att, Host.Host}}}
+use Rattle.gc_sweep.proofs.Lists.{drops-trans}
+use Rattle.kernel_types.specs.Touch.{DropsOnly}
 use Rattle.kernel_types.proofs.ChangeLemmas.{DropsOnly-nothing}
-use Rattle.plugin_base.specs.Share.{Share, share_of}
 use Rattle.plugin_session.specs.Holds.{IsPartOf}
 
 -- ---- lists

@@ -1,13 +1,9 @@
 -- What each entry of a run keeps holds after the run.
-use Rattle.std.proofs.Common.{◌≡◌, ℕ, ◌+◌, Bool, true, false, List, [], ◌∷◌, ◌++◌, Some, sym, ◌∙◌, ap, subst}
-use Rattle.std.proofs.{Common.append_assoc, lemmas.List.{append-nil, map-append, Elements.filter_map-append}}
-use Rattle.std.specs.Prelude.{if◌then◌else◌}
-use Rattle.cni_verbs.specs.{Replies.{host_after, reply_to}, Script.{State, leased_by, leases_in, next_call}}
-use Rattle.gc_sweep.specs.Trace.{Made, host_from, host_on, replies}
-use Rattle.kernel_types.specs.{Apply.apply, Replies.is_fault, declared.call.{Call.Call, Reply.Reply}}
-use Rattle.kernel_types.specs.declared.{call.Reply.TheVariants.Fault, object.Host.Host}
-use Rattle.kernel_types.proofs.Replies.{IsReplyOf-apply}
-use Rattle.pod_file.specs.declared.command.Command.{Command}
+use Rattle.plugin_session.proofs.Names.{◌≡◌, ℕ, ◌+◌, Bool, true, false, List, [], ◌∷◌, ◌++◌, Some, sym, ◌∙◌, ap, subst}
+use Rattle.plugin_session.proofs.Names.{append_assoc, append-nil, map-append, filter_map-append, if◌then◌else◌}
+use Rattle.plugin_session.proofs.Names.{host_after, reply_to, State, leased_by, leases_in, next_call, Made, host_from}
+use Rattle.plugin_session.proofs.Names.{host_on, replies, apply, is_fault, Call, Reply, Fault, Host, IsReplyOf-apply}
+use Rattle.plugin_session.proofs.Names.{Command}
 use Rattle.plugin_session.specs.Course.{Course, IsRunFrom, advance, state_from}
 use Rattle.plugin_session.proofs.Ready.{made_on}
 

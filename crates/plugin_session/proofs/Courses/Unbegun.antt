@@ -1,14 +1,9 @@
 -- An ADD whose Begin was not granted made no other call, and left the host, whichever course it has.
-use Rattle.std.proofs.Common.{◌≡◌, ℕ, Bool, true, false, List, [], ◌∷◌, ◌++◌, Some, None, refl, sym, subst, ◌⊎◌, inl}
-use Rattle.std.proofs.{Common.inr, lemmas.{Bool.both_ways, Option.same_Some}}
-use Rattle.cni_addr.proofs.Cases.{by_test}
-use Rattle.cni_errors.specs.declared.answer.{Cause.Cause, Ending.TheVariants.Refused}
-use Rattle.cni_verbs.specs.{Replies.{is_granted, reply_to}, Script.{State, AtBegin, Over, finish_of, leased_by}}
-use Rattle.cni_verbs.specs.Script.{next_call}
-use Rattle.gc_sweep.specs.Trace.{Made, host_on}
-use Rattle.kernel_types.specs.{Terms.{has_objects, is_host_or_ns}, declared.call.Call.{Call, TheVariants.Begin}}
-use Rattle.kernel_types.specs.declared.{call.Reply.{Reply, TheVariants.{Done, Leased}}, object.{Att.Att, Host.Host}}
-use Rattle.plugin_base.specs.Share.{share_of}
+use Rattle.plugin_session.proofs.Names.{◌≡◌, ℕ, Bool, true, false, List, [], ◌∷◌, ◌++◌, Some, None, refl, sym, subst}
+use Rattle.plugin_session.proofs.Names.{◌⊎◌, inl, inr, both_ways, same_Some, by_test, Cause, Refused, is_granted}
+use Rattle.plugin_session.proofs.Names.{reply_to, State, AtBegin, Over, finish_of, leased_by, next_call, Made, host_on}
+use Rattle.plugin_session.proofs.Names.{has_objects, is_host_or_ns, Call, Begin, Reply, Done, Leased, Att, Host}
+use Rattle.plugin_session.proofs.Names.{share_of}
 use Rattle.plugin_session.specs.{Course.{advance, at_begin}, Holds.has_begun, Journal.IsOver, Laws.BeginsAt}
 use Rattle.plugin_session.specs.Laws.{EachUnbegunAddIsUndone, EachUnbegunAddLeavesTheHost, IsUndone, Run, end_from}
 use Rattle.plugin_session.specs.Laws.{finish, own_att}

@@ -1,5 +1,4 @@
-use Rattle.std.proofs.{Common.{true, Ok, Err, subst, refl, rules}, lemmas.Result.err_from_is_err_and}
-use Rattle.kernel_types.specs.declared.call.Call.TheVariants.{Begin}
+use Rattle.plugin_session.proofs.Names.{true, Ok, Err, subst, refl, rules, err_from_is_err_and, Begin}
 use Rattle.plugin_session.specs.{Adds.CallEndsAs, declared.{begun.Begun.Begun, step.StepEnd.StepEnd}}
 use Rattle.plugin_session.proofs.AddEnds.{adds-begun, adds-none, adds-refused, adds-stopped, adds-unmade}
 use Rattle.plugin_session.proofs.add.add.Goals as goal

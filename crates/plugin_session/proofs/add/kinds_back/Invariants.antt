@@ -1,4 +1,4 @@
-use Rattle.std.proofs.Common.{◌≡◌, take}
+use Rattle.plugin_session.proofs.Names.{◌≡◌, take}
 use Rattle.plugin_session.proofs.add.kinds_back.Given as goal
 
 abbrev pub invariant-loop-kind : goal.invariant-loop-kind

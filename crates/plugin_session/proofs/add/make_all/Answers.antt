@@ -1,6 +1,5 @@
-use Rattle.std.proofs.{Common.{◌≡◌, Ok, Err, Option, subst, refl, rules}, lemmas.Result.err_from_is_err_and}
-use Rattle.std.specs.Option.{option_copied}
-use Rattle.net_conf.specs.declared.first.HostLocalConf.{HostLocalConf}
+use Rattle.plugin_session.proofs.Names.{◌≡◌, Ok, Err, Option, subst, refl, rules, err_from_is_err_and, option_copied}
+use Rattle.plugin_session.proofs.Names.{HostLocalConf}
 use Rattle.plugin_session.specs.{Adds.{ask_for, pools_of}, Pools.{IsReady, sets_by}, declared.step.StepEnd.StepEnd}
 use Rattle.plugin_session.specs.declared.step.StepEnd.TheVariants.{Granted}
 use Rattle.plugin_session.proofs.AddEnds.{LeasesGo, all-made, all-short, all-unasked, all-unleased, fills-none}

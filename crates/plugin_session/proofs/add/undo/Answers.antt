@@ -1,5 +1,4 @@
-use Rattle.std.proofs.Common.{◌≡◌, Some, sym, ◌∙◌, rules}
-use Rattle.std.specs.Option.{option_copied}
+use Rattle.plugin_session.proofs.Names.{◌≡◌, Some, sym, ◌∙◌, rules, option_copied}
 use Rattle.plugin_session.specs.Tasks.{kinds_back}
 use Rattle.plugin_session.proofs.AddEnds.{undone-refused}
 use Rattle.plugin_session.proofs.add.undo.Goals as goal

@@ -1,7 +1,4 @@
-use Rattle.std.proofs.Common.{ap, subst, sym, List, [], Some, ◌≡◌, rules}
-use Rattle.cni_result.specs.declared.cached.Cached.{Cached}
-use Rattle.kernel_types.specs.declared.call.Kind.{Kind}
-use Rattle.plugin_registry.specs.{Own.OwnCalls, declared.ask.Ask.Ask}
+use Rattle.plugin_session.proofs.Names.{ap, subst, sym, List, [], Some, ◌≡◌, rules, Cached, Kind, OwnCalls, Ask}
 use Rattle.plugin_session.specs.Adds.{IsAnswer, ask_for}
 use Rattle.plugin_session.proofs.AddEnds.{askable}
 use Rattle.plugin_session.proofs.ask.fill.Goals as goal

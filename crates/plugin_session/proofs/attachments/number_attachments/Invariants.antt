@@ -1,4 +1,4 @@
-use Rattle.std.proofs.Common.{◌≡◌, ℕ, Option, None, Some, length, slice_get, take}
+use Rattle.plugin_session.proofs.Names.{◌≡◌, ℕ, Option, None, Some, length, slice_get, take}
 use Rattle.plugin_session.proofs.Numbers.{AreNumberedTo, at_names}
 use Rattle.plugin_session.proofs.attachments.number_attachments.Given as goal
 

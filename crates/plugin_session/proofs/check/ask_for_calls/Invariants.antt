@@ -1,4 +1,4 @@
-use Rattle.std.proofs.Common.{◌≡◌, ◌+◌, ◌++◌, ◌≤◌, drop}
+use Rattle.plugin_session.proofs.Names.{◌≡◌, ◌+◌, ◌++◌, ◌≤◌, drop}
 use Rattle.plugin_session.specs.Tasks.{call_questions}
 use Rattle.plugin_session.proofs.check.ask_for_calls.Given as goal
 

@@ -1,6 +1,4 @@
-use Rattle.std.proofs.Common.{◌≡◌, ◌++◌, map, take}
-use Rattle.cni_errors.specs.ObjectQuestions.{lease_question}
-use Rattle.kernel_types.specs.Terms.{lease_of}
+use Rattle.plugin_session.proofs.Names.{◌≡◌, ◌++◌, map, take, lease_question, lease_of}
 use Rattle.plugin_session.proofs.check.ask_for_leases.Given as goal
 
 -- the questions of the addresses so far

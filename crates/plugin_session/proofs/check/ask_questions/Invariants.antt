@@ -1,4 +1,4 @@
-use Rattle.std.proofs.Common.{◌≡◌, length}
+use Rattle.plugin_session.proofs.Names.{◌≡◌, length}
 use Rattle.plugin_session.proofs.Asking.{AskedSoFar}
 use Rattle.plugin_session.proofs.check.ask_questions.Given as goal
 

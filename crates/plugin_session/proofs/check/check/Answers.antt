@@ -1,8 +1,4 @@
-use Rattle.std.proofs.Common.{◌≡◌, ◌∙◌, sym, subst, ap}
-use Rattle.std.specs.Option.{option_copied}
-use Rattle.cni_errors.specs.CommandFields.{att_of}
-use Rattle.kernel_types.specs.declared.{call.Call.TheVariants.CacheGet, object.Att.Att}
-use Rattle.pod_file.specs.declared.command.Command.{Command}
+use Rattle.plugin_session.proofs.Names.{◌≡◌, ◌∙◌, sym, subst, ap, option_copied, att_of, CacheGet, Att, Command}
 use Rattle.plugin_session.specs.{Asking.AreProbes, Course.Course}
 use Rattle.plugin_session.proofs.Entered.{EnteredAs, entry-asked, entry-failed, entry-then, probes-row}
 use Rattle.plugin_session.proofs.check.check.{Given.Over, Goals.After-end_by_entry}

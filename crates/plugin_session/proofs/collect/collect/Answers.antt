@@ -1,4 +1,4 @@
-use Rattle.std.proofs.Common.{◌∙◌, sym}
+use Rattle.plugin_session.proofs.Names.{◌∙◌, sym}
 use Rattle.plugin_session.proofs.Sweeping.{IsNext, sweep-falls, swept-failed, swept-more, swept-over, swept-stopped}
 use Rattle.plugin_session.proofs.{Sweeping.{swept-unread, told-next, told-none}, collect.collect.Given.Over}
 use Rattle.plugin_session.proofs.collect.collect.Goals.{In-Some}

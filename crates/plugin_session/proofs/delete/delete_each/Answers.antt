@@ -1,5 +1,4 @@
-use Rattle.std.proofs.lemmas.Result.{err_from_is_err_and}
-use Rattle.kernel_types.specs.declared.call.Kind.TheVariants.{Links}
+use Rattle.plugin_session.proofs.Names.{err_from_is_err_and, Links}
 use Rattle.plugin_session.proofs.TakenBack.{each-fault, each-gone, each-refused, each-stopped, leaves-fewer, ready-then}
 use Rattle.plugin_session.proofs.delete.delete_each.Goals as goal
 

@@ -1,5 +1,4 @@
-use Rattle.std.proofs.Common.{drop}
-use Rattle.kernel_types.specs.Sound.{IsSound}
+use Rattle.plugin_session.proofs.Names.{drop, IsSound}
 use Rattle.plugin_session.proofs.{KindEnds.StaysReady, TakenBack.LeavesKinds}
 use Rattle.plugin_session.proofs.delete.delete_each.Given as goal
 

@@ -1,4 +1,4 @@
-use Rattle.std.proofs.{Common.{◌≡◌, false, rules, ◌∙◌, sym}, lemmas.Result.err_from_is_err_and}
+use Rattle.plugin_session.proofs.Names.{◌≡◌, false, rules, ◌∙◌, sym, err_from_is_err_and}
 use Rattle.plugin_session.specs.Journal.{may_go}
 use Rattle.plugin_session.proofs.KindEnds.{deletions-fewer, ready-more, ready-same, stays-ended, stays-more}
 use Rattle.plugin_session.proofs.KindEnds.{stays-refused, stays-stopped}

@@ -1,6 +1,4 @@
-use Rattle.kernel_types.specs.Sound.{IsSound}
-use Rattle.plugin_base.specs.Share.{share_of}
-use Rattle.gc_sweep.specs.Deletions.{deletions_of}
+use Rattle.plugin_session.proofs.Names.{IsSound, share_of, deletions_of}
 use Rattle.plugin_session.proofs.KindEnds.{StaysAt, StaysReady}
 use Rattle.plugin_session.proofs.delete.delete_kind.Given as goal
 

@@ -1,5 +1,4 @@
-use Rattle.std.proofs.Common.{◌∙◌, ap, subst, Ok}
-use Rattle.cni_verbs.specs.Script.{faulted}
+use Rattle.plugin_session.proofs.Names.{◌∙◌, ap, subst, Ok, faulted}
 use Rattle.plugin_session.specs.declared.delete.KindEnd.{KindEnd}
 use Rattle.plugin_session.proofs.TakenBack.{EndsEach, kinds-fault, kinds-gone, kinds-stopped}
 use Rattle.plugin_session.proofs.delete.delete_kinds.Goals as goal

@@ -1,5 +1,4 @@
-use Rattle.std.proofs.Common.{ap, sym, ◌∙◌}
-use Rattle.cni_verbs.specs.Script.{faulted}
+use Rattle.plugin_session.proofs.Names.{ap, sym, ◌∙◌, faulted}
 use Rattle.plugin_session.proofs.TakenBack.{back-fault, back-then, ready-cache, ready-then}
 use Rattle.plugin_session.proofs.delete.take_back.Goals as goal
 

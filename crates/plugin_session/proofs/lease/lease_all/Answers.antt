@@ -1,7 +1,5 @@
-use Rattle.std.proofs.Common.{◌≡◌, ◌+◌, true, drop, length, slice_get, Some, Ok, rules, ap, subst, ◌∙◌}
-use Rattle.std.proofs.lemmas.{List.drop_all, Result.err_from_is_err_and}
-use Rattle.ip_pool.specs.Pool.{are_apart}
-use Rattle.net_conf.specs.Sets.{ranges_of}
+use Rattle.plugin_session.proofs.Names.{◌≡◌, ◌+◌, true, drop, length, slice_get, Some, Ok, rules, ap, subst, ◌∙◌}
+use Rattle.plugin_session.proofs.Names.{drop_all, err_from_is_err_and, are_apart, ranges_of}
 use Rattle.plugin_session.specs.{Adds.LeaseEndsAs, declared.step.StepEnd.StepEnd}
 use Rattle.plugin_session.proofs.AddSteps.{leases-allowed, leases-at, leases-done, leases-end, leases-more}
 use Rattle.plugin_session.proofs.AddSteps.{leases-ready, leases-refused, lease-count, left-of, other-is_short}

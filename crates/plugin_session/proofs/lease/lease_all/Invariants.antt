@@ -1,4 +1,5 @@
-use Rattle.std.proofs.Common.{◌≡◌, ◌≤◌, drop, length, vec_capacity}
+use Rattle.plugin_session.proofs.Names.{◌≡◌, ◌≤◌, drop, length}
+use Rattle.std.proofs.Common.{vec_capacity}
 use Rattle.plugin_session.proofs.AddSteps.{LeasesFirst}
 use Rattle.plugin_session.proofs.lease.lease_all.Given as goal
 

@@ -1,5 +1,4 @@
-use Rattle.std.proofs.Common.{◌≡◌, length, rules}
-use Rattle.kernel_types.specs.declared.call.Call.TheVariants.{LeaseNext}
+use Rattle.plugin_session.proofs.Names.{◌≡◌, length, rules, LeaseNext}
 use Rattle.plugin_session.specs.{Adds.IsMade, Journal.made_next}
 use Rattle.plugin_session.proofs.AddSteps.{lease-ends}
 use Rattle.plugin_session.proofs.lease.lease_next.Goals as goal

@@ -1,7 +1,5 @@
-use Rattle.std.proofs.Common.{None, refl, sym, ap, ◌∙◌}
-use Rattle.cni_errors.specs.CommandFields.{del_refusal}
+use Rattle.plugin_session.proofs.Names.{None, refl, sym, ap, ◌∙◌, del_refusal, option_map}
 use Rattle.plugin_session.specs.{Holds.{Known, Suite}, Runs.{answered, handed_of}}
-use Rattle.std.specs.Prelude.{option_map}
 use Rattle.pod_file.specs.declared.command.Verb.TheVariants as verbs
 use Rattle.plugin_session.proofs.{EarlyAdds.views, RanTasks.{collects-early, early-as, is-del, is-check, ran-plain}}
 use Rattle.plugin_session.proofs.run.run_by_verb.Goals as goal

@@ -1,7 +1,5 @@
-use Rattle.std.proofs.Common.{◌≡◌, [], None, IfOk, refl, sym, ap, subst, ◌∙◌}
-use Rattle.cni_errors.specs.{CommandFields.{att_of, del_refusal}, declared.answer.Ending.TheVariants.Yes}
-use Rattle.cni_verbs.specs.Script.{ReadingCache}
-use Rattle.std.specs.Option.{option_copied}
+use Rattle.plugin_session.proofs.Names.{◌≡◌, [], None, IfOk, refl, sym, ap, subst, ◌∙◌, att_of, del_refusal, Yes}
+use Rattle.plugin_session.proofs.Names.{ReadingCache, option_copied}
 use Rattle.plugin_session.specs.{Course.begins, Kept.pools_of, Ran.{command_for, course_for}, Runs.IsAnswerToEnd}
 use Rattle.plugin_session.specs.{Runs.handed_of, Tasks.kinds_back}
 use Rattle.plugin_session.proofs.Turned.{runs-cut, runs-ends, stopped-there}

@@ -1,6 +1,4 @@
-use Rattle.std.proofs.Common.{ℕ, List, [], None, IfOk, refl, sym, ap, subst}
-use Rattle.cni_verbs.specs.{Script.Collecting, Sweep.Gc}
-use Rattle.pod_file.specs.declared.command.ValidAtt.{ValidAtt}
+use Rattle.plugin_session.proofs.Names.{ℕ, List, [], None, IfOk, refl, sym, ap, subst, Collecting, Gc, ValidAtt}
 use Rattle.plugin_session.specs.{Course.start_work, Kept.pools_of, Ran.{command_for, course_for}, Runs.IsAnswerToEnd}
 use Rattle.plugin_session.specs.Runs.{handed_of}
 use Rattle.plugin_session.proofs.Turned.{runs-cut, runs-ends, stopped-there}

@@ -1,4 +1,4 @@
-use Rattle.std.proofs.Common.{sym, subst}
+use Rattle.plugin_session.proofs.Names.{sym, subst}
 use Rattle.plugin_session.specs.{Holds.Suite, Runs.{RanTask, handed_of}}
 use Rattle.plugin_session.proofs.{EarlyAdds.views, RanTasks.{ran-from, ran-idle}}
 use Rattle.plugin_session.proofs.run.run_task.Goals as goal

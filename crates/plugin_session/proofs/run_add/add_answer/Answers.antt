@@ -1,7 +1,4 @@
-use Rattle.std.proofs.Common.{◌≡◌, List, IfOk, length, refl, sym, ap, subst}
-use Rattle.pod_file.specs.declared.command.Command.{Command}
-use Rattle.kernel_types.specs.declared.call.Kind.{Kind}
-use Rattle.cni_errors.specs.CommandFields.{att_of}
+use Rattle.plugin_session.proofs.Names.{◌≡◌, List, IfOk, length, refl, sym, ap, subst, Command, Kind, att_of}
 use Rattle.plugin_session.specs.{Adds.{IsFor, IsUnbegun}, Course.begins, Holds.Suite, Pools.sets_by, Ran.Handed}
 use Rattle.plugin_session.specs.{Ran.command_for, Runs.{IsAnswerToAdd, handed_of}, Views.PluginView}
 use Rattle.plugin_session.specs.declared.begun.Begun.{Begun}

@@ -1,6 +1,4 @@
-use Rattle.std.proofs.Common.{Some, codes, sym, ap, ◌∙◌}
-use Rattle.std.specs.Option.{option_copied}
-use Rattle.cni_errors.specs.CommandFields.{add_refusal}
+use Rattle.plugin_session.proofs.Names.{Some, codes, sym, ap, ◌∙◌, option_copied, add_refusal}
 use Rattle.plugin_session.specs.{Holds.{Suite, Wrong}, Ran.command_for, Runs.handed_of}
 use Rattle.pod_file.specs.declared.command.Verb.TheVariants as verbs
 use Rattle.plugin_session.proofs.EarlyAdds.{named-view, no-plugin, plugin-there, views, words-wrong}

@@ -1,4 +1,4 @@
-use Rattle.std.proofs.Common.{sym, subst}
+use Rattle.plugin_session.proofs.Names.{sym, subst}
 use Rattle.plugin_session.specs.{Holds.Suite, Runs.{RunsAdd, handed_of}}
 use Rattle.plugin_session.proofs.run_add.run_begun.Goals as goal
 

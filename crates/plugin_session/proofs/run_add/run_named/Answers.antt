@@ -1,7 +1,4 @@
-use Rattle.std.proofs.Common.{◌≡◌, None, Some, sym, ap, ◌∙◌}
-use Rattle.std.specs.Option.{option_copied}
-use Rattle.plugin_registry.specs.Needs.{first_unmet}
-use Rattle.cni_errors.specs.CommandFields.{add_refusal}
+use Rattle.plugin_session.proofs.Names.{◌≡◌, None, Some, sym, ap, ◌∙◌, option_copied, first_unmet, add_refusal}
 use Rattle.plugin_session.specs.{Holds.{Suite, Wrong, wrong_error}, Ran.command_for, Runs.handed_of, Views.PluginView}
 use Rattle.pod_file.specs.declared.command.Verb.TheVariants as verbs
 use Rattle.plugin_session.proofs.{EarlyAdds.{none-wrong, option-wrong, words-container}, RanTasks.{early-as, ran-add}}

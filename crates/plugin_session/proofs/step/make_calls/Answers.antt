@@ -1,4 +1,4 @@
-use Rattle.std.proofs.{Common.{◌≡◌, ◌+◌, drop, Ok, subst, rules}, lemmas.{List.drop_all, Result.err_from_is_err_and}}
+use Rattle.plugin_session.proofs.Names.{◌≡◌, ◌+◌, drop, Ok, subst, rules, drop_all, err_from_is_err_and}
 use Rattle.plugin_session.specs.{Adds.CallEndsAs, declared.step.StepEnd.StepEnd}
 use Rattle.plugin_session.proofs.AddCalls.{makes-done, makes-end, makes-more, makes-next, makes-ready, makes-refused}
 use Rattle.plugin_session.proofs.{AddCalls.makes-unmade, AddSteps.other-is_short}

@@ -1,4 +1,4 @@
-use Rattle.std.proofs.Common.{drop}
+use Rattle.plugin_session.proofs.Names.{drop}
 use Rattle.plugin_session.proofs.AddCalls.{MakesFirst}
 use Rattle.plugin_session.proofs.step.make_calls.Given as goal
 

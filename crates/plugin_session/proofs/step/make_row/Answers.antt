@@ -1,5 +1,4 @@
-use Rattle.std.proofs.{Common.{Ok, subst, rules}, lemmas.Result.err_from_is_err_and}
-use Rattle.kernel_types.specs.declared.call.Call.TheVariants.{CachePut}
+use Rattle.plugin_session.proofs.Names.{Ok, subst, rules, err_from_is_err_and, CachePut}
 use Rattle.plugin_session.specs.{Adds.CallEndsAs, declared.step.StepEnd.StepEnd}
 use Rattle.plugin_session.proofs.AddCalls.{MakesCalls, cache-ready, row-cached, row-refused, row-short, row-uncached}
 use Rattle.plugin_session.proofs.AddSteps.{other-is_short}

@@ -1,6 +1,4 @@
-use Rattle.std.proofs.{Common.{ap, sym, ◌∙◌}, lemmas.Option.{none-some, same_Some}}
-use Rattle.std.specs.Option.{option_copied}
-use Rattle.kernel_types.specs.Replies.{is_fault}
+use Rattle.plugin_session.proofs.Names.{ap, sym, ◌∙◌, none-some, same_Some, option_copied, is_fault}
 use Rattle.plugin_session.proofs.journal.Journal.met_fault.Goals as goal
 
 pub returns-in-Some : goal.returns-in-Some

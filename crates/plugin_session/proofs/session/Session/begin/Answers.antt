@@ -1,4 +1,4 @@
-use Rattle.std.proofs.Common.{length, ap, refl, ◌∙◌, arith}
+use Rattle.plugin_session.proofs.Names.{length, ap, refl, ◌∙◌, arith}
 use Rattle.plugin_session.proofs.SessionKept.{begun-is, begun-kept}
 use Rattle.plugin_session.proofs.session.Session.begin.Goals as goal
 

@@ -1,5 +1,4 @@
-use Rattle.std.proofs.Common.{◌≡◌, ◌<◌, ◌≤◌, ◌+◌, length, map, refl, sym, ap, subst, arith}
-use Rattle.std.specs.Option.{option_copied}
+use Rattle.plugin_session.proofs.Names.{◌≡◌, ◌<◌, ◌≤◌, ◌+◌, length, map, refl, sym, ap, subst, arith, option_copied}
 use Rattle.plugin_session.specs.{Holds.{Grows, Suite}, Ran.Handed, Views.{SessionView, number}}
 use Rattle.plugin_session.proofs.SessionKept.{IsAfter, after-grows, after-holds, after-kept, handed-read, read-at}
 use Rattle.plugin_session.proofs.session.Session.task.{Given.Over, Goals.After-push_reserved}
