@@ -1,19 +1,11 @@
 -- A packet is let through as the attachments with `firewall` say.
-use Rattle.std.proofs.Common.{◌≡◌, Bool, true, false, Option, Some, None, refl, sym, ◌∙◌, ap, subst, inl, inr, ◌⊎◌}
-use Rattle.std.proofs.lemmas.{Bool.{and_from, and_parts, or_left, or_right}, Option.same_Some}
-use Rattle.std.specs.{List.list_any, Option.option_map_or, Prelude.{◌&&◌, ◌||◌}}
-use Rattle.cni_addr.specs.{Lists.IsAmong, declared.address.Addr.Addr}
-use Rattle.cni_result.specs.declared.{cached.Cached.Cached, result.IpEntry.IpEntry}
-use Rattle.cni_verbs.specs.Questions.{addresses_of_result}
-use Rattle.firewall_tuning.specs.Firewall.{accept_from, accept_replies_to}
-use Rattle.kernel_types.specs.{Equal.{addr_eq, chain_eq}, declared.object.{Att.Att, Host.Host, Tag.Tag}}
-use Rattle.kernel_types.specs.declared.{object.Tag.TheVariants.{Outside, Base, Own}, rule.Rule.Rule}
+use Rattle.packet_laws.proofs.Names.{◌≡◌, Bool, true, false, Option, Some, None, refl, sym, ◌∙◌, ap, subst, inl, inr}
+use Rattle.packet_laws.proofs.Names.{◌⊎◌, and_from, and_parts, same_Some, list_any, option_map_or, ◌&&◌, ◌||◌, IsAmong}
+use Rattle.packet_laws.proofs.Names.{Addr, Cached, IpEntry, addresses_of_result, accept_from, accept_replies_to}
+use Rattle.packet_laws.proofs.Names.{addr_eq, chain_eq, Att, Host, Tag, Outside, Base, Own, Rule, NetList, any_match}
+use Rattle.packet_laws.proofs.Names.{fate_of, matches, matches_in, IsPacket, Packet, list_named, Plan, given_by_list}
+use Rattle.std.proofs.lemmas.Bool.{or_left, or_right}
 use Rattle.kernel_types.specs.declared.rule.Chain.TheVariants as chains
-use Rattle.net_conf.specs.declared.list.NetList.{NetList}
-use Rattle.packet_probe.specs.{Fate.{any_match, fate_of, matches, matches_in}, Value.IsPacket}
-use Rattle.packet_probe.specs.declared.packet.Packet.{Packet}
-use Rattle.pod_workers.specs.{Plans.list_named, declared.plan.Plan.Plan}
-use Rattle.plugin_chain.specs.Wanted.{given_by_list}
 use Rattle.packet_laws.specs.{Complete.IsAttached, Packets.{has_address, has_firewall, has_ip_masq, is_firewall}}
 use Rattle.packet_laws.specs.Packets.{lets_through}
 use Rattle.packet_laws.proofs.{Equal.{addr-same, chain-same, equal-addr}, Lists.{among-any, among-map, any-among}}

@@ -1,13 +1,9 @@
 -- A host where CHECK finds all is complete.
-use Rattle.std.proofs.{Common.{◌≡◌, Bool, true, false, refl, ap, sym, ◌∙◌}, lemmas.Bool.and_parts}
-use Rattle.std.specs.Prelude.{◌&&◌}
-use Rattle.cni_result.specs.declared.cached.Cached.{Cached}
-use Rattle.kernel_types.specs.Equal.{addr_obj_eq, lease_eq, link_eq, route_eq, rule_eq, setting_eq}
-use Rattle.kernel_types.specs.declared.object.{Att.Att, Host.Host}
-use Rattle.net_conf.specs.declared.list.NetList.{NetList}
+use Rattle.packet_laws.proofs.Names.{◌≡◌, Bool, true, false, refl, ap, sym, ◌∙◌, and_parts, ◌&&◌, Cached, lease_eq}
+use Rattle.packet_laws.proofs.Names.{rule_eq, Att, Host, NetList, are_in, Plan}
+use Rattle.kernel_types.specs.Equal.{addr_obj_eq, link_eq, route_eq, setting_eq}
 use Rattle.plugin_base.specs.Share.{Share}
-use Rattle.pod_laws.specs.Checked.{are_in, has_objects_of}
-use Rattle.pod_workers.specs.declared.plan.Plan.{Plan}
+use Rattle.pod_laws.specs.Checked.{has_objects_of}
 use Rattle.packet_laws.specs.Complete.{CheckedHostsAreComplete, IsAttached, IsChecked, wanted_of}
 
 two-of_six : (a b c d e f : Bool) → (a && (b && (c && (d && (e && f))))) ≡ true → (d ≡ true) × (f ≡ true)

@@ -1,16 +1,15 @@
 -- Rules and leases are the same by the test only where they are equal.
-use Rattle.std.proofs.Common.{◌≡◌, ℕ, Bool, true, List, Option, Some, None, refl, sym, ◌∙◌, ap, eqb-true, nat_eq, arith}
-use Rattle.std.proofs.lemmas.{Bool.and_parts, Slice.Eq.bytes_eq-Decides}
+use Rattle.packet_laws.proofs.Names.{◌≡◌, ℕ, Bool, true, List, Option, Some, None, refl, sym, ◌∙◌, ap, nat_eq, arith}
+use Rattle.packet_laws.proofs.Names.{and_parts, each_key_once, Addr, Cidr, Family, family_eq-true, addr_eq, chain_eq}
+use Rattle.packet_laws.proofs.Names.{family_eq, lease_eq, proto_eq, rule_eq, Lease, Tag, Chain, Rule, Target}
+use Rattle.std.proofs.{Common.eqb-true, lemmas.Slice.Eq.bytes_eq-Decides}
 use Rattle.std.specs.{Cmp.{booleans_Decides, partial_equiv_from_equiv}, Option.option_eq}
-use Rattle.cni_addr.specs.{KeyLaws.HasFirstOfEachKey, Lists.each_key_once, declared.address.{Addr.Addr, Cidr.Cidr}}
-use Rattle.cni_addr.specs.declared.address.Family.{Family}
+use Rattle.cni_addr.specs.KeyLaws.{HasFirstOfEachKey}
 use Rattle.cni_addr.specs.declared.address.Family.TheVariants as families
-use Rattle.cni_addr.proofs.{KeyLists.each_key_once-first_of_each, Networks.family_eq-true}
+use Rattle.cni_addr.proofs.KeyLists.{each_key_once-first_of_each}
 use Rattle.cni_result.specs.declared.cached.Proto.{Proto}
 use Rattle.cni_result.specs.declared.cached.Proto.TheVariants as protos
-use Rattle.kernel_types.specs.Equal.{addr_eq, chain_eq, cidr_eq, family_eq, lease_eq, proto_eq, rule_eq, table_eq}
-use Rattle.kernel_types.specs.{Equal.target_eq, declared.{object.{Lease.Lease, Tag.Tag}, rule.{Chain.Chain, Rule.Rule}}}
-use Rattle.kernel_types.specs.declared.rule.{Table.Table, Target.Target}
+use Rattle.kernel_types.specs.{Equal.{cidr_eq, table_eq, target_eq}, declared.rule.Table.Table}
 use Rattle.kernel_types.specs.declared.rule.Chain.TheVariants as chains
 use Rattle.kernel_types.specs.declared.rule.Table.TheVariants as tables
 use Rattle.kernel_types.specs.declared.rule.Target.TheVariants as targets

@@ -1,27 +1,21 @@
 -- A complete host of a legal history is settled.
-use Rattle.std.proofs.Common.{◌≡◌, ℕ, Bool, true, false, List, [], ◌∷◌, ◌++◌, Option, Some, None, refl, sym, ◌∙◌, ap}
-use Rattle.std.proofs.{Common.{subst, inl, inr}, lemmas.{List.append-nil, Option.same_Some}}
-use Rattle.std.specs.{List.list_any, Prelude.{is_some, if◌then◌else◌}}
-use Rattle.cni_addr.specs.{Lists.IsAmong, declared.address.Addr.Addr}
-use Rattle.cni_result.specs.declared.{cached.{Cached.Cached, PortMapping.PortMapping}, result.AddResult.AddResult}
+use Rattle.packet_laws.proofs.Names.{◌≡◌, ℕ, Bool, true, false, List, [], ◌∷◌, ◌++◌, Option, Some, None, refl, sym, ◌∙◌}
+use Rattle.packet_laws.proofs.Names.{ap, subst, inl, inr, append-nil, same_Some, list_any, if◌then◌else◌, IsAmong, Addr}
+use Rattle.packet_laws.proofs.Names.{Cached, PortMapping, takes_mappings, addresses_of_result, AreCandidates, lease_eq}
+use Rattle.packet_laws.proofs.Names.{rule_eq, cached_in, is_own, Att, CachedObj, Own, own-own, Chained, NetList}
+use Rattle.packet_laws.proofs.Names.{share_of, given_by_list, sets_of, list_named, host_of, Plan, IsPart, are_in}
+use Rattle.packet_laws.proofs.Names.{EveryLegalHistoryIsGuaranteed, among-part}
+use Rattle.std.specs.Prelude.{is_some}
+use Rattle.cni_result.specs.declared.result.AddResult.{AddResult}
 use Rattle.cni_errors.specs.CommandFields.{att_of}
-use Rattle.cni_verbs.specs.{Mappings.{mappings_of, takes_mappings}, Questions.addresses_of_result, Script.leases_in}
-use Rattle.host_local.specs.Laws.{AreCandidates}
-use Rattle.kernel_types.specs.{Equal.{lease_eq, rule_eq}, Terms.{cached_in, is_own}, declared.object.Att.Att}
-use Rattle.kernel_types.specs.declared.object.{CachedObj.CachedObj, Tag.TheVariants.Own}
-use Rattle.kernel_types.proofs.Cases.{own-own}
-use Rattle.net_conf.specs.declared.{chained.Chained.Chained, list.NetList.NetList}
-use Rattle.plugin_base.specs.Share.{share_of}
+use Rattle.cni_verbs.specs.{Mappings.mappings_of, Script.leases_in}
 use Rattle.plugin_chain.specs.Wanted.{all_chained_results, cached_of, chained_result, first_plugin_result}
-use Rattle.plugin_chain.specs.Wanted.{given_by_list, result_of_add, sets_of, wanted}
+use Rattle.plugin_chain.specs.Wanted.{result_of_add, wanted}
 use Rattle.plugin_chain.proofs.GivenAddresses.{chained-ips}
 use Rattle.pod_file.specs.{Commands.is_of_network, declared.command.Command.Command}
-use Rattle.pod_workers.specs.{Legal.Legal, Plans.{list_for, list_named}, World.{World, after, host_of, replies_of}}
-use Rattle.pod_workers.specs.declared.plan.{Entry.Entry, Plan.Plan}
-use Rattle.pod_workers.proofs.Sound.{if-listed}
-use Rattle.pod_laws.specs.{AskedFor.IsPart, CachedResults.IsResultOfItsAdd, Checked.are_in}
-use Rattle.pod_laws.specs.Guaranteed.{EveryLegalHistoryIsGuaranteed, IsWellKept}
-use Rattle.pod_laws.proofs.Parts.{among-part}
+use Rattle.pod_workers.specs.{Legal.Legal, Plans.list_for, World.{World, after, replies_of}, declared.plan.Entry.Entry}
+use Rattle.pod_workers.proofs.GoesWell.{if-listed}
+use Rattle.pod_laws.specs.{CachedResults.IsResultOfItsAdd, Guaranteed.IsWellKept}
 use Rattle.packet_laws.specs.{Complete.{IsAttached, IsComplete, wanted_of}, Packets.has_ip_masq}
 use Rattle.packet_laws.proofs.{Equal.{lease-equal, rule-equal}, Lists.{all-among, any-among, filter-among}}
 use Rattle.packet_laws.proofs.{Settled.{IsSettled, IsSettledFor, rules_for}, WantedRules.{chained_rules, first-rules}}

@@ -6,6 +6,7 @@ mod Lists
 mod MasqRules
 mod Masquerading
 mod Matching
+mod Names
 mod Packets
 mod Rewriting
 mod Settled

@@ -1,12 +1,11 @@
 -- Lists: where an element stands, what is found first, and lists in which no two elements are the same.
-use Rattle.std.proofs.Common.{◌≡◌, ◌⊎◌, Bool, true, false, List, [], ◌∷◌, ◌++◌, map, Option, Some, None, refl, sym, ◌∙◌}
-use Rattle.std.proofs.{Common.{ap, subst, inl, inr, arith}, lemmas.Bool.{and_parts, both_ways, cases_Bool}}
-use Rattle.std.proofs.lemmas.Option.{none-some, same_Some}
-use Rattle.std.specs.{List.{list_all, list_any}, Option.option_or, Prelude.{filter, find, flat_map, fold}}
-use Rattle.std.specs.Prelude.{if◌then◌else◌}
-use Rattle.cni_addr.specs.Lists.{IsAmong, distinct, each_key_once, push_unless_there}
-use Rattle.pod_laws.specs.AskedFor.{IsPart}
-use Rattle.pod_laws.proofs.Parts.{among-part}
+use Rattle.packet_laws.proofs.Names.{◌≡◌, ◌⊎◌, Bool, true, false, List, [], ◌∷◌, ◌++◌, map, Option, Some, None, refl}
+use Rattle.packet_laws.proofs.Names.{sym, ◌∙◌, ap, subst, inl, inr, arith, and_parts, both_ways, none-some, same_Some}
+use Rattle.packet_laws.proofs.Names.{list_all, list_any, filter, find, flat_map, if◌then◌else◌, IsAmong, distinct}
+use Rattle.packet_laws.proofs.Names.{each_key_once, IsPart, among-part}
+use Rattle.std.proofs.lemmas.Bool.{cases_Bool}
+use Rattle.std.specs.{Option.option_or, Prelude.fold}
+use Rattle.cni_addr.specs.Lists.{push_unless_there}
 
 -- ---- an element that passes
 

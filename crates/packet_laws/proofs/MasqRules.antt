@@ -1,13 +1,10 @@
 -- What the rules of Masq of one attachment say of a packet: the first of its addresses that the packet comes from decides.
-use Rattle.std.proofs.Common.{◌≡◌, Bool, true, false, not, List, [], ◌∷◌, Option, Some, refl, sym, ◌∙◌, ap, ap₂}
-use Rattle.std.proofs.lemmas.Bool.{and_parts}
-use Rattle.std.specs.{Option.option_map_or, Prelude.{◌&&◌, find, flat_map, if◌then◌else◌}}
-use Rattle.cni_addr.specs.{Network.contains, declared.address.Addr.Addr}
-use Rattle.kernel_types.specs.{Equal.{addr_eq, rule_eq}, declared.{call.Given.Given, object.Att.Att, rule.Rule.Rule}}
+use Rattle.packet_laws.proofs.Names.{◌≡◌, Bool, true, false, not, List, [], ◌∷◌, Option, Some, refl, sym, ◌∙◌, ap, ap₂}
+use Rattle.packet_laws.proofs.Names.{and_parts, option_map_or, ◌&&◌, find, flat_map, if◌then◌else◌, contains, Addr}
+use Rattle.packet_laws.proofs.Names.{addr_eq, rule_eq, Given, Att, Rule, matches_in, IsPacket, Packet, masquerade_of}
+use Rattle.packet_laws.proofs.Names.{masquerade_out, masquerade_rules, multicast, no_masquerade_in_subnet}
 use Rattle.kernel_types.specs.declared.rule.Chain.TheVariants as chains
-use Rattle.packet_probe.specs.{Fate.{masquerades, matches_in}, Value.IsPacket, declared.packet.Packet.Packet}
-use Rattle.plugin_base.specs.Shapes.{masquerade_of, masquerade_out, masquerade_rules, multicast}
-use Rattle.plugin_base.specs.Shapes.{no_masquerade_in_subnet}
+use Rattle.packet_probe.specs.Fate.{masquerades}
 use Rattle.packet_laws.specs.Packets.{is_outward}
 use Rattle.packet_laws.proofs.{Equal.{addr-same, rule-same}, Lists.find-each_key_once, Matching.inner-matches}
 use Rattle.packet_laws.proofs.Matching.{outer-matches}

@@ -1,24 +1,14 @@
 -- What leaves a container is masqueraded as the list of its only lessee says.
-use Rattle.std.proofs.Common.{◌≡◌, Bool, true, false, not, List, map, Some, refl, sym, ◌∙◌, ap, subst, inl, inr, ◌⊎◌}
-use Rattle.std.proofs.lemmas.Bool.{and_parts}
-use Rattle.std.specs.Prelude.{◌&&◌, ◌||◌, filter, find, flat_map}
-use Rattle.cni_addr.specs.{Lists.{IsAmong, distinct}, declared.address.Addr.Addr}
-use Rattle.cni_result.specs.declared.cached.Cached.{Cached}
-use Rattle.cni_verbs.specs.Questions.{addresses_of_result}
-use Rattle.host_local.specs.Laws.{CandidatesAreGiven}
-use Rattle.kernel_types.specs.{Equal.{addr_eq, chain_eq, rule_eq}, Terms.{is_own, lease_of}, declared.call.Given.Given}
-use Rattle.kernel_types.specs.declared.{object.{Att.Att, Host.Host, Lease.Lease, Tag.TheVariants.Own}, rule.Rule.Rule}
+use Rattle.packet_laws.proofs.Names.{◌≡◌, Bool, true, false, not, List, map, Some, refl, sym, ◌∙◌, ap, subst, inl, inr}
+use Rattle.packet_laws.proofs.Names.{◌⊎◌, and_parts, ◌&&◌, ◌||◌, filter, find, flat_map, IsAmong, distinct, Addr}
+use Rattle.packet_laws.proofs.Names.{Cached, addresses_of_result, CandidatesAreGiven, addr_eq, chain_eq, rule_eq}
+use Rattle.packet_laws.proofs.Names.{is_own, Given, Att, Host, Lease, Own, Rule, own-own, NetList, any_match, fate_of}
+use Rattle.packet_laws.proofs.Names.{first_match, is_masqueraded, matches, matches_in, IsPacket, Fate, Packet}
+use Rattle.packet_laws.proofs.Names.{masquerade_of, masquerade_out, masquerade_rules, no_masquerade_in_subnet, share_of}
+use Rattle.packet_laws.proofs.Names.{given_by_list, sets_of, Plan, IsPart, among-part}
+use Rattle.kernel_types.specs.Terms.{lease_of}
 use Rattle.kernel_types.specs.declared.rule.Chain.TheVariants as chains
-use Rattle.kernel_types.proofs.Cases.{own-own}
-use Rattle.net_conf.specs.declared.list.NetList.{NetList}
-use Rattle.packet_probe.specs.Fate.{any_match, fate_of, first_match, is_masqueraded, matches, matches_in}
-use Rattle.packet_probe.specs.{Value.IsPacket, declared.packet.{Fate.Fate, Packet.Packet}}
-use Rattle.plugin_base.specs.Shapes.{masquerade_of, masquerade_out, masquerade_rules, no_masquerade_in_subnet}
-use Rattle.plugin_base.specs.Share.{share_of}
-use Rattle.plugin_chain.specs.Wanted.{given_by_list, sets_of}
-use Rattle.pod_workers.specs.declared.plan.Plan.{Plan}
-use Rattle.pod_laws.specs.AskedFor.{IsPart}
-use Rattle.pod_laws.proofs.Parts.{among-part, part-drops}
+use Rattle.pod_laws.proofs.Parts.{part-drops}
 use Rattle.packet_laws.specs.{Complete.IsAttached, Packets.{IsMasqueradedAsListed, IsOnlyLessee, has_ip_masq}}
 use Rattle.packet_laws.specs.Packets.{is_outward}
 use Rattle.packet_laws.proofs.{Equal.{addr-itself, rule-same, rules_once}, Lists.{among-any, among-filter, among-map}}

@@ -1,18 +1,13 @@
 -- Which packets the plugins' rules match.
-use Rattle.std.proofs.Common.{◌≡◌, Bool, true, false, not, Option, Some, None, refl, ◌∙◌, ap, ap₂, nat_eq}
-use Rattle.std.proofs.lemmas.Bool.{and_from, and_parts}
-use Rattle.std.specs.{Option.option_map, Prelude.◌&&◌}
-use Rattle.cni_addr.specs.{Network.{contains, whole}, declared.address.{Addr.Addr, Cidr.Cidr, Family.Family}}
-use Rattle.cni_addr.specs.declared.address.Family.TheVariants.{V4, V6}
+use Rattle.packet_laws.proofs.Names.{◌≡◌, Bool, true, false, not, Option, Some, None, refl, ◌∙◌, ap, ap₂, nat_eq}
+use Rattle.packet_laws.proofs.Names.{and_from, and_parts, option_map, ◌&&◌, contains, Addr, Cidr, Family, V4, V6}
+use Rattle.packet_laws.proofs.Names.{PortMapping, accept_from, accept_replies_to, addr_eq, family_eq, proto_eq, Given}
+use Rattle.packet_laws.proofs.Names.{Att, asks, matches_in, IsPacket, Packet, masquerade_out, multicast}
+use Rattle.packet_laws.proofs.Names.{no_masquerade_in_subnet, dnat_of}
+use Rattle.cni_addr.specs.Network.{whole}
 use Rattle.cni_addr.proofs.Networks.{contains_between, contains_whole}
-use Rattle.cni_result.specs.declared.cached.PortMapping.{PortMapping}
-use Rattle.firewall_tuning.specs.Firewall.{accept_from, accept_replies_to}
-use Rattle.kernel_types.specs.{Equal.{addr_eq, family_eq, proto_eq}, declared.{call.Given.Given, object.Att.Att}}
 use Rattle.kernel_types.specs.declared.rule.Chain.TheVariants as chains
-use Rattle.packet_probe.specs.{Fate.{asks, is_of_family, is_to, matches_in}, Value.IsPacket}
-use Rattle.packet_probe.specs.declared.packet.Packet.{Packet}
-use Rattle.plugin_base.specs.Shapes.{masquerade_out, multicast, no_masquerade_in_subnet}
-use Rattle.portmap.specs.Portmap.{dnat_of}
+use Rattle.packet_probe.specs.Fate.{is_of_family, is_to}
 use Rattle.packet_laws.specs.Packets.{is_for}
 use Rattle.packet_laws.proofs.{Equal.{addr-same, equal-addr, family-itself}, Lists.same_answer}
 

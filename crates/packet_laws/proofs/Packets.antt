@@ -1,9 +1,6 @@
 -- In a complete host of a legal history each packet goes as the cached results say.
-use Rattle.host_local.specs.Laws.{CandidatesAreGiven}
-use Rattle.kernel_types.specs.declared.object.Host.{Host}
-use Rattle.packet_probe.specs.{Value.IsPacket, declared.packet.Packet.Packet}
-use Rattle.pod_laws.specs.Guaranteed.{EveryLegalHistoryIsGuaranteed}
-use Rattle.pod_workers.specs.{World.host_of, declared.plan.Plan.Plan}
+use Rattle.packet_laws.proofs.Names.{CandidatesAreGiven, Host, IsPacket, Packet, EveryLegalHistoryIsGuaranteed, host_of}
+use Rattle.packet_laws.proofs.Names.{Plan}
 use Rattle.packet_laws.specs.Packets.{EveryPacketGoesAsCached, GoesAsCached}
 use Rattle.packet_laws.proofs.{Accepting.accepted-as_cached, LegalHosts.settled, Masquerading.masqueraded-as_listed}
 use Rattle.packet_laws.proofs.{Rewriting.rewritten-as_published, Settled.IsSettled}

@@ -1,22 +1,16 @@
 -- The rules of the plugins: in which chains they stand, and which there are.
-use Rattle.std.proofs.Common.{◌≡◌, ◌⊎◌, Bool, true, false, List, [], ◌∷◌, Option, Some, None, refl, sym, ◌∙◌, subst}
-use Rattle.std.proofs.Common.{inl, inr, arith}
-use Rattle.std.specs.{List.list_all, Prelude.{◌||◌, flat_map, if◌then◌else◌}}
-use Rattle.cni_addr.specs.{Lists.{IsAmong, each_key_once}, declared.address.{Addr.Addr, Family.Family}}
-use Rattle.cni_addr.specs.declared.address.Family.TheVariants.{V4, V6}
-use Rattle.cni_result.specs.declared.{cached.PortMapping.PortMapping, result.IpEntry.IpEntry}
-use Rattle.firewall_tuning.specs.Firewall.{accept_from, accept_replies_to, firewall_rules, forward_of}
-use Rattle.kernel_types.specs.{Equal.{chain_eq, rule_eq}, declared.{call.Given.Given, object.Att.Att, rule.Chain.Chain}}
-use Rattle.kernel_types.specs.declared.rule.Rule.{Rule}
+use Rattle.packet_laws.proofs.Names.{◌≡◌, ◌⊎◌, Bool, true, false, List, [], ◌∷◌, Option, Some, None, refl, sym, ◌∙◌}
+use Rattle.packet_laws.proofs.Names.{subst, inl, inr, arith, list_all, ◌||◌, flat_map, if◌then◌else◌, IsAmong}
+use Rattle.packet_laws.proofs.Names.{each_key_once, Addr, Family, V4, V6, PortMapping, IpEntry, accept_from}
+use Rattle.packet_laws.proofs.Names.{accept_replies_to, firewall_rules, chain_eq, rule_eq, Given, Att, Chain, Rule}
+use Rattle.packet_laws.proofs.Names.{first_of_family, masquerade_of, masquerade_out, masquerade_rules}
+use Rattle.packet_laws.proofs.Names.{no_masquerade_in_subnet, list_all-weaker, dnat_of, host_ip_allows, portmap_rules}
+use Rattle.firewall_tuning.specs.Firewall.{forward_of}
 use Rattle.kernel_types.specs.declared.rule.Chain.TheVariants as chains
 use Rattle.net_conf.specs.declared.chained.PortmapConf.{PortmapConf}
-use Rattle.plugin_base.specs.{Families.first_of_family, Shapes.{masquerade_of, masquerade_out, masquerade_rules}}
-use Rattle.plugin_base.specs.Shapes.{no_masquerade_in_subnet}
-use Rattle.kernel_types.proofs.ListLemmas.{list_all-weaker}
 use Rattle.plugin_laws.proofs.Chains.{firewall-stand, masquerade-stand, of_bridge, of_firewall, of_portmap}
 use Rattle.plugin_laws.proofs.Chains.{portmap-stand}
-use Rattle.portmap.specs.Portmap.{dnat_of, from_host, host_ip_allows, mapping_rules, masquerades_of, portmap_rules}
-use Rattle.portmap.specs.Portmap.{rules_for}
+use Rattle.portmap.specs.Portmap.{from_host, mapping_rules, masquerades_of, rules_for}
 use Rattle.packet_laws.proofs.{Equal.{rule-same, rules_once}, Lists.{among-either, among-flat, among-left, among-right}}
 use Rattle.packet_laws.proofs.Lists.{any-same, flat-among, same-any}
 

@@ -1,19 +1,12 @@
 -- A packet is sent on as its port is published.
-use Rattle.std.proofs.Common.{◌≡◌, Bool, true, false, List, ◌∷◌, ◌++◌, Option, Some, None, refl, sym, ◌∙◌, ap, subst}
-use Rattle.std.proofs.lemmas.{Bool.{and_from, and_parts, both_ways}, Option.{none-some, same_Some}}
-use Rattle.std.specs.{List.list_any, Option.{option_and_then, option_map, option_map_or}, Prelude.if◌then◌else◌}
-use Rattle.cni_addr.specs.{Lists.IsAmong, declared.address.{Addr.Addr, Family.Family}}
-use Rattle.cni_addr.proofs.Networks.{family_eq-true}
-use Rattle.cni_result.specs.declared.result.IpEntry.{IpEntry}
-use Rattle.cni_verbs.specs.Questions.{addresses_of_result}
-use Rattle.kernel_types.specs.{Equal.{addr_eq, chain_eq, family_eq}, declared.{object.Host.Host, rule.Rule.Rule}}
+use Rattle.packet_laws.proofs.Names.{◌≡◌, Bool, true, false, List, ◌∷◌, ◌++◌, Option, Some, None, refl, sym, ◌∙◌, ap}
+use Rattle.packet_laws.proofs.Names.{subst, and_from, and_parts, both_ways, none-some, same_Some, list_any}
+use Rattle.packet_laws.proofs.Names.{option_and_then, option_map, option_map_or, if◌then◌else◌, IsAmong, Addr, Family}
+use Rattle.packet_laws.proofs.Names.{family_eq-true, IpEntry, addresses_of_result, addr_eq, chain_eq, family_eq, Host}
+use Rattle.packet_laws.proofs.Names.{Rule, asks, fate_at, fate_of, first_match, matches, matches_in, sent_by, Fate}
+use Rattle.packet_laws.proofs.Names.{Packet, first_of_family, given_by_list, Plan, dnat_of, host_ip_allows}
 use Rattle.kernel_types.specs.declared.rule.Chain.TheVariants as chains
-use Rattle.packet_probe.specs.Fate.{asks, fate_at, fate_of, first_match, matches, matches_in, sent_by}
-use Rattle.packet_probe.specs.declared.packet.{Fate.Fate, Packet.Packet}
-use Rattle.plugin_base.specs.Families.{first_of_family, is_of_family}
-use Rattle.plugin_chain.specs.Wanted.{given_by_list}
-use Rattle.pod_workers.specs.declared.plan.Plan.{Plan}
-use Rattle.portmap.specs.Portmap.{dnat_of, host_ip_allows}
+use Rattle.plugin_base.specs.Families.{is_of_family}
 use Rattle.packet_laws.specs.Packets.{IsPublished, IsRewrittenAsPublished, PublishedPort, has_ip_masq, is_for, left}
 use Rattle.packet_laws.specs.Packets.{rule_by, sent}
 use Rattle.packet_laws.proofs.{Equal.{addr-same, chain-same, family-itself}, Lists.{among-any, any-found, first-among}}

@@ -1,22 +1,12 @@
 -- A settled host: of each attachment it has nothing, or all that its cached result wants. What the rules mean for packets
 -- follows from that alone.
-use Rattle.std.proofs.Common.{◌≡◌, Bool, true, false, List, [], ◌∷◌, Some, refl, ap, inl, inr, arith}
-use Rattle.std.proofs.lemmas.Option.{none-some, same_Some}
-use Rattle.std.specs.{List.list_any, Option.option_map, Prelude.{find, if◌then◌else◌}}
-use Rattle.cni_addr.specs.Lists.{IsAmong}
-use Rattle.cni_result.specs.declared.cached.{Cached.Cached, PortMapping.PortMapping}
-use Rattle.cni_verbs.specs.{Mappings.takes_mappings, Questions.addresses_of_result}
-use Rattle.host_local.specs.Laws.{AreCandidates}
-use Rattle.kernel_types.specs.{Sound.IsSound, Terms.{cached_in, has_objects, is_own, is_owned}, declared.object.Att.Att}
-use Rattle.kernel_types.specs.declared.object.{CachedObj.CachedObj, Host.Host, Lease.Lease, Tag.Tag}
-use Rattle.kernel_types.specs.declared.{object.Tag.TheVariants.{Outside, Base, Own}, rule.Rule.Rule}
-use Rattle.kernel_types.proofs.{Cases.own-own, Isolation.att_eq-same}
-use Rattle.net_conf.specs.declared.list.NetList.{NetList}
-use Rattle.plugin_base.specs.Share.{share_of}
-use Rattle.plugin_chain.specs.Wanted.{given_by_list, sets_of}
-use Rattle.pod_workers.specs.declared.plan.Plan.{Plan}
-use Rattle.pod_laws.specs.AskedFor.{IsPart}
-use Rattle.pod_laws.proofs.Parts.{among-part}
+use Rattle.packet_laws.proofs.Names.{◌≡◌, Bool, true, false, List, [], ◌∷◌, Some, refl, ap, inl, inr, arith, none-some}
+use Rattle.packet_laws.proofs.Names.{same_Some, list_any, option_map, find, if◌then◌else◌, IsAmong, Cached, PortMapping}
+use Rattle.packet_laws.proofs.Names.{takes_mappings, addresses_of_result, AreCandidates, cached_in, is_own, Att}
+use Rattle.packet_laws.proofs.Names.{CachedObj, Host, Lease, Tag, Outside, Base, Own, Rule, own-own, NetList, share_of}
+use Rattle.packet_laws.proofs.Names.{given_by_list, sets_of, Plan, IsPart, among-part}
+use Rattle.kernel_types.specs.{Sound.IsSound, Terms.{has_objects, is_owned}}
+use Rattle.kernel_types.proofs.Isolation.{att_eq-same}
 use Rattle.packet_laws.specs.{Complete.{IsAttached, wanted_of}, Packets.has_ip_masq}
 use Rattle.packet_laws.proofs.{Lists.{all-among, among-any, filter-among}, WantedRules.rules_by}
 

@@ -1,21 +1,16 @@
 -- The rules that the plugins of a list want, by their chains.
-use Rattle.std.proofs.Common.{◌≡◌, Bool, true, false, List, ◌++◌, Some, refl, ◌∙◌, ap, ap₂, inl, inr, arith}
-use Rattle.std.proofs.lemmas.{Bool.both_ways, List.{append-nil, Elements.filter-append}}
-use Rattle.std.specs.{List.{list_all, list_any}, Prelude.{◌||◌, filter, flat_map}}
-use Rattle.cni_addr.specs.{Lists.IsAmong, declared.address.Family.Family}
-use Rattle.cni_result.specs.declared.{cached.PortMapping.PortMapping, result.IpEntry.IpEntry}
-use Rattle.cni_verbs.specs.Mappings.{takes_mappings}
-use Rattle.firewall_tuning.specs.Firewall.{accept_from, accept_replies_to, firewall_rules}
-use Rattle.kernel_types.specs.{Equal.chain_eq, declared.{call.Given.Given, object.Att.Att, rule.Chain.Chain}}
-use Rattle.kernel_types.specs.declared.rule.Rule.{Rule}
+use Rattle.packet_laws.proofs.Names.{◌≡◌, Bool, true, false, List, ◌++◌, Some, refl, ◌∙◌, ap, ap₂, inl, inr, arith}
+use Rattle.packet_laws.proofs.Names.{both_ways, append-nil, list_all, list_any, ◌||◌, filter, flat_map, IsAmong, Family}
+use Rattle.packet_laws.proofs.Names.{PortMapping, IpEntry, takes_mappings, accept_from, accept_replies_to}
+use Rattle.packet_laws.proofs.Names.{firewall_rules, chain_eq, Given, Att, Chain, Rule, list_all-weaker, Chained}
+use Rattle.packet_laws.proofs.Names.{first_of_family, masquerade_rules, dnat_of, host_ip_allows, portmap_rules}
+use Rattle.std.proofs.lemmas.List.Elements.{filter-append}
 use Rattle.kernel_types.specs.declared.rule.Chain.TheVariants as chains
-use Rattle.kernel_types.proofs.ListLemmas.{filter_never, list_all-weaker}
-use Rattle.net_conf.specs.declared.chained.Chained.{Chained, TheVariants.{Portmap, Firewall, Tuning}}
-use Rattle.net_conf.specs.declared.first.First.{First, TheVariants.{Bridge, Ptp, Macvlan}}
-use Rattle.plugin_base.specs.{Families.first_of_family, Shapes.masquerade_rules}
+use Rattle.kernel_types.proofs.ListLemmas.{filter_never}
+use Rattle.net_conf.specs.declared.{chained.Chained.TheVariants.{Portmap, Firewall, Tuning}, first.First.First}
+use Rattle.net_conf.specs.declared.first.First.TheVariants.{Bridge, Ptp, Macvlan}
 use Rattle.plugin_base.proofs.KeyLists.{list_all-flat}
 use Rattle.plugin_chain.specs.{Plugins.{chained_plugin_of, plugin_of}, Wanted.rules_of}
-use Rattle.portmap.specs.Portmap.{dnat_of, host_ip_allows, portmap_rules}
 use Rattle.packet_laws.specs.Packets.{has_ip_masq, is_firewall}
 use Rattle.packet_laws.proofs.Lists.{all-among, among-any, among-either, among-flat, among-right, any-among, filter-all}
 use Rattle.packet_laws.proofs.{Lists.flat-among, PluginRules.{IsDnatRule, IsForwardRule, dnat-rule, dnat-there}}

@@ -1,14 +1,12 @@
 -- The packet as it is after the rewriting, by which its fate is told.
-use Rattle.std.proofs.Common.{◌≡◌, Bool, true, false, List, Option, Some, None, refl, sym, ◌∙◌, ap}
-use Rattle.std.proofs.lemmas.Bool.{and_parts}
-use Rattle.std.specs.{Option.{option_and_then, option_map_or}, Prelude.{unwrap_or, if◌then◌else◌}}
-use Rattle.cni_addr.specs.declared.address.Addr.{Addr}
-use Rattle.cni_addr.proofs.Networks.{family_eq-true}
+use Rattle.packet_laws.proofs.Names.{◌≡◌, Bool, true, false, List, Option, Some, None, refl, sym, ◌∙◌, ap, and_parts}
+use Rattle.packet_laws.proofs.Names.{option_and_then, option_map_or, if◌then◌else◌, Addr, family_eq-true, Rule, Target}
+use Rattle.packet_laws.proofs.Names.{any_match, fate_at, first_match, is_masqueraded, matches_in, sent_by, IsPacket}
+use Rattle.packet_laws.proofs.Names.{Packet}
+use Rattle.std.specs.Prelude.{unwrap_or}
 use Rattle.kernel_types.specs.declared.rule.Chain.TheVariants as chains
-use Rattle.kernel_types.specs.declared.rule.{Rule.Rule, Target.Target}
 use Rattle.kernel_types.specs.declared.rule.Target.TheVariants as targets
-use Rattle.packet_probe.specs.Fate.{any_match, fate_at, fate_by, first_match, is_masqueraded, leads_into, matches_in}
-use Rattle.packet_probe.specs.{Fate.{rewriting, sent_by, sent_to}, Value.IsPacket, declared.packet.Packet.Packet}
+use Rattle.packet_probe.specs.Fate.{fate_by, leads_into, rewriting, sent_to}
 use Rattle.packet_laws.proofs.Lists.{first-found}
 
 -- ---- the packet on its way
