@@ -1,90 +1,26 @@
 -- A request that was printed is read again, part by part.
-use Rattle.std.proofs.Common.{◌≡◌, ℕ, List, [], ◌∷◌, Bool, true, false, codes, Option, Some, None, option_map, Ok, refl}
-use Rattle.std.proofs.{Common.{sym, ap, ◌∙◌}, lemmas.List.Elements.{All-nil, recursion_from_All}}
+use Rattle.std.proofs.Common.{◌≡◌, ℕ, List, [], ◌∷◌, Bool, true, false, Option, Some, None, option_map, Ok, refl, ap}
+use Rattle.std.proofs.{Common.◌∙◌, lemmas.List.Elements.{All-nil, recursion_from_All}}
 use Rattle.std.specs.Prelude.{All, if◌then◌else◌, IfSome}
-use Rattle.serde_json.specs.{Data.{Data, null, boolean, number, string, array, object}, Find.{as_str, as_array}}
+use Rattle.serde_json.specs.Find.{as_array}
 use Rattle.cni_json.specs.{Each.each, Fields.{field_of, member_or, object_of, unless_null}, Json.json_of}
 use Rattle.cni_json.specs.Members.{list_data}
 use Rattle.cni_result.proofs.{Lookups.object_member, ReadAgain.{each_again, everywhere, each_of}}
-use Rattle.cni_result.specs.{Dns.{texts_of, texts_at}, Laws.{IsMapping, IsReadable, MappingsAreReadAgain}}
-use Rattle.cni_result.specs.{Laws.ResultsAreReadAgain, Mappings.mapping_data, Results.result_data}
-use Rattle.cni_result.specs.{Versions.version_text, declared.cached.PortMapping.PortMapping}
-use Rattle.cni_result.specs.declared.{result.AddResult.AddResult, version.Version.{Version, TheVariants.{V0_4, V1_0}}}
-use Rattle.cni_result.specs.declared.version.Version.TheVariants.{V1_1}
-use Rattle.net_conf.proofs.{ChainFacts.each-at, SameKeys.plugin_by_type_at-same}
-use Rattle.net_conf.specs.{Capabilities.asks_for_mappings, List.{name_at, header_at}, Members.{needed_text, ok_map}}
-use Rattle.net_conf.specs.{Names.is_network_name, Plugin.{plugin_by_type_at, plugins_in}, Plugins.type_at}
-use Rattle.net_conf.specs.{RuntimeKeys.HaveSameKeys, Sets.is_object, Versions.{single_version_of, single_version_at}}
-use Rattle.net_conf.specs.Versions.{listed_versions_at, version_texts_at, version_of, version_at}
-use Rattle.net_conf.specs.declared.plugin.Plugin.{Plugin}
-use Rattle.net_conf.specs.declared.error.ConfError.TheVariants as refusal
+use Rattle.cni_result.specs.Laws.{IsMapping, IsReadable, MappingsAreReadAgain, ResultsAreReadAgain}
+use Rattle.cni_result.specs.{Mappings.mapping_data, Results.result_data, declared.cached.PortMapping.PortMapping}
+use Rattle.cni_result.specs.declared.result.AddResult.{AddResult}
+use Rattle.net_conf.proofs.ChainFacts.{each-at}
+use Rattle.net_conf.specs.{Capabilities.asks_for_mappings, Members.ok_map, Names.is_network_name}
+use Rattle.net_conf.specs.{Plugin.{plugin_by_type_at, plugins_in}, declared.plugin.Plugin.Plugin}
 use Rattle.plugin_requests.specs.{Raw.{IsRaw, RawView}, Request.{mappings_for, object_at, request_members, request_of}}
 use Rattle.plugin_requests.specs.Request.{runtime_members, valid_data}
 use Rattle.pod_file.specs.declared.command.{ValidAtt.ValidAtt, Verb.Verb}
-use Rattle.exec_protocol.proofs.RequestMembers.{Parts, made, at_version, at_versions, at_name, at_prev, at_config}
-use Rattle.exec_protocol.proofs.RequestMembers.{at_valid, at_own}
-use Rattle.exec_protocol.specs.{Laws.{IsReadAgain, RequestsAreReadAgain}, Reading.{head_at, prev_if, prev_at}}
-use Rattle.exec_protocol.specs.Reading.{lacks_prev, prev_needed, needed_prev_at, wrong_runtime, mapping_at}
-use Rattle.exec_protocol.specs.Reading.{runtime_mappings_at, mappings_at, wrong_valid, valid_text_at}
-use Rattle.exec_protocol.specs.Reading.{valid_attachment_at, valid_at, runtime_parts_at, front_at, parts_at, request_at}
-use Rattle.exec_protocol.specs.{Reading.request_of_bytes, declared.env.Env.Env}
-
--- ---- the network
-
-single_version_again : (p : Parts) → single_version_at (made p) ≡ Ok (version_text p.list.version ∷ [])
-unfolding single_version_at
-single_version_again p = ap (λ found. single_version_of (field_of as_str found)) (at_version p)
-
-listed_versions_again : (p : Parts) → listed_versions_at (made p) ≡ Ok []
-unfolding listed_versions_at texts_at
-listed_versions_again p =
-    ap (λ found. texts_of (refusal.Invalid (codes "cniVersions")) (field_of as_array found)) (at_versions p)
-
-version_named_again : (version : Version) → version_of (version_text version ∷ []) ≡ Ok version
-version_named_again V0_4 = refl
-version_named_again V1_0 = refl
-version_named_again V1_1 = refl
-
-version_again : (p : Parts) → version_at (made p) ≡ Ok p.list.version
-unfolding version_at version_texts_at
-version_again p = rw (single_version_again p, listed_versions_again p) (version_named_again p.list.version)
-
-name_again : (p : Parts) → is_network_name p.list.name ≡ true → name_at (made p) ≡ Ok p.list.name
-unfolding name_at
-name_again p is =
-    ap (λ found. needed_text (codes "name") is_network_name (field_of as_str found)) (at_name p) ∙ rw is refl
-
-header_again : (p : Parts) → is_network_name p.list.name ≡ true
-    → header_at (made p) ≡ Ok (record { version = p.list.version; name = p.list.name })
-unfolding header_at
-header_again p is = rw (version_again p, name_again p is) refl
-
--- ---- the plugin
-
--- a plugin is read of nothing but an object
-read_of_object : (d : Data) (plugin : Plugin) → plugin_by_type_at d ≡ Ok plugin → is_object d ≡ true
-unfolding plugin_by_type_at type_at
-read_of_object null plugin is = cc
-read_of_object (boolean b) plugin is = cc
-read_of_object (number n) plugin is = cc
-read_of_object (string s) plugin is = cc
-read_of_object (array ds) plugin is = cc
-read_of_object (object ms) plugin is = refl
-
-plugin_again : (p : Parts) (plugin : Plugin) → plugin_by_type_at p.own ≡ Ok plugin
-    → plugin_by_type_at (made p) ≡ Ok plugin
-plugin_again p plugin is =
-    let same : HaveSameKeys p.own (made p) =
-    record { object = read_of_object p.own plugin is; members = λ q own. sym (at_own q p own) } in
-    sym (plugin_by_type_at-same p.own (made p) same) ∙ is
-
-head_again : (p : Parts) (plugin : Plugin) → is_network_name p.list.name ≡ true → plugin_by_type_at p.own ≡ Ok plugin
-    → head_at (made p) ≡ Ok (record {
-      header = record { version = p.list.version; name = p.list.name };
-      plugin = plugin;
-    })
-unfolding head_at
-head_again p plugin name is = rw (header_again p name, plugin_again p plugin is) refl
+use Rattle.exec_protocol.proofs.{HeadAgain.head_again, RequestMembers.{Parts, made, at_prev, at_config, at_valid}}
+use Rattle.exec_protocol.specs.{Laws.{IsReadAgain, RequestsAreReadAgain}, Reading.{prev_if, prev_at, lacks_prev}}
+use Rattle.exec_protocol.specs.Reading.{prev_needed, needed_prev_at, wrong_runtime, mapping_at, runtime_mappings_at}
+use Rattle.exec_protocol.specs.Reading.{mappings_at, wrong_valid, valid_text_at, valid_attachment_at, valid_at}
+use Rattle.exec_protocol.specs.Reading.{runtime_parts_at, front_at, parts_at, request_at, request_of_bytes}
+use Rattle.exec_protocol.specs.declared.env.Env.{Env}
 
 -- ---- the result before it
 
