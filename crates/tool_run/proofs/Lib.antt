@@ -1,4 +1,5 @@
 mod Carried
+mod Determined
 mod Endings
 mod SessionRuns
 mod Verdicts

@@ -1,5 +1,5 @@
 -- What stays of a session while its tasks are run.
-use Rattle.std.proofs.Common.{◌≡◌, ◌∙◌, ◌≤◌, ◌<◌, ◌+◌, ◌-◌, ℕ, Bool, false, List, [], ◌∷◌, ◌++◌, length, sym, ap, arith}
+use Rattle.std.proofs.Common.{◌≡◌, ◌∙◌, ◌≤◌, ◌<◌, ◌+◌, ◌-◌, Bool, false, List, [], ◌∷◌, length, sym, ap, arith}
 use Rattle.std.proofs.{Common.length-append, lemmas.Bool.Decides.nat_tests}
 use Rattle.std.specs.Prelude.{nat_le}
 use Rattle.plugin_session.specs.EachTask.{EachTaskHolds, EachTaskHoldsWithOneMore, GrownViewsGrow, IsGrown}

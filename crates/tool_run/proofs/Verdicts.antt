@@ -1,14 +1,13 @@
 -- The status and the book of a run, by what its words and files come to; and the answers of a book that is over.
-use Rattle.std.proofs.Common.{◌≡◌, ◌≢◌, ◌∙◌, ◌≤◌, ◌<◌, ℕ, List, [], ◌∷◌, length, refl, sym, ap, subst, arith, inl, inr}
-use Rattle.std.proofs.{Common.{Bool, true, false, cond, Option, Some, None, slice_get}, lemmas.Option.none-some}
+use Rattle.std.proofs.Common.{◌≡◌, ◌∙◌, ◌≤◌, ◌<◌, ℕ, List, [], ◌∷◌, length, refl, sym, ap, subst, arith, inl, inr, Bool}
+use Rattle.std.proofs.{Common.{true, false, cond, Option, Some, None, slice_get}, lemmas.Option.none-some}
 use Rattle.std.specs.{List.list_any, Prelude.map}
 use Rattle.session_text.specs.SessionText.{answer_as}
 use Rattle.cni_addr.specs.Lists.{IsAmong}
 use Rattle.cni_io.specs.Files.{StoredFiles}
 use Rattle.cni_errors.specs.declared.answer.Answer.{Answer}
 use Rattle.pod_text.specs.Statuses.{is_failure, is_out_of_memory, status_of}
-use Rattle.pod_workers.specs.{Facts.LegalWorldsMeetEachClause, Plans.{Placed, commands_of}, World.World}
-use Rattle.pod_workers.specs.declared.plan.Plan.{Plan}
+use Rattle.pod_workers.specs.{Facts.LegalWorldsMeetEachClause, Plans.{Placed, commands_of}, declared.plan.Plan.Plan}
 use Rattle.pod_workers.proofs.Rounds.{round-of}
 use Rattle.tool_words.specs.{Words.words_given, declared.words.Words.Words}
 use Rattle.tool_plan.specs.{Dues.AreFiles, Seen.FilesSeen, Verdict.{Verdict, verdict_if, verdict_of}}
@@ -16,7 +15,7 @@ use Rattle.tool_run.specs.Laws.{EachOutcomeIsOfItsVerdict, EachCommandIsAnswered
 use Rattle.tool_run.specs.{Laws.{IsLeftOf, IsStatusOf, RefusedWordsAreReported}, Statuses.{HasReadAll, IsReport, Left}}
 use Rattle.tool_run.specs.Statuses.{of_session, IsUsage, cut_short, of_book, of_failed_read, of_refusal, of_usage}
 use Rattle.tool_run.specs.Statuses.{out_of_memory, reported}
-use Rattle.tool_run.proofs.Endings.{has_not_read}
+use Rattle.tool_run.proofs.Determined.{has_not_read}
 
 status_is : (answers : List (Option Answer)) → IsAmong {X = ℕ} (status_of answers) (0 ∷ 1 ∷ 8 ∷ [])
 status_is answers = go (list_any is_out_of_memory answers) (list_any is_failure answers)
