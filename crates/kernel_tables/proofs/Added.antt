@@ -1,5 +1,6 @@
 -- What a look-up says of a list before a row is put at its end.
 use Rattle.std.proofs.Common.{◌≡◌, ℕ, Bool, true, false, ap, List, [], ◌∷◌, Option, Some, None, refl, sym, ◌∙◌, arith}
+use Rattle.std.proofs.lemmas.Option.{same_Some}
 use Rattle.std.specs.{List.list_any, Prelude.{find, ◌&&◌}, Str.bytes_eq}
 use Rattle.cni_addr.specs.Lists.{distinct}
 use Rattle.kernel_types.proofs.{ListLemmas.{list_any-find_none, list_any-none}, Removal.same_place}
@@ -25,15 +26,12 @@ use Rattle.kernel_types.specs.contracts.keys.SettingKeyPartialEq.TheImpl.{eq-val
 use Rattle.object_tables.specs.Table.{has_key}
 use Rattle.kernel_tables.proofs.Owned.{att-same}
 
-some-inj : {K : Type 0} (a b : K) → Some a ≡ Some b → a ≡ b
-some-inj a b h = cc
-
 -- a key that is not found is free
 pub free-key : {K T : Type 0} (eq : K → K → Bool) (key_of : T → Option K) (rows : List T) (sought own : K)
     → list_any (has_key eq key_of sought) rows ≡ false → own ≡ sought
     → (key : K) → Some own ≡ Some key → list_any (has_key eq key_of key) rows ≡ false
 free-key eq key_of rows sought own none same key is =
-    ap (λ k. list_any (has_key eq key_of k) rows) (sym (some-inj own key is) ∙ same) ∙ none
+    ap (λ k. list_any (has_key eq key_of k) rows) (sym (same_Some own key is) ∙ same) ∙ none
 
 -- where no row has an object's key, none is the same object
 pub free-alias : {K T : Type 0} (eq : K → K → Bool) (same : T → T → Bool) (key_of : T → K)
@@ -41,7 +39,7 @@ pub free-alias : {K T : Type 0} (eq : K → K → Bool) (same : T → T → Bool
     → (rows : List T) (sought : K) (own : T) → list_any (has_key eq (λ x. Some (key_of x)) sought) rows ≡ false → key_of own ≡ sought
     → (alias : T) → Some own ≡ Some alias → list_any (has_key same (λ x. Some x) alias) rows ≡ false
 free-alias eq same key_of keyed rows sought own none at alias is =
-    ap (λ a. list_any (has_key same (λ x. Some x) a) rows) (sym (some-inj own alias is))
+    ap (λ a. list_any (has_key same (λ x. Some x) a) rows) (sym (same_Some own alias is))
     ∙ list_any-none (λ x. same x own) (λ x. eq (key_of x) sought) (λ x h. ap (eq (key_of x)) (sym at) ∙ keyed x own h) rows none
 
 -- an object that has the key is the same by it

@@ -1,6 +1,6 @@
 -- What is free for a new row, and what follows as at most one row has a key.
 use Rattle.std.proofs.Common.{append_assoc, ◌≡◌, ℕ, Bool, true, false, ap, List, [], ◌∷◌, ◌++◌, Option, Some, None}
-use Rattle.std.proofs.{Common.{refl, sym, ◌∙◌, arith}, lemmas.Slice.Eq.bytes_eq-Decides}
+use Rattle.std.proofs.{Common.{refl, sym, ◌∙◌, arith}, Math.Bool.or-false, lemmas.Slice.Eq.bytes_eq-Decides}
 use Rattle.std.specs.{List.list_any, Option.{option_map, option_map_or}, Prelude.{find, filter, map, not, ◌&&◌, ◌||◌}}
 use Rattle.std.specs.{Prelude.if◌then◌else◌, Str.bytes_eq}
 use Rattle.cni_addr.specs.{Equal.addr_eq, Lists.distinct, declared.mac.Mac.Mac}
@@ -15,15 +15,13 @@ use Rattle.kernel_types.specs.contracts.object.SettingPartialEq.TheImpl.{eq-valu
 use Rattle.kernel_types.specs.declared.{call.Reply.{Reply, TheVariants.Done}, keys.AddrKey.AddrKey}
 use Rattle.kernel_types.specs.declared.{keys.SettingKey.SettingKey, object.{AddrObj.AddrObj, Att.Att, Host.Host}}
 use Rattle.kernel_types.specs.declared.object.{Link.Link, LinkKey.LinkKey, Setting.Setting, Tag.Tag}
-use Rattle.kernel_types.proofs.{Cases.{host_ns-eq, other_host}, ListLemmas.{list_any-append_none, list_any-find_none}}
-use Rattle.kernel_types.proofs.ListLemmas.{list_any-none}
+use Rattle.kernel_types.proofs.Cases.{host_ns-eq, other_host, is_at-itself, none-option_map}
+use Rattle.kernel_types.proofs.ListLemmas.{list_any-append_none, list_any-find_none, list_any-none}
 use Rattle.object_tables.specs.{Rows.host_name, Table.{is_key, has_key}}
+use Rattle.object_tables.proofs.Places.{map-none}
+use Rattle.kernel_tables.proofs.NewLease.{pushed-out}
 
 -- ---- at most one element passes
-
-or-false : (b : Bool) → (b || false) ≡ b
-or-false true = refl
-or-false false = refl
 
 module _ {X : Type 0} (same : X → X → Bool) (p q : X → Bool) (alike : (x y : X) → p x ≡ true → p y ≡ true → same x y ≡ true) where
   alone : (x : X) (xs : List X) → p x ≡ true → distinct same (x ∷ xs) ≡ true → list_any p xs ≡ false
@@ -40,13 +38,6 @@ module _ {X : Type 0} (same : X → X → Bool) (p q : X → Bool) (alike : (x y
       by true e more = let no = none xs (alone x xs e d) in rw e (ap (λ b. q x || b) no ∙ or-false (q x))
       by false e more = rw e more
 
-unchanged : {X : Type 0} (p : X → Bool) (f : X → X) (xs : List X) → list_any p xs ≡ false
-    → map (λ x. if p x then f x else x) xs ≡ xs
-unchanged p f [] h = refl
-unchanged p f (x ∷ xs) h =
-    let no : p x ≡ false = grind (arith, h) in
-    rw no (ap (λ l. x ∷ l) (unchanged p f xs (grind (arith, h))))
-
 module _ {X : Type 0} (same : X → X → Bool) (p q : X → Bool) (alike : (x y : X) → p x ≡ true → p y ≡ true → same x y ≡ true) (f : X → X) where
   pub map-both : (xs : List X) → distinct same xs ≡ true → list_any (λ x. p x && q x) xs ≡ true → map (λ x. if p x then f x else x) xs ≡ map (λ x. if p x && q x then f x else x) xs
   map-both [] d h = refl
@@ -57,16 +48,8 @@ module _ {X : Type 0} (same : X → X → Bool) (p q : X → Bool) (alike : (x y
           let one = alone same p q alike x xs e d in
           let no = none same p q alike xs one in
           let is : q x ≡ true = grind (arith, h, e, no) in
-          rw (e, is) (ap (λ l. f x ∷ l) (unchanged p f xs one ∙ sym (unchanged (λ y. p y && q y) f xs no)))
+          rw (e, is) (ap (λ l. f x ∷ l) (map-none p f xs one ∙ sym (map-none (λ y. p y && q y) f xs no)))
       by false e more = let rest = more e in rw e (ap (λ l. x ∷ l) rest)
-
--- a row that was put at the end is taken out again
-pub taken-back : {X : Type 0} (p : X → Bool) (xs : List X) (y : X) → list_any p xs ≡ false → p y ≡ true
-    → filter (λ x. not (p x)) (xs ++ y ∷ []) ≡ xs
-taken-back p [] y h e = rw e refl
-taken-back p (x ∷ xs) y h e =
-    let no : p x ≡ false = grind (arith, h) in
-    rw no (ap (λ l. x ∷ l) (taken-back p xs y (grind (arith, h)) e))
 
 -- ---- links
 
@@ -116,12 +99,6 @@ place-alike ns name x y h g =
     let named : bytes_eq y.name name ≡ true = grind (arith, g) in
     ap (λ n. is_at n y.name x) ((bytes_eq-Decides y.ns ns).0 at) ∙ ap (λ m. is_at ns m x) ((bytes_eq-Decides y.name name).0 named) ∙ h
 
-pub at-own : (l : Link) → is_at l.ns l.name l ≡ true
-at-own l =
-    let a : bytes_eq l.ns l.ns ≡ true = (bytes_eq-Decides l.ns l.ns).1 refl in
-    let b : bytes_eq l.name l.name ≡ true = (bytes_eq-Decides l.name l.name).1 refl in
-    grind (arith, a, b)
-
 named-free : (links : List Link) (b : Bool) (ns name alias : List ℕ) → is_host_ns ns ≡ b
     → (if b then Some name else None) ≡ Some alias
     → list_any (is_at ns name) links ≡ false → list_any (has_key bytes_eq host_name alias) links ≡ false
@@ -141,15 +118,11 @@ module _ (links : List Link) (row : Link) (free : list_any (is_at row.ns row.nam
   pub link-alias_free : (alias : List ℕ) → host_name row ≡ Some alias → list_any (has_key bytes_eq host_name alias) links ≡ false
   link-alias_free alias h = named-free links (is_host_ns row.ns) row.ns row.name alias refl h free
 
-untagged : (found : Option Link) → option_map (λ l. l.tag) found ≡ None → found ≡ None
-untagged None h = refl
-untagged (Some l) h = cc
-
 -- no link stands where none was found
 module _ (host : Host) (key : LinkKey) (link : Link) (tag : Option Tag) (key_is : key ≡ record { ns = link.ns; name = link.name })
     (tag_is : tag ≡ option_map (λ l. l.tag) (link_at host key.ns key.name)) (none_is : tag ≡ None) where
   pub nothing-at : link_at host link.ns link.name ≡ None
-  nothing-at = ap (λ (k : LinkKey). link_at host k.ns k.name) (sym key_is) ∙ untagged (link_at host key.ns key.name) (sym tag_is ∙ none_is)
+  nothing-at = ap (λ (k : LinkKey). link_at host k.ns k.name) (sym key_is) ∙ none-option_map (λ l. l.tag) (link_at host key.ns key.name) (sym tag_is ∙ none_is)
 
   pub place-free : (links : List Link) (row : Link) → links ≡ host.links → row ≡ link → list_any (is_at row.ns row.name) links ≡ false
   place-free links row links_is row_is =
@@ -169,10 +142,10 @@ pub first-back : (key : LinkKey) (links pushed later rest : List Link) (row link
     → key ≡ record { ns = link.ns; name = link.name } → row ≡ link → list_any (is_at row.ns row.name) links ≡ false → rest ≡ links
 first-back key links pushed later rest row link pushed_is later_is rest_is key_is row_is free =
     let own : key ≡ record { ns = row.ns; name = row.name } = key_is ∙ ap (λ (l : Link). record { ns = l.ns; name = l.name }) (sym row_is) in
-    let here : is_at key.ns key.name row ≡ true = ap (λ (k : LinkKey). is_at k.ns k.name row) own ∙ at-own row in
+    let here : is_at key.ns key.name row ≡ true = ap (λ (k : LinkKey). is_at k.ns k.name row) own ∙ is_at-itself row in
     let gone : list_any (is_at key.ns key.name) links ≡ false = ap (λ (k : LinkKey). list_any (is_at k.ns k.name) links) own ∙ free in
     rest_is ∙ (λ i. filter (λ (l : Link). not (key-at key l i)) later) ∙ ap (filter (λ l. not (is_at key.ns key.name l))) (later_is ∙ pushed_is)
-    ∙ taken-back (is_at key.ns key.name) links row gone here
+    ∙ pushed-out (is_at key.ns key.name) links row gone here
 
 -- ---- the host after a call
 

@@ -12,13 +12,13 @@ use Rattle.kernel_types.specs.Terms.{is_bridge, is_host_ns, is_own, is_owned, is
 use Rattle.kernel_types.specs.contracts.object.AttPartialEq.TheImpl.{eq-value as att_eq-value}
 use Rattle.kernel_types.specs.contracts.object.LinkKeyPartialEq.TheImpl.{eq-value as link_key-value}
 use Rattle.kernel_types.specs.declared.{call.Reply.TheVariants.{Gone, NoNs}, object.{Att.Att, Host.Host, Link.Link}}
-use Rattle.kernel_types.specs.declared.object.{LinkKey.LinkKey, LinkKind.{LinkKind, TheVariants.{Device, Bridge, Veth}}}
-use Rattle.kernel_types.specs.declared.object.{LinkKind.TheVariants.{Macvlan, Dummy, Vlan}, Tag.Tag}
-use Rattle.kernel_types.specs.declared.object.Tag.TheVariants.{Outside, Base, Own}
-use Rattle.kernel_types.proofs.{Cases.{is_at-itself, own-own, tag_eq-refl}, Isolation.tag_eq-same}
-use Rattle.kernel_types.proofs.ListLemmas.{list_any-find_none, list_any-weaker, without_first-none}
-use Rattle.kernel_types.proofs.{Removal.{goes_with-itself, link_del-found, same_place}, SoundHosts.goes_with-sound}
-use Rattle.kernel_types.proofs.{SoundHosts.HasTagsOn-sound, TouchRemoval.{is_at-symm, keeps_or_owns, owned_no_bridge}}
+use Rattle.kernel_types.specs.declared.object.{LinkKey.LinkKey, Tag.{Tag, TheVariants.{Outside, Base, Own}}}
+use Rattle.kernel_types.proofs.{Cases.{is_at-itself, own-own, tag_eq-refl, shared-no_veth}, Isolation.tag_eq-same}
+use Rattle.kernel_types.proofs.{Isolation.is_own-one, ListLemmas.{list_any-find_none, list_any-weaker}}
+use Rattle.kernel_types.proofs.{ListLemmas.{without_first-none, passes-find}, Removal.goes_with-itself}
+use Rattle.kernel_types.proofs.{Removal.{link_del-found, same_place}, SoundHosts.{goes_with-sound, HasTagsOn-sound}}
+use Rattle.kernel_types.proofs.TouchRemoval.{is_at-symm, keeps_or_owns, owned_no_bridge}
+use Rattle.object_tables.proofs.Places.{filter-none}
 use Rattle.kernel_tables.specs.Leaving.{has_end_at, is_peer, is_unowned_on, left_by, left_by_owner, left_unowned}
 use Rattle.kernel_tables.specs.Leaving.{left_with}
 use Rattle.object_tables.specs.{Rows.{owner_named, unowned_on}, Table.is_key}
@@ -72,10 +72,6 @@ filter-twice p q (x ∷ xs) = grind (arith, filter-twice p q xs)
 pub keep-all : {X : Type 0} (xs : List X) → filter (λ x. true) xs ≡ xs
 keep-all [] = refl
 keep-all (x ∷ xs) = ap (λ l. x ∷ l) (keep-all xs)
-
-pub none-filtered : {X : Type 0} (p : X → Bool) (xs : List X) → list_any p xs ≡ false → filter (λ x. not (p x)) xs ≡ xs
-none-filtered p [] h = refl
-none-filtered p (x ∷ xs) h = grind (arith, none-filtered p xs)
 
 -- where keys are distinct, the first that passes is the one of its key
 none-of : {X : Type 0} (same : X → X → Bool) (x : X) (xs : List X) → ((y : X) → same x y ≡ same y x)
@@ -184,10 +180,6 @@ no-peer o links none = sym (ap (λ p. filter (λ l. not (is_peer p l)) links) no
 
 -- ---- the link at a place
 
-pub passes-found : {X : Type 0} (p : X → Bool) (xs : List X) (y : X) → find p xs ≡ Some y → p y ≡ true
-passes-found p [] y h = absurd (cc h)
-passes-found p (x ∷ xs) y h = grind (arith, h, passes-found p xs y)
-
 pub at-key : (ns name : List ℕ) (link : Link) (links : List Link) → is_at ns name link ≡ true
     → filter (λ l. not (is_at ns name l)) links ≡ filter (λ l. not (is_at link.ns link.name l)) links
 at-key ns name link links h =
@@ -198,22 +190,9 @@ at-key ns name link links h =
 
 -- ---- a link that was taken out
 
-own-own-tag : (att : Att) (t : Tag) → is_own att t ≡ true → t ≡ Own att
-own-own-tag att Outside h = absurd (true≢false (sym h))
-own-own-tag att Base h = absurd (true≢false (sym h))
-own-own-tag att (Own own) h = tag_eq-same (Own own) (Own att) h
-
-unowned-no-veth : (k : LinkKind) → is_unowned_kind k ≡ true → is_veth k ≡ false
-unowned-no-veth Device h = refl
-unowned-no-veth Bridge h = refl
-unowned-no-veth Veth h = absurd (true≢false (sym h))
-unowned-no-veth (Macvlan mode) h = refl
-unowned-no-veth Dummy h = refl
-unowned-no-veth (Vlan id) h = refl
-
 no-veth : (l : Link) (t : Tag) → is_owned t ≡ false → link_fits_tag l t ≡ true → is_veth l.kind ≡ false
-no-veth l Outside off fits = unowned-no-veth l.kind fits
-no-veth l Base off fits = unowned-no-veth l.kind (and_parts (is_unowned_kind l.kind) (is_host_ns l.ns) fits).0
+no-veth l Outside off fits = shared-no_veth l.kind fits
+no-veth l Base off fits = shared-no_veth l.kind (and_parts (is_unowned_kind l.kind) (is_host_ns l.ns) fits).0
 no-veth l (Own att) off fits = absurd (true≢false off)
 
 no-peer-of : (links : List Link) (l : Link) (o : Option LinkKey) → is_veth l.kind ≡ false → peer_fits links l o ≡ true
@@ -356,14 +335,14 @@ pub drop_link-there : (host : Host) (key : LinkKey) (link : Link) → has_ns_in 
     → (left_with link (record host { links = filter (λ l. not (is_at key.ns key.name l)) host.links }), Gone true) ≡ drop_link_of host key
 drop_link-there host key link there sound found =
     ap (λ h. (h, Gone true)) (left-leaves host sound link (found-among (is_at key.ns key.name) host.links link found) (filter (λ l. not (is_at key.ns key.name l)) host.links)
-    (at-key key.ns key.name link host.links (passes-found (is_at key.ns key.name) host.links link found)))
+    (at-key key.ns key.name link host.links (passes-find (is_at key.ns key.name) host.links link found)))
     ∙ ap (without_link host) (sym found) ∙ ap (λ b. if b then without_link host (find (is_at key.ns key.name) host.links) else (host, NoNs)) (sym there)
 
 pub drop_link-none : (host : Host) (key : LinkKey) → has_ns_in host.namespaces key.ns ≡ true
     → find (is_at key.ns key.name) host.links ≡ None
     → (record host { links = filter (λ l. not (is_at key.ns key.name l)) host.links }, Gone false) ≡ drop_link_of host key
 drop_link-none host key there none =
-    ap (λ ls. (record host { links = ls }, Gone false)) (none-filtered (is_at key.ns key.name) host.links (list_any-find_none (is_at key.ns key.name) host.links none))
+    ap (λ ls. (record host { links = ls }, Gone false)) (filter-none (is_at key.ns key.name) host.links (list_any-find_none (is_at key.ns key.name) host.links none))
     ∙ ap (without_link host) (sym none) ∙ ap (λ b. if b then without_link host (find (is_at key.ns key.name) host.links) else (host, NoNs)) (sym there)
 
 -- ---- the first link of an attachment
@@ -372,6 +351,6 @@ pub own-leaves : (host : Host) → IsSound host → (att : Att) (link : Link)
     → find (λ l. is_own att l.tag) host.links ≡ Some link
     → (left_by_owner link att (record host { links = without_first (λ l. is_own att l.tag) host.links }), Gone true) ≡ link_del_of host att
 own-leaves host sound att link found =
-    let owned : link.tag ≡ Own att = own-own-tag att link.tag (passes-found (λ l. is_own att l.tag) host.links link found) in
+    let owned : link.tag ≡ Own att = is_own-one att link.tag (passes-find (λ l. is_own att l.tag) host.links link found) in
     ap (λ t. (left_by link t (record host { links = without_first (λ l. is_own att l.tag) host.links }), Gone true)) (sym owned)
     ∙ ap (λ h. (h, Gone true)) (left-first host sound (λ l. is_own att l.tag) link found) ∙ link_del-found host att link found

@@ -9,12 +9,13 @@ use Rattle.kernel_types.specs.{Sound.{IsSound, peer_fits, peers_back}, Terms.{ha
 use Rattle.kernel_types.specs.{Terms.is_peer_at, declared.{call.Reply.TheVariants.{Done, NoNs}, object.AddrObj.AddrObj}}
 use Rattle.kernel_types.specs.declared.object.{Host.Host, Link.Link, LinkKey.LinkKey, RouteObj.RouteObj}
 use Rattle.kernel_types.specs.declared.object.Setting.{Setting}
-use Rattle.kernel_types.proofs.ListLemmas.{list_any-find_none, list_any-none, list_any-weaker}
+use Rattle.kernel_types.proofs.ListLemmas.{list_any-find_none, list_any-none, list_any-weaker, passes-find}
 use Rattle.kernel_types.proofs.{Removal.{goes_with-itself, IsSound-without_link}, TouchRemoval.from_one}
+use Rattle.object_tables.proofs.Places.{filter-none}
 use Rattle.kernel_tables.specs.Leaving.{left_with}
 use Rattle.object_tables.specs.{Rows.inner_ns, Table.is_key}
 use Rattle.kernel_tables.proofs.Leaving.{all-among, any-among, filter-twice, found-among, from-among, keep-all}
-use Rattle.kernel_tables.proofs.Leaving.{left-first, none-filtered, passes-found}
+use Rattle.kernel_tables.proofs.Leaving.{left-first}
 
 pub inner-named : (host : Host) → IsSound host → (name : List ℕ) → has_named_ns host name ≡ true
     → is_host_ns name ≡ false
@@ -75,7 +76,7 @@ none-both k at links none = list_any-none (λ l. k l && at l) k (λ l h. (and_pa
 
 without-none : (k : Link → Bool) (host : Host) → list_any k host.links ≡ false → without_links k host ≡ host
 without-none k host none =
-    let links = none-filtered k host.links none in
+    let links = filter-none k host.links none in
     let addresses = (λ j. filter (λ (a : AddrObj). not (none-both k (is_at a.ns a.link) host.links none j)) host.addresses) ∙ keep-all host.addresses in
     let routes = (λ j. filter (λ (r : RouteObj). not (none-both k (is_at r.ns r.link) host.links none j)) host.routes) ∙ keep-all host.routes in
     (λ i. record host { links = links i; addresses = addresses i; routes = routes i })
@@ -125,7 +126,7 @@ module _ (name : List ℕ) (inner : is_host_ns name ≡ false) where
       gone = left ∙ left-first host sound (λ l. is_key bytes_eq (inner_ns l.ns) name) link found
 
       one : link.ns ≡ name
-      one = (bytes_eq-Decides link.ns name).0 (sym (inner-is name inner link.ns) ∙ passes-found (λ l. is_key bytes_eq (inner_ns l.ns) name) host.links link found)
+      one = (bytes_eq-Decides link.ns name).0 (sym (inner-is name inner link.ns) ∙ passes-find (λ l. is_key bytes_eq (inner_ns l.ns) name) host.links link found)
 
       pub step-leaves : without_links (goes_with_ns name) new ≡ without_links (goes_with_ns name) host
       step-leaves = ap (without_links (goes_with_ns name)) gone ∙ without-again (goes_with link.ns link.name) (goes_with_ns name) (with-link link one) host

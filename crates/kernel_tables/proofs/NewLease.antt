@@ -1,5 +1,5 @@
 -- A lease that comes, and the last of its pool.
-use Rattle.std.proofs.Common.{◌≡◌, Bool, true, false, not, List, [], ◌∷◌, ◌++◌, Some, refl, ◌∙◌, ap, subst, arith}
+use Rattle.std.proofs.Common.{◌≡◌, Bool, true, false, not, List, [], ◌∷◌, ◌++◌, Some, ◌∙◌, ap, subst, arith}
 use Rattle.std.specs.{List.list_any, Prelude.{filter, Result, Ok, Err, OnErr}}
 use Rattle.kernel_types.specs.Terms.{is_lease_at, is_of_pool}
 use Rattle.kernel_types.specs.contracts.keys.PoolKeyPartialEq.TheImpl.{eq-value as pool_eq-value}
@@ -7,6 +7,7 @@ use Rattle.kernel_types.specs.contracts.object.LeasePartialEq.TheImpl.{eq-value 
 use Rattle.kernel_types.specs.declared.{keys.PoolKey.PoolKey, object.{Last.Last, Lease.Lease}}
 use Rattle.kernel_types.proofs.ListLemmas.{filter-push_dropped, list_any-none}
 use Rattle.object_tables.specs.Table.{has_key}
+use Rattle.object_tables.proofs.Places.{filter-none}
 
 -- a lease whose address none has is not there
 pub absent-lease : (lease : Lease) (leases : List Lease)
@@ -25,10 +26,6 @@ same-pool pool last = grind arith
 pub any-pool : (pool : PoolKey) (lasts : List Last)
     → list_any (λ l. pool_eq-value.it (record { network = l.network; set = l.set }) pool) lasts ≡ list_any (is_of_pool pool.network pool.set) lasts
 any-pool pool lasts = λ i. list_any (λ l. same-pool pool l i) lasts
-
-filter-none : {X : Type 0} (t : X → Bool) (xs : List X) → list_any t xs ≡ false → filter (λ x. not (t x)) xs ≡ xs
-filter-none t [] h = refl
-filter-none t (x ∷ xs) h = grind (arith, h, filter-none t xs)
 
 -- the one that came goes again
 pub pushed-out : {X : Type 0} (t : X → Bool) (xs : List X) (x : X) → list_any t xs ≡ false → t x ≡ true

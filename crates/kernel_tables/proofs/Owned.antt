@@ -1,5 +1,5 @@
 -- An attachment's objects, by their tag.
-use Rattle.std.proofs.Common.{◌≡◌, Bool, List, [], ◌∷◌, Option, Some, None, Bor, refl, arith}
+use Rattle.std.proofs.Common.{◌≡◌, Bool, List, Option, Some, None, Bor, refl, arith}
 use Rattle.std.specs.{List.list_any, Option.option_copied, Prelude.{find, is_some}}
 use Rattle.cni_addr.specs.Lists.{without_first}
 use Rattle.kernel_types.specs.{Equal.att_eq, Terms.is_own}
@@ -17,10 +17,6 @@ pub own-is : (eq : Att → Att → Bool) → ((a b : Att) → eq a b ≡ att_eq 
 own-is eq same att Outside = refl
 own-is eq same att Base = refl
 own-is eq same att (Own own) = same own att
-
-pub some-find : {T : Type 0} (t : T → Bool) (xs : List T) → is_some (find t xs) ≡ list_any t xs
-some-find t [] = refl
-some-find t (x ∷ xs) = grind (arith, some-find t xs)
 
 module _ {T : Type 0} (tag_of : T → Tag) (att : Att) (xs : List T) where
   pub any-own : list_any (λ x. is_key att_eq-value.it (owner_named (tag_of x)) att) xs ≡ list_any (λ x. is_own att (tag_of x)) xs

@@ -22,7 +22,7 @@ use Rattle.kernel_types.specs.declared.rule.{Rule.Rule, Target.Target}
 use Rattle.kernel_types.specs.declared.rule.Target.TheVariants as targets
 use Rattle.object_tables.specs.{Rows.{host_name, inner_ns, network_named, owner_named}, Table.is_key}
 use Rattle.kernel_types.proofs.{Cases.{host_ns-eq, tag_eq-own}, ListLemmas.list_any-none, TouchRemoval.one_place}
-use Rattle.kernel_tables.proofs.{Namespaces.inner-is, Owned.{att-same, own-is}}
+use Rattle.kernel_tables.proofs.{Free.host-named, Namespaces.inner-is, Owned.{att-same, own-is}}
 
 -- ---- the owners of a network
 
@@ -65,13 +65,6 @@ module _ {T : Type 0} (tag_of : T → Tag) (network : List ℕ) where
 
 -- ---- links of the host, by their name
 
-named-is : (name : List ℕ) (l : Link) → is_key bytes_eq (host_name l) name ≡ is_host_link name l
-named-is name l = by (is_host_ns l.ns)
-  where
-    by : (b : Bool) → is_key bytes_eq (if b then Some l.name else None) name ≡ (b && bytes_eq l.name name)
-    by true = refl
-    by false = refl
-
 host_link-at : (name : List ℕ) (l : Link) → is_host_link name l ≡ true → is_at [] name l ≡ true
 host_link-at name l h = grind (arith, host_ns-eq l.ns, h)
 
@@ -97,7 +90,7 @@ pub one-named : (name : List ℕ) (t u : Link → Bool) → ((l : Link) → t l 
     → list_any t links ≡ option_map_or u (find (λ l. is_key bytes_eq (host_name l) name) links) false
 one-named name t u is links d =
     one-found (is_host_link name) t u (λ a b. is_same_link b a) is (λ x y h g. one_place [] name x y (host_link-at name x h) (host_link-at name y g)) links d
-    ∙ (λ i. option_map_or u (find (λ l. sym (named-is name l) i) links) false)
+    ∙ (λ i. option_map_or u (find (λ l. sym (host-named name l) i) links) false)
 
 absorbs : (a b : Bool) → (b ≡ true → a ≡ true) → b ≡ (a && b)
 absorbs a true h = rw (h refl) refl

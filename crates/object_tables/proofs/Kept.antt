@@ -13,7 +13,7 @@ use Rattle.kernel_types.specs.{Keys.is_same_lease, Sound.HasDistinctKeys, Terms.
 use Rattle.kernel_types.specs.declared.object.Lease.{Lease}
 use Rattle.kernel_types.proofs.ListLemmas.{list_any-map_filter, list_any-none}
 use Rattle.object_tables.specs.Leased.{kept_for, AreLeased}
-use Rattle.object_tables.proofs.KeysOnce.{none-earlier}
+use Rattle.object_tables.proofs.{KeysOnce.none-earlier, Places.not_passing}
 
 -- the set that is kept, or the empty one
 pub kept-chosen : (o : Option (Bor AddrSet)) (none : Bor AddrSet) → none.now.addresses ≡ []
@@ -33,10 +33,6 @@ found-any : {X : Type 0} (own t : X → Bool) (xs : List X) (l : X) → find own
 found-any own t [] l f h = cc
 found-any own t (x ∷ xs) l f h = found-step own t x l xs (λ g. found-any own t xs l g h) h (own x) refl f
 
-false-with : (b c : Bool) → (b ≡ true → c ≡ true) → c ≡ false → b ≡ false
-false-with true c h n = cc (h refl, n)
-false-with false c h n = refl
-
 module _ {X : Type 0} (same : X → X → Bool) (own p : X → Bool) (key : (x y : X) → p x ≡ true → p y ≡ true → same x y ≡ true) where
   none-later : (x : X) (xs : List X) → distinct same (x ∷ xs) ≡ true → p x ≡ true → list_any p xs ≡ false
   none-later x xs d h = list_any-none p (same x) (λ y i. key x y h i) xs (grind (arith, d))
@@ -51,7 +47,7 @@ module _ {X : Type 0} (same : X → X → Bool) (own p : X → Bool) (key : (x y
   left-step x l xs d later false e f = stays (p x) refl
     where
       stays : (b : Bool) → p x ≡ b → (b || list_any p (without_first own xs)) ≡ ((b || list_any p xs) && not (p l))
-      stays true h = sym (ap not (false-with (p l) (list_any p xs) (found-any own p xs l f) (none-later x xs d h)))
+      stays true h = sym (ap not (not_passing (p l) (list_any p xs) (found-any own p xs l f) (none-later x xs d h)))
       stays false h = later f
 
   pub any-left : (xs : List X) (l : X) → distinct same xs ≡ true → find own xs ≡ Some l → list_any p (without_first own xs) ≡ (list_any p xs && not (p l))

@@ -1,6 +1,6 @@
 pub mod Kept
 pub mod KeysOnce
+pub mod Places
 mod Along
 mod Noted
 mod Owners
-mod Places

@@ -4,13 +4,10 @@ use Rattle.std.proofs.{Common.{true≢false, refl, sym, ◌∙◌, length, arith
 use Rattle.std.specs.{Cmp.IsEquivalence, List.{list_any, list_all}, Map.lookup, Option.{option_map_or, option_to_list}}
 use Rattle.std.specs.{Prelude.{if◌then◌else◌, nat_lt}, VecDeque.deque_items, declared.collections.VecDeque.VecDeque}
 use Rattle.indexmap.specs.IndexMap.{IndexMap, get}
+use Rattle.cni_addr.proofs.Lists.{list_any-same_test}
 use Rattle.object_tables.specs.{Places.{rows_of, row_at, passes, passing}, Table.{is_key, has_key, place_of, IsIndex}}
 use Rattle.object_tables.specs.{Table.AreTrails, Trails.trail_of}
 use Rattle.object_tables.proofs.Places.{Finds-keyed, Finds-trailed, Finds-trimmed, Trims}
-
-any-same : {X : Type 0} (p q : X → Bool) → ((x : X) → p x ≡ q x) → (xs : List X) → list_any p xs ≡ list_any q xs
-any-same p q h [] = refl
-any-same p q h (x ∷ xs) = grind (arith, h x, any-same p q h xs)
 
 is_key-same : {K : Type 0} (eq : K → K → Bool) → IsEquivalence eq → (own q : K) → eq own q ≡ true → (key : Option K)
     → is_key eq key q ≡ is_key eq key own
@@ -22,7 +19,7 @@ absent-keys : {K T : Type 0} (eq : K → K → Bool) → IsEquivalence eq
     → ((own : K) → key ≡ Some own → list_any (has_key eq key_of own) rows ≡ false) → (q : K) → is_key eq key q ≡ true → list_any (has_key eq key_of q) rows ≡ false
 absent-keys eq laws key_of rows None absent q is = absurd (true≢false (sym is))
 absent-keys eq laws key_of rows (Some own) absent q is =
-    any-same (has_key eq key_of q) (has_key eq key_of own) (λ row. is_key-same eq laws own q is (key_of row)) rows ∙ absent own refl
+    list_any-same_test (has_key eq key_of q) (has_key eq key_of own) (λ row. is_key-same eq laws own q is (key_of row)) rows ∙ absent own refl
 
 pub no_row : {K T : Type 0} (eq : K → K → Bool) (key_of : T → Option K) (row : T) (q : K)
     → passes (has_key eq key_of q) None ≡ true → is_key eq (key_of row) q ≡ true

@@ -98,7 +98,7 @@ without_first-here : {T : Type 0} (t : T → Bool) (xs : List T) (y : T) (ys : L
 without_first-here t [] y ys h is = grind (arith, is)
 without_first-here t (x ∷ xs) y ys h is = grind (arith, without_first-here t xs y ys)
 
-filter-none : {T : Type 0} (t : T → Bool) (xs : List T) → list_any t xs ≡ false → filter (λ x. not (t x)) xs ≡ xs
+pub filter-none : {T : Type 0} (t : T → Bool) (xs : List T) → list_any t xs ≡ false → filter (λ x. not (t x)) xs ≡ xs
 filter-none t [] h = refl
 filter-none t (x ∷ xs) h = grind (arith, filter-none t xs)
 
@@ -107,7 +107,7 @@ filter-here : {T : Type 0} (t : T → Bool) (xs : List T) (y : T) (ys : List T) 
 filter-here t [] y ys h is rest = grind (arith, is, filter-none t ys)
 filter-here t (x ∷ xs) y ys h is rest = grind (arith, filter-here t xs y ys)
 
-map-none : {T : Type 0} (t : T → Bool) (f : T → T) (xs : List T) → list_any t xs ≡ false
+pub map-none : {T : Type 0} (t : T → Bool) (f : T → T) (xs : List T) → list_any t xs ≡ false
     → map (λ x. if t x then f x else x) xs ≡ xs
 map-none t f [] h = refl
 map-none t f (x ∷ xs) h = grind (arith, map-none t f xs)
@@ -360,7 +360,7 @@ by_test : {X : Type 0} (b : Bool) (x y z : X) → z ≡ (if b then x else y)
 by_test true x y z h = inl (refl, h)
 by_test false x y z h = inr (refl, h)
 
-not_passing : (p b : Bool) → (p ≡ true → b ≡ true) → b ≡ false → p ≡ false
+pub not_passing : (p b : Bool) → (p ≡ true → b ≡ true) → b ≡ false → p ≡ false
 not_passing true b h e = absurd (true≢false (sym (h refl) ∙ e))
 not_passing false b h e = refl
 
@@ -513,15 +513,6 @@ pub inside-drop : (n m : ℕ) (cs : List ℕ) → list_all (λ p. nat_lt p n) cs
 inside-drop n m [] h = ap (λ l. list_all (λ p. nat_lt p n) l) (drop-nil m)
 inside-drop n zero (c ∷ cs) h = h
 inside-drop n (suc m) (c ∷ cs) h = inside-drop n m cs (grind (arith, h))
-
-pub inside-filter : (n : ℕ) (f : ℕ → Bool) (cs : List ℕ) → list_all (λ p. nat_lt p n) cs ≡ true
-    → list_all (λ p. nat_lt p n) (filter f cs) ≡ true
-inside-filter n f [] h = refl
-inside-filter n f (c ∷ cs) h = by (f c) (inside-filter n f cs (grind (arith, h)))
-  where
-    by : (b : Bool) → list_all (λ p. nat_lt p n) (filter f cs) ≡ true → list_all (λ p. nat_lt p n) (if b then c ∷ filter f cs else filter f cs) ≡ true
-    by true rest = let here : nat_lt c n ≡ true = grind (arith, h) in ap (λ b. b && list_all (λ p. nat_lt p n) (filter f cs)) here ∙ rest
-    by false rest = rest
 
 pub passing-twice : {T : Type 0} (t : T → Bool) (places : List (Option T)) (cs : List ℕ)
     → passing t places (passing t places cs) ≡ passing t places cs

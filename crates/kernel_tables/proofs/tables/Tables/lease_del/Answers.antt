@@ -1,14 +1,14 @@
 use Rattle.std.proofs.Common.{◌≡◌, ◌∙◌, ap, sym, subst, refl, Some, None, rules}
 use Rattle.std.specs.{List.list_any, Prelude.{find, is_some}}
 use Rattle.cni_addr.specs.Lists.{without_first}
+use Rattle.ip_pool.proofs.Lists.{is_some-find}
 use Rattle.kernel_types.specs.{Keys.is_same_lease, Sound.HasDistinctKeys, Terms.is_own}
 use Rattle.kernel_types.specs.contracts.object.AttPartialEq.TheImpl.{eq-value as att_eq-value}
 use Rattle.kernel_types.specs.declared.object.Lease.{Lease}
 use Rattle.kernel_types.proofs.ListLemmas.{list_any-find_none, without_first-none}
 use Rattle.object_tables.specs.{Leased.AreLeased, Rows.owner_named, Table.is_key}
 use Rattle.object_tables.proofs.Kept.{AreLeased-gone}
-use Rattle.kernel_tables.proofs.{Owned.{any-own, first-own, some-find}, tables.Tables.lease_del.Goals.in-Some}
-use Rattle.kernel_tables.proofs.tables.Tables.lease_del.Goals.{in_default}
+use Rattle.kernel_tables.proofs.{Owned.{any-own, first-own}, tables.Tables.lease_del.Goals.{in-Some, in_default}}
 use Rattle.kernel_tables.proofs.tables.Tables.lease_del.Goals as goal
 
 pub invariant_of-self : goal.invariant_of-self
@@ -32,5 +32,5 @@ returns c =
     let rest : c.take_first_owned-taken.new.self ≡ without_first (λ (x : Lease). is_own c.args.att.now x.tag) c.self.inside.leases =
     c.take_first_owned-taken.ensures.rest ∙ first-own (λ (x : Lease). x.tag) c.args.att.now c.self.inside.leases in
     let any : c.is_some.result ≡ list_any (λ (x : Lease). is_own c.args.att.now x.tag) c.self.inside.leases =
-    c.is_some.ensures ∙ ap is_some c.take_first_owned-taken.ensures.first ∙ some-find _ c.self.inside.leases ∙ any-own (λ (x : Lease). x.tag) c.args.att.now c.self.inside.leases in
+    c.is_some.ensures ∙ ap is_some c.take_first_owned-taken.ensures.first ∙ is_some-find _ c.self.inside.leases ∙ any-own (λ (x : Lease). x.tag) c.args.att.now c.self.inside.leases in
     elim c.match-taken.branch [ in-Some w ↦ rw (w.self-is, rest, any, ← c.self.view_is) refl | in_default w ↦ rw (w.self-is, rest, any, ← c.self.view_is) refl ]

@@ -1,12 +1,8 @@
-use Rattle.std.proofs.Common.{◌≡◌, ◌∙◌, ◌++◌, ◌∷◌, [], List, ap, sym, refl, length, append_assoc, append-nil, arith}
-use Rattle.std.proofs.Common.{rules}
+use Rattle.std.proofs.Common.{◌≡◌, ◌∙◌, ◌++◌, ◌∷◌, [], ap, sym, length, append_assoc, append-nil, arith, rules}
+use Rattle.std.proofs.lemmas.List.{nil_from_length}
 use Rattle.std.specs.Vec.Iter.{into_iter_items}
 use Rattle.object_tables.proofs.KeysOnce.{key-free}
 use Rattle.object_tables.proofs.table.Table.of_rows.Goals as goal
-
-nothing-left : {X : Type 0} (xs : List X) → length xs ≡ 0 → xs ≡ []
-nothing-left [] h = refl
-nothing-left (x ∷ xs) h = absurd (omega arith)
 
 pub push-requires-clause-key : goal.push-requires-clause-key
 push-requires-clause-key g c =
@@ -35,5 +31,5 @@ loop-row-preserved g c =
 pub returns : goal.returns
 returns g c =
     let none = c.in-None.ensures.steps in
-    let empty : into_iter_items c.loop-row.row-iterator ≡ [] = nothing-left _ (sym c.loop-row.invariant.1 ∙ none.0) in
+    let empty : into_iter_items c.loop-row.row-iterator ≡ [] = nil_from_length _ (sym c.loop-row.invariant.1 ∙ none.0) in
     sym (append-nil c.loop-row.table) ∙ ap (λ l. c.loop-row.table ++ l) (sym empty) ∙ c.loop-row.invariant.0
