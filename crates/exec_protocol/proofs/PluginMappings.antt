@@ -1,7 +1,7 @@
 -- A chained plugin does with the mappings that its object asks for what it does with all that reach the list: a
 -- `portmap` whose object doesn't ask for them is the only one of its list, and where it doesn't take them none reach it.
 use Rattle.std.proofs.Common.{◌≡◌, ℕ, zero, suc, Bool, true, false, List, [], ◌∷◌, Some, Result, Ok, Err, refl, ap, ◌∙◌}
-use Rattle.std.proofs.Common.{subst}
+use Rattle.std.proofs.{Common.subst, Math.Bool.or-false}
 use Rattle.std.specs.{List.{AllByRecursion, IsDistinct, list_any, slice_get}, Prelude.{◌||◌, map, if◌then◌else◌}}
 use Rattle.serde_json.specs.Data.{Data}
 use Rattle.cni_json.proofs.Endings.{goes, ok_same}
@@ -86,10 +86,6 @@ unfolding chained_plugin_of
 other-takes_none (later.Portmap conf) apart = cc
 other-takes_none (later.Firewall conf) apart = refl
 other-takes_none (later.Tuning conf) apart = refl
-
-or-false : (b : Bool) → (b || false) ≡ b
-or-false true = refl
-or-false false = refl
 
 first-takes : (conf : PortmapConf) (cs : List Chained) → list_any takes_mappings cs ≡ false
     → list_any takes_mappings (later.Portmap conf ∷ cs) ≡ conf.mappings
