@@ -61,7 +61,7 @@ clean_blames kind t (e ∷ es) h = grind (arith, h, clean_blames kind t es)
 
 -- ---- at the end
 
-yes_clean : (faults : List ℕ) → swept faults ≡ Yes → faults ≡ []
+pub yes_clean : (faults : List ℕ) → swept faults ≡ Yes → faults ≡ []
 yes_clean [] h = refl
 yes_clean (k ∷ ks) h = cc
 
@@ -197,14 +197,14 @@ yes_keeps list c host es gc sound run ends = elim (early_or list c gc) [
 
 -- ---- the numbers of faulty calls
 
-noted_rest : (made : ℕ) (faults : List ℕ) (b : Bool) (rest : List ℕ)
-    → faults_after (made + 1) faults b ++ rest ≡ faults ++ (if b then (made + 1) ∷ rest else rest)
-noted_rest made faults true rest = append_assoc faults ((made + 1) ∷ []) rest
-noted_rest made faults false rest = refl
+pub noted_rest : (number : ℕ) (faults : List ℕ) (b : Bool) (rest : List ℕ)
+    → faults_after number faults b ++ rest ≡ faults ++ (if b then number ∷ rest else rest)
+noted_rest number faults true rest = append_assoc faults (number ∷ []) rest
+noted_rest number faults false rest = refl
 
 faults_are : (gc : Gc) (s : Point) (es : List Made) → (point_from gc s es).faults ≡ s.faults ++ fault_numbers s.made es
 faults_are gc s [] = sym (append-nil s.faults)
-faults_are gc s (e ∷ es) = faults_are gc (point_after gc s e.reply) es ∙ noted_rest s.made s.faults (is_fault e.reply) (fault_numbers (s.made + 1) es)
+faults_are gc s (e ∷ es) = faults_are gc (point_after gc s e.reply) es ∙ noted_rest (s.made + 1) s.faults (is_fault e.reply) (fault_numbers (s.made + 1) es)
 
 pub faults_named : FaultsNamed
 faults_named list c es ending gc collected ends =

@@ -8,6 +8,8 @@ use Rattle.kernel_types.specs.declared.call.Kind.TheVariants as kinds
 use Rattle.plugin_base.specs.Calls.{has_kind, is_of_kinds}
 use Rattle.gc_sweep.specs.Keep.{OnlyRemoves}
 use Rattle.gc_sweep.proofs.Lists.{list_all-drops}
+use Rattle.kernel_types.specs.Sound.{IsSound}
+use Rattle.plugin_base.proofs.Deletions.{no-links}
 
 -- ---- a share within kinds
 
@@ -21,6 +23,12 @@ pub record HasKindsAlone (ks : List Kind) (s : Share) : Type 0 where
 
 pub HasKindsAlone-nothing : (ks : List Kind) → HasKindsAlone ks no_objects
 HasKindsAlone-nothing ks = record { links = λ _. refl; rules = λ _. refl; settings = λ _. refl; leases = λ _. refl; cached = λ _. refl }
+
+pub HasKindsAlone-none : (att : Att) (host : Host) → IsSound host → HasKindsAlone [] (share_of att host)
+    → share_of att host ≡ no_objects
+HasKindsAlone-none att host sound none =
+    let lies = no-links att host sound (none.links refl) in
+    rw (none.links refl, lies.0, lies.1, none.rules refl, none.settings refl, none.leases refl, none.cached refl) refl
 
 -- a call of these kinds keeps it so
 pub HasKindsAlone-call : (ks : List Kind) (s : Share) (call : Call) → is_of_kinds ks call ≡ true → HasKindsAlone ks s

@@ -1,12 +1,12 @@
 -- Each answer has its cause: the first among the entries.
 use Rattle.plugin_session.proofs.Names.{◌≡◌, ℕ, ◌+◌, Bool, true, false, List, [], ◌∷◌, ◌++◌, length, Option, Some, None}
-use Rattle.plugin_session.proofs.Names.{refl, sym, ◌∙◌, ap, subst, append_assoc, not, and_parts, not-true, append-nil}
-use Rattle.plugin_session.proofs.Names.{same_Some, none-some, list_all, MatchBool, MatchOption, if◌then◌else◌, Addr}
-use Rattle.plugin_session.proofs.Names.{RangeSet, Cached, is_fault, Call, Begin, LeaseNext, CachePut, Kind, Reply, Done}
-use Rattle.plugin_session.proofs.Names.{Leased, Gone, Has, Entry, Fault, Att, Host, list_all-weaker, is_own_call}
-use Rattle.plugin_session.proofs.Names.{Command, att_of, Cause, Ending, Added, Yes, Refused, Question, is_done}
-use Rattle.plugin_session.proofs.Names.{is_granted, reply_to, State, AtBegin, Leasing, AfterLeases, ReadingCache}
-use Rattle.plugin_session.proofs.Names.{Deleting, FindingEntry, Collecting, Over, after_leases, asking, at_call_after}
+use Rattle.plugin_session.proofs.Names.{refl, sym, ◌∙◌, ap, subst, not, and_parts, not-true, append-nil, same_Some}
+use Rattle.plugin_session.proofs.Names.{none-some, list_all, MatchBool, MatchOption, if◌then◌else◌, Addr, RangeSet}
+use Rattle.plugin_session.proofs.Names.{Cached, is_fault, Call, Begin, LeaseNext, CachePut, Kind, Reply, Done, Leased}
+use Rattle.plugin_session.proofs.Names.{Gone, Has, Entry, Fault, Att, Host, list_all-weaker, is_own_call, Command}
+use Rattle.plugin_session.proofs.Names.{att_of, Cause, Ending, Added, Yes, Refused, Question, is_done, is_granted}
+use Rattle.plugin_session.proofs.Names.{reply_to, State, AtBegin, Leasing, AfterLeases, ReadingCache, Deleting}
+use Rattle.plugin_session.proofs.Names.{FindingEntry, Collecting, Over, after_leases, asking, at_call_after}
 use Rattle.plugin_session.proofs.Names.{at_deletion, at_question, cause_of, deleting, faulted, faults_after, finish_of}
 use Rattle.plugin_session.proofs.Names.{next_call, swept, Work, work_after, Made, host_on, replies}
 use Rattle.kernel_types.proofs.ListLemmas.{list_all-append}
@@ -20,6 +20,8 @@ use Rattle.plugin_session.specs.LawsOfAnswers.{EachAnswerHasItsCause, LeasesBySe
 use Rattle.plugin_session.specs.{Tasks.{forward_by, forward_of}, declared.row.Row.Row}
 use Rattle.plugin_session.proofs.{Collected.work-done, Ends.{EndsBy, IsRefusing, ends-first, over-makes_none}}
 use Rattle.plugin_session.proofs.{Ends.{over-tells, refusing-ends}, Leased.{is_lease, lease-not_done, none-reply}}
+use Rattle.plugin_session.proofs.Leased.{own-asks_none}
+use Rattle.gc_sweep.proofs.Leaves.{noted_rest}
 
 -- ---- ADD
 
@@ -42,12 +44,6 @@ adding-leasing : (co : Course) (left : List RangeSet) (given : List Addr) → Le
     → IsAdding (leasing co left given)
 adding-leasing co [] given none = adding-after co.forward given none
 adding-leasing co (set ∷ left) given none = tt
-
--- what a plugin may call asks for no lease
-own-asks_none : (att : Att) (ks : List Kind) (call : Call) → is_own_call att ks call ≡ true
-    → not (asks_for_lease call) ≡ true
-own-asks_none att ks (LeaseNext owner set ranges) own = cc
-own-asks_none att ks _ own = refl
 
 forward-plain : (att : Att) (calls : List Call) (cached : Option Cached) → none_ask_for_lease calls ≡ true
     → none_ask_for_lease (forward_by att calls cached) ≡ true
@@ -231,11 +227,6 @@ check-ends co (e ∷ es) ending over =
 
 -- ---- GC
 
-faults-rest : (number : ℕ) (faults : List ℕ) (fault : Bool) (rest : List ℕ)
-    → faults_after number faults fault ++ rest ≡ faults ++ (if fault then number ∷ rest else rest)
-faults-rest number faults true rest = append_assoc faults (number ∷ []) rest
-faults-rest number faults false rest = refl
-
 gc-swept : (co : Course) (made : ℕ) (work : Work) (faults : List ℕ) (es : List Made) (ending : Ending)
     → IsOver (state_from co made (Collecting work faults) (replies es)) ending
     → ending ≡ swept (faults ++ fault_numbers made es)
@@ -243,7 +234,7 @@ unfolding advance finish_of
 gc-swept co made work faults [] ending over = (work-done work.jobs work.sweeps faults ending over).tells ∙ ap swept (sym (append-nil faults))
 gc-swept co made work faults (e ∷ es) ending over =
     gc-swept co (made + 1) (work_after co.gc work.jobs work.sweeps e.reply) (faults_after (made + 1) faults (is_fault e.reply)) es ending over
-    ∙ ap swept (faults-rest (made + 1) faults (is_fault e.reply) (fault_numbers (made + 1) es))
+    ∙ ap swept (noted_rest (made + 1) faults (is_fault e.reply) (fault_numbers (made + 1) es))
 
 swept-cause : (faults : List ℕ) → EndsBy Yes (swept faults) (of_faults faults)
 swept-cause [] = refl

@@ -6,8 +6,8 @@ use Rattle.plugin_session.proofs.Names.{next_call, swept, Gc, Job, Sweep, IsWith
 use Rattle.plugin_session.proofs.Names.{replies}
 use Rattle.kernel_types.specs.{Apply.Calls.tags_of, declared.call.Kind.TheVariants.{Rules, Settings, Leases, Cached}}
 use Rattle.gc_sweep.proofs.{Covered.{WorkKept, is_covered}, Kept.stays_start, Leaves.{excused_all, excused_kind}}
-use Rattle.gc_sweep.proofs.{Leaves.{keep_all, keep_within, run_clean, run_kept}, Lists.all_true, Machine.IsTrail}
-use Rattle.gc_sweep.proofs.Machine.{Point, point_after, point_from}
+use Rattle.gc_sweep.proofs.{Leaves.{keep_all, keep_within, run_clean, run_kept, yes_clean}, Lists.all_true}
+use Rattle.gc_sweep.proofs.Machine.{IsTrail, Point, point_after, point_from}
 use Rattle.plugin_session.specs.{Course.{Course, IsRunFrom, advance, start_work, state_from}, Journal.IsOver}
 use Rattle.plugin_session.specs.LawsOfAnswers.{CollectionsKeep, CollectionsOnlyRemove}
 
@@ -53,10 +53,6 @@ done-at : (p : Point) (ending : Ending) → IsOver (Collecting p.work p.faults) 
 unfolding finish_of
 done-at p ending over = work-done p.work.jobs p.work.sweeps p.faults ending over
 
-clean-swept : (faults : List ℕ) → Yes ≡ swept faults → faults ≡ []
-clean-swept [] is = refl
-clean-swept (k ∷ faults) is = cc
-
 -- ---- what it keeps
 
 covered-tag : (gc : Gc) (t : Tag) (kind : Kind) → is_covered gc [] [] start_work.sweeps kind t ≡ true
@@ -100,6 +96,6 @@ gc-keeps co c faulty host es same sound ran =
     let end = point_from gc start_point es in
     let kept = kept-after co c faulty host es same sound ran.run in
     let done = done-at end Yes (subst (λ s. IsOver s Yes) (state-is co start_point es) ran.over) in
-    let clean = (run_clean gc start_point es (clean-swept end.faults done.tells)).1 in
+    let clean = (run_clean gc start_point es (yes_clean end.faults (sym done.tells))).1 in
     let excused = excused_all gc es after kept.stays.sound (excused_kind gc host es end.work.jobs end.work.sweeps after kept done.no_jobs done.no_sweeps) in
     sym (keep_all gc es after kept.stays.sound clean excused) ∙ kept.stays.kept ∙ ap (λ network. keep network gc.valid host) same

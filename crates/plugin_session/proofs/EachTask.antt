@@ -11,7 +11,8 @@ use Rattle.plugin_session.specs.EachTask.{GrownViewsGrow, IsGrown, KeptViewsAreG
 use Rattle.plugin_session.specs.{EachTask.TheLastTaskIsAll, Holds.{Grows, Suite, TaskHolds}, Kept.IsRowKept}
 use Rattle.plugin_session.specs.{Kept.is_numbered, Steps.if_any, Views.{SessionView, number, upto}}
 use Rattle.plugin_session.specs.declared.{entry.Entry.Entry, row.Row.Row}
-use Rattle.plugin_session.proofs.Numbered.{filter-all_of, filter-none_of}
+use Rattle.plugin_session.proofs.Numbered.{filter-all_of}
+use Rattle.kernel_types.proofs.ListLemmas.{filter_never}
 
 -- ---- what is numbered
 
@@ -35,7 +36,7 @@ module _ {X : Type 0} (task : X → ℕ) where
       → filter (λ x. nat_le (task x) (n + 1)) (before ++ more) ≡ filter (λ x. nat_le (task x) (n + 1)) before
   upto-before n m before more less own =
       filter-append (λ x. nat_le (task x) (n + 1)) before more
-      ∙ ap (λ l. filter (λ x. nat_le (task x) (n + 1)) before ++ l) (filter-none_of (λ x. nat_le (task x) (n + 1)) (λ x. task x == m + 1) (λ x is. grind (arith, nat_tests)) more own)
+      ∙ ap (λ l. filter (λ x. nat_le (task x) (n + 1)) before ++ l) (filter_never (λ x. nat_le (task x) (n + 1)) (λ x. task x == m + 1) (λ x is. grind (arith, nat_tests)) more own)
       ∙ append-nil (filter (λ x. nat_le (task x) (n + 1)) before)
 
   -- up to the last task all is there
@@ -44,7 +45,7 @@ module _ {X : Type 0} (task : X → ℕ) where
   upto-all n m xs is all =
       filter-all_of (λ x. nat_le (task x) (n + 1)) (λ x. is_numbered m (task x)) (λ x in_range. grind (arith, nat_tests)) xs all
 
-number-more : (old new : SessionView) → Grows old new → number new ≡ number old + 1
+pub number-more : (old new : SessionView) → Grows old new → number new ≡ number old + 1
 number-more old new grows = ap length grows.answers ∙ length_push old.answers grows.answer
 
 -- ---- growing

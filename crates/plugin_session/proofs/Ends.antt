@@ -33,7 +33,7 @@ refusing-deleting : (cause : Cause) (ks : List Kind) (ending : Ending) → endin
 refusing-deleting cause [] ending is = is
 refusing-deleting cause (k ∷ ks) ending is = is
 
-refusing-faulted : (cause : Cause) (number : ℕ) (ending : Ending) → ending ≡ Refused cause
+pub refusing-faulted : (cause : Cause) (number : ℕ) (ending : Ending) → ending ≡ Refused cause
     → faulted number ending ≡ Refused cause
 refusing-faulted cause number (Refused was) is = is
 refusing-faulted cause number _ is = cc

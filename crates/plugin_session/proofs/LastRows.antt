@@ -8,7 +8,7 @@ use Rattle.plugin_session.specs.{Holds.Suite, Kept.{AreLastRows, AreNumbered, Is
 use Rattle.plugin_session.specs.Steps.{LastRowsAreRead, StepsKeepPlaces, after_task, handed, places_after}
 use Rattle.plugin_session.specs.Views.{SessionView, att_by, finish, number, row_of}
 use Rattle.plugin_session.specs.declared.{answer.TaskAnswer.TaskAnswer, row.Row.Row}
-use Rattle.plugin_session.proofs.StepViews.{row_of-after}
+use Rattle.plugin_session.proofs.{Numbered.slice_get-middle, StepViews.row_of-after}
 
 -- ---- lists
 
@@ -28,10 +28,6 @@ get-append : {X : Type 0} (xs ys : List X) (k : ℕ) (x : X) → slice_get xs k 
 get-append [] ys k x is = absurd cc
 get-append (y ∷ xs) ys zero x is = is
 get-append (y ∷ xs) ys (suc k) x is = get-append xs ys k x is
-
-get-end : {X : Type 0} (xs : List X) (x : X) → slice_get (xs ++ x ∷ []) (length xs) ≡ Some x
-get-end [] x = refl
-get-end (y ∷ xs) x = get-end xs x
 
 -- ---- one place
 
@@ -61,7 +57,7 @@ module _ (old : SessionView) (es : List Made) (row : Row) (a : TaskAnswer) where
   own-place : (att : Att) → att_eq row.att att ≡ true
       → IsLastRow (after_task old es (Some row) a).rows att (Some (length old.rows))
   own-place att same =
-      ap Some (get-end old.rows row)
+      ap Some (slice_get-middle old.rows [] row)
       ∙ sym (ap (option_map Some) (row_of-after old es (Some row) a att ∙ ap (λ b. option_or (cond b (Some row) None) (row_of old att)) same))
 
   other-place : (att : Att) (place : Option ℕ) → att_eq row.att att ≡ false → IsLastRow old.rows att place

@@ -10,7 +10,10 @@ use Rattle.plugin_session.proofs.Names.{ForwardEnsure, VethAdd, MacvlanAdd, Link
 use Rattle.plugin_session.proofs.Names.{SettingSet, LeaseNext, CachePut, LinkDel, NsChange, Outside, DropLink, Flush}
 use Rattle.plugin_session.proofs.Names.{Reply, Done, Leased, NoNs, Taken, Att, Host, Link, Tag, is_done, reply_to}
 use Rattle.kernel_types.specs.Apply.Calls.{begin_of, is_same_rule, new_forward, new_gateway, unless_there}
+use Rattle.kernel_types.specs.declared.call.Kind.{Kind}
 use Rattle.plugin_session.specs.LawsOfAnswers.{asks_for_lease}
+use Rattle.std.specs.Prelude.{not}
+use Rattle.plugin_registry.specs.Own.{is_own_call}
 
 -- ---- no other call is leased an address
 
@@ -20,6 +23,11 @@ is_lease reply = false
 
 abbrev IsNoLease : Host × Reply → Type 0
 IsNoLease step = is_lease step.1 ≡ false
+
+pub own-asks_none : (att : Att) (ks : List Kind) (call : Call) → is_own_call att ks call ≡ true
+    → not (asks_for_lease call) ≡ true
+own-asks_none att ks (LeaseNext owner set ranges) own = cc
+own-asks_none att ks _ own = refl
 
 -- by the ways in which a call goes
 none-if : (b : Bool) (step other : Host × Reply) → IsNoLease step → IsNoLease other

@@ -3,6 +3,7 @@ pub mod Causes
 pub mod Checked
 pub mod Collected
 pub mod Courses
+pub mod EachTask
 pub mod Going
 pub mod KindEnds
 pub mod QuietRuns
@@ -12,7 +13,6 @@ mod AddCalls
 mod AddEnds
 mod AddRuns
 mod Asking
-mod EachTask
 mod EarlyAdds
 mod Endings
 mod Ends

@@ -3,11 +3,16 @@ use Rattle.plugin_session.proofs.Names.{◌≡◌, ◌<◌, ◌==◌, ℕ, Bool,
 use Rattle.plugin_session.proofs.Names.{find, Option, Some, None, refl, sym, ap, subst, ◌∙◌, arith, eq-eqb, nat_tests}
 use Rattle.plugin_session.proofs.Names.{map-append, reverse-append, All-head, All-tail, filter-append, find-append, All}
 use Rattle.plugin_session.proofs.Names.{list_all, option_or, nat_lt, reverse, Made}
-use Rattle.std.proofs.lemmas.Bool.{ne_eqb}
+use Rattle.std.proofs.{Common.{slice_get, length}, lemmas.Bool.ne_eqb}
 use Rattle.plugin_session.specs.{Journal.entry_of, Kept.is_numbered, Views.{entries_of, made_of}}
 use Rattle.plugin_session.specs.declared.entry.Entry.{Entry}
+use Rattle.kernel_types.proofs.ListLemmas.{filter_never}
 
 -- ---- lists
+
+pub slice_get-middle : {X : Type 0} (xs ys : List X) (y : X) → slice_get (xs ++ y ∷ ys) (length xs) ≡ Some y
+slice_get-middle [] ys y = refl
+slice_get-middle (x ∷ xs) ys y = slice_get-middle xs ys y
 
 pub filter-all_of : {X : Type 0} (p q : X → Bool) → ((x : X) → q x ≡ true → p x ≡ true) → (xs : List X) → list_all q xs ≡ true
     → filter p xs ≡ xs
@@ -16,14 +21,6 @@ filter-all_of p q gives (x ∷ xs) all =
     let here : p x ≡ true = gives x (grind arith) in
     let rest : filter p xs ≡ xs = filter-all_of p q gives xs (grind arith) in
     ap (λ b. cond b (x ∷ filter p xs) (filter p xs)) here ∙ ap (λ l. x ∷ l) rest
-
-pub filter-none_of : {X : Type 0} (p q : X → Bool) → ((x : X) → q x ≡ true → p x ≡ false) → (xs : List X) → list_all q xs ≡ true
-    → filter p xs ≡ []
-filter-none_of p q gives [] all = refl
-filter-none_of p q gives (x ∷ xs) all =
-    let here : p x ≡ false = gives x (grind arith) in
-    let rest : filter p xs ≡ [] = filter-none_of p q gives xs (grind arith) in
-    ap (λ b. cond b (x ∷ filter p xs) (filter p xs)) here ∙ rest
 
 pub filter-none_all : {X : Type 0} (P : X → Type 0) (p : X → Bool) → ((x : X) → P x → p x ≡ false) → (xs : List X) → All P xs
     → filter p xs ≡ []
@@ -70,7 +67,7 @@ entries_of-append n xs ys =
 pub entries_of-later : (n m : ℕ) (xs : List Entry) → n < m → list_all (λ (x : Entry). is_numbered n x.task) xs ≡ true
     → entries_of m xs ≡ []
 entries_of-later n m xs less all =
-    ap (map made_of) (filter-none_of (λ (x : Entry). x.task == m) (λ (x : Entry). is_numbered n x.task) (λ x in_range. grind (arith, nat_tests)) xs all)
+    ap (map made_of) (filter_never (λ (x : Entry). x.task == m) (λ (x : Entry). is_numbered n x.task) (λ x in_range. grind (arith, nat_tests)) xs all)
 
 pub map-made : (n : ℕ) (es : List Made) → map made_of (map (entry_of n) es) ≡ es
 map-made n [] = refl

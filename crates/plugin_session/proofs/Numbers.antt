@@ -7,8 +7,8 @@ use Rattle.plugin_session.proofs.Names.{bytes_eq-Decides, unwrap_or, bytes_eq, a
 use Rattle.plugin_session.proofs.Names.{Task}
 use Rattle.std.proofs.{Common.Decides, lemmas.Bool.{and_from, Decides.{Decides-eqb, same_from_decides}}}
 use Rattle.std.proofs.lemmas.{List.take_more, Map.Text.is_eq-slice_cmp}
-use Rattle.std.specs.{BTreeMap.BTreeMap, Cmp.Lexicographic.slice_cmp, Ordering.{is_eq, nat_cmp, ordering_then}}
-use Rattle.std.specs.declared.cmp.Ordering.{Ordering, TheVariants.{Less, Equal, Greater}}
+use Rattle.std.specs.{BTreeMap.BTreeMap, Cmp.{tied_then, Lexicographic.slice_cmp}, Ordering.{is_eq, nat_cmp}}
+use Rattle.std.specs.Ordering.{ordering_then}
 use Rattle.std.specs.BTreeMap as tree
 use Rattle.plugin_session.specs.Kept.{AreNumbered, att_in}
 
@@ -19,16 +19,11 @@ at_names known container ifname = tree.get_by (λ k. ordering_then (slice_cmp na
 abbrev pub same_names : List ℕ → List ℕ → List ℕ → List ℕ → Bool
 same_names container ifname c i = bytes_eq container c && bytes_eq ifname i
 
-then-is_eq : (o p : Ordering) → is_eq (ordering_then o p) ≡ (is_eq o && is_eq p)
-then-is_eq Less p = refl
-then-is_eq Equal p = refl
-then-is_eq Greater p = refl
-
 -- what the map's order tells of two pairs of names
 pub names-test : (container ifname c i : List ℕ)
     → is_eq (ordering_then (slice_cmp nat_cmp container c) (slice_cmp nat_cmp ifname i)) ≡ same_names container ifname c i
 names-test container ifname c i =
-    then-is_eq (slice_cmp nat_cmp container c) (slice_cmp nat_cmp ifname i)
+    sym (tied_then (slice_cmp nat_cmp container c) (slice_cmp nat_cmp ifname i))
     ∙ ap (λ b. b && is_eq (slice_cmp nat_cmp ifname i)) (is_eq-slice_cmp container c)
     ∙ ap (λ b. bytes_eq container c && b) (is_eq-slice_cmp ifname i)
 

@@ -12,12 +12,11 @@ use Rattle.plugin_session.proofs.Names.{CacheDel, HasObj, CacheGet, OwnersOf, Po
 use Rattle.plugin_session.proofs.Names.{Flush, Kind, Reply, Done, NoNs, Taken, Gone, Fault, Host, Link, Tag, Command}
 use Rattle.plugin_session.proofs.Names.{deletion, att_of, Cause, Ending, Refused, reply_to, State, AfterLeases}
 use Rattle.plugin_session.proofs.Names.{ReadingCache, Deleting, Over, after_leases, at_call_after, at_deletion}
-use Rattle.plugin_session.proofs.Names.{deleting, faulted, leased_by, leases_in, next_call, finish_of, Made, host_on}
-use Rattle.plugin_session.proofs.Names.{replies}
+use Rattle.plugin_session.proofs.Names.{deleting, leased_by, leases_in, next_call, finish_of, Made, host_on, replies}
 use Rattle.kernel_types.specs.declared.object.Tag.TheVariants as tags
 use Rattle.kernel_types.specs.declared.call.Kind.TheVariants as kinds
 use Rattle.plugin_session.specs.{Course.{Course, IsRunFrom, advance, at_cache, state_from}, Journal.IsOver}
-use Rattle.plugin_session.proofs.Ready.{moves_last}
+use Rattle.plugin_session.proofs.{Ends.refusing-faulted, Ready.moves_last}
 
 -- ---- one reply
 
@@ -185,10 +184,6 @@ IsBackFor cause (Deleting next left ending) = ending ≡ Refused cause
 IsBackFor cause (Over ending given) = ending ≡ Refused cause
 IsBackFor cause s = ⊥
 
-faulted-back : (cause : Cause) (number : ℕ) (ending : Ending) → ending ≡ Refused cause
-    → faulted number ending ≡ Refused cause
-faulted-back cause number ending is = ap (faulted number) is
-
 back-deleting : (cause : Cause) (ks : List Kind) (ending : Ending) → ending ≡ Refused cause
     → IsBackFor cause (deleting ks ending)
 back-deleting cause [] ending is = is
@@ -196,13 +191,13 @@ back-deleting cause (kind ∷ ks) ending is = is
 
 back-cache : (cause : Cause) (co : Course) (number : ℕ) (ending : Ending) (r : Reply) → ending ≡ Refused cause
     → IsBackFor cause (at_cache co number ending r)
-back-cache cause co number ending Fault is = faulted-back cause number ending is
+back-cache cause co number ending Fault is = refusing-faulted cause number ending is
 back-cache cause co number ending _ is = back-deleting cause co.kinds ending is
 
 back-deletion : (cause : Cause) (number : ℕ) (kind : Kind) (left : List Kind) (ending : Ending) (r : Reply)
     → ending ≡ Refused cause → IsBackFor cause (at_deletion number kind left ending r)
 back-deletion cause number kind left ending (Gone false) is = back-deleting cause left ending is
-back-deletion cause number kind left ending Fault is = faulted-back cause number ending is
+back-deletion cause number kind left ending Fault is = refusing-faulted cause number ending is
 back-deletion cause number kind left ending _ is = is
 
 back-advance : (cause : Cause) (co : Course) (number : ℕ) (s : State) (r : Reply) → IsBackFor cause s

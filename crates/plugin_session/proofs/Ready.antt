@@ -17,6 +17,7 @@ use Rattle.kernel_types.proofs.{EveryCall.{IsSound-apply, Touches-apply}, Leased
 use Rattle.kernel_types.specs.declared.object.Tag.TheVariants as tags
 use Rattle.kernel_types.specs.declared.call.Kind.TheVariants as kinds
 use Rattle.plugin_session.specs.{Journal.{JournalView, after_entries, made_next}, Pools.{IsLastOf, IsReady, Pools}}
+use Rattle.cni_addr.proofs.Cases.{by_test}
 
 -- ---- the host after one call
 
@@ -24,14 +25,10 @@ use Rattle.plugin_session.specs.{Journal.{JournalView, after_entries, made_next}
 abbrev pub made_on : Host → Call → Bool → Made
 made_on host call faulty = record { call = call; reply = reply_to host call faulty }
 
-either : (P : Host → Type 0) (b : Bool) (old new : Host) → P old → P new → P (if b then old else new)
-either P true old new before after = before
-either P false old new before after = after
-
 -- what holds before the call, and after the kernel made it, holds with and without a fault
 on-made : (P : Host → Type 0) (host : Host) (call : Call) (faulty : Bool) → P host → P (apply host call).0
     → P (host_on host (made_on host call faulty))
-on-made P host call faulty before after = either P (is_fault (reply_to host call faulty)) host (apply host call).0 before after
+on-made P host call faulty before after = by_test P (is_fault (reply_to host call faulty)) host (apply host call).0 (λ _. before) (λ _. after)
 
 -- a fault leaves the host, whichever call it answers
 pub ready-fault : (pools : Pools) (host : Host) (call : Call) → IsReady pools host

@@ -2,16 +2,14 @@
 use Rattle.plugin_session.proofs.Names.{◌≡◌, ℕ, ◌+◌, true, not, ◌&&◌, List, [], Option, Some, None, refl, sym, ap, ◌∙◌}
 use Rattle.plugin_session.proofs.Names.{arith, IfSome, nat_tests, All-weaker, list_all-append, AllByRecursion, list_all}
 use Rattle.plugin_session.proofs.Names.{MatchOption, reverse, Cached, att_eq-same, list_all-weaker, passes-find}
-use Rattle.plugin_session.proofs.Names.{HasRangesApart, att_eq, Call, VethAdd, MacvlanAdd, AddrAdd, RouteAdd}
-use Rattle.plugin_session.proofs.Names.{RuleAppend, SettingSet, Kind, Att, HostLocalConf, is_own_call, att_of, Made}
-use Rattle.plugin_session.proofs.Names.{Task}
+use Rattle.plugin_session.proofs.Names.{HasRangesApart, att_eq, Att, HostLocalConf, is_own_call, att_of, Made, Task}
 use Rattle.std.proofs.lemmas.List.Elements.{recursion_from_All}
 use Rattle.net_conf.specs.WellFormed.{IsWellFormedIpam, IsWellFormedSet}
 use Rattle.plugin_session.specs.{Holds.Suite, Kept.IsRowKept, Laws.IsOwnRow, LawsOfAnswers.asks_for_lease}
 use Rattle.plugin_session.specs.{Pools.sets_by, Ran.{Handed, IsAnswered, IsNewRow, command_for}, Steps.IsViewKept}
 use Rattle.plugin_session.specs.{Steps.handed, Tasks.{forward_by, forward_of}, Views.{SessionView, number, row_of}}
 use Rattle.plugin_session.specs.declared.row.Row.{Row}
-use Rattle.plugin_session.proofs.Numbered.{last_found}
+use Rattle.plugin_session.proofs.{Leased.own-asks_none, Numbered.last_found}
 
 -- ---- a row
 
@@ -65,20 +63,11 @@ found-att old att row is = att_eq-same row.att att (passes-find (λ r. att_eq r.
 
 -- ---- its calls
 
-own-no_lease : (att : Att) (ks : List Kind) (call : Call) → is_own_call att ks call ≡ true → not (asks_for_lease call) ≡ true
-own-no_lease att ks (VethAdd host_end inner_end) is = refl
-own-no_lease att ks (MacvlanAdd link) is = refl
-own-no_lease att ks (AddrAdd obj) is = refl
-own-no_lease att ks (RouteAdd obj) is = refl
-own-no_lease att ks (RuleAppend rule) is = refl
-own-no_lease att ks (SettingSet setting) is = refl
-own-no_lease att ks _ is = absurd cc
-
 forward-no_lease : (att : Att) (row : Row) (cached : Option Cached) → list_all (is_own_call att row.kinds) row.calls ≡ true
     → list_all (λ call. not (asks_for_lease call)) (forward_by row.att row.calls cached) ≡ true
 forward-no_lease att row None own = refl
 forward-no_lease att row (Some cached) own =
-    let none = list_all-weaker (is_own_call att row.kinds) (λ call. not (asks_for_lease call)) (own-no_lease att row.kinds) row.calls own in
+    let none = list_all-weaker (is_own_call att row.kinds) (λ call. not (asks_for_lease call)) (own-asks_none att row.kinds) row.calls own in
     list_all-append (λ call. not (asks_for_lease call)) row.calls _ ∙ ap (λ b. b && true) none
 
 -- no call after the leases asks for one

@@ -19,11 +19,11 @@ use Rattle.plugin_session.specs.declared.{answer.TaskAnswer.TaskAnswer, row.Row.
 use Rattle.plugin_session.specs.declared.answer.TaskAnswer.TheVariants as answers
 use Rattle.plugin_session.proofs.{Causes.each-cause, Checked.{check-exact, check-same, row-asks}, Collected.gc-keeps}
 use Rattle.plugin_session.proofs.Courses.{Added.{added_is_whole, refused_add_is_undone}, Deleted.deleted-gone}
-use Rattle.plugin_session.proofs.{Courses.{Deleted.deleted-idle, Unbegun.unbegun_is_undone}, StepAnswers.answers-cause}
-use Rattle.plugin_session.proofs.StepAnswers.{early-added, early-refused, early-stopped, early-yes, stopped-due, told}
-use Rattle.plugin_session.proofs.{StepAnswers.yes-exact, StepEnds.{ended-found, open-over}, StepShapes.begun-found}
-use Rattle.plugin_session.proofs.StepShapes.{is-add, is-fit, leases-alone, objects-after, part-own, row-own}
-use Rattle.plugin_session.proofs.{StepShapes.{ready-after, run_of}, StepViews.steps-seen}
+use Rattle.plugin_session.proofs.{Courses.{Deleted.deleted-idle, Unbegun.unbegun_is_undone}, Numbered.slice_get-middle}
+use Rattle.plugin_session.proofs.StepAnswers.{answers-cause, early-added, early-refused, early-stopped, early-yes}
+use Rattle.plugin_session.proofs.{StepAnswers.{stopped-due, told, yes-exact}, StepEnds.{ended-found, open-over}}
+use Rattle.plugin_session.proofs.StepShapes.{begun-found, is-add, is-fit, leases-alone, objects-after, part-own}
+use Rattle.plugin_session.proofs.{StepShapes.{row-own, ready-after, run_of}, StepViews.steps-seen}
 
 match-map : {X : Type 0} (o : Option X) {A B : Type 0} {P Q : X → Type 0} → (A → B) → ((x : X) → P x → Q x)
     → MatchOption o A P → MatchOption o B Q
@@ -318,10 +318,6 @@ steps-hold suite old new t es more a kept step =
 
 -- ---- the task that was answered last is this one
 
-answer-last : {X : Type 0} (xs : List X) (x : X) → slice_get (xs ++ x ∷ []) (length xs) ≡ Some x
-answer-last [] x = refl
-answer-last (y ∷ xs) x = answer-last xs x
-
 pub steps-hold_of_the_last : (suite : Suite) → StepsHoldOfTheLast suite
 steps-hold_of_the_last suite old new t es more a kept step = λ u b there answer.
     let numbers : number new - 1 ≡ number old =
@@ -329,5 +325,5 @@ steps-hold_of_the_last suite old new t es more a kept step = λ u b there answer
     let task : t ≡ u =
     same_Some t u (sym step.there ∙ sym (ap (slice_get old.conf.tasks) numbers) ∙ sym (ap (λ (s : SessionView). slice_get s.conf.tasks (number new - 1)) step.is) ∙ there) in
     let answered : a ≡ b =
-    same_Some a b (sym (answer-last old.answers a) ∙ sym (ap (slice_get (old.answers ++ a ∷ [])) numbers) ∙ sym (ap (λ (s : SessionView). slice_get s.answers (number new - 1)) step.is) ∙ answer) in
+    same_Some a b (sym (slice_get-middle old.answers [] a) ∙ sym (ap (slice_get (old.answers ++ a ∷ [])) numbers) ∙ sym (ap (λ (s : SessionView). slice_get s.answers (number new - 1)) step.is) ∙ answer) in
     subst (λ x. HoldsOf suite new x b) task (subst (λ x. HoldsOf suite new t x) answered (steps-hold suite old new t es more a kept step))

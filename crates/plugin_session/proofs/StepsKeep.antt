@@ -16,9 +16,10 @@ use Rattle.plugin_session.specs.{Pools.{IsReady, sets_by}, Ran.Ran, Steps.{IsVie
 use Rattle.plugin_session.specs.Steps.{TheFirstViewIsKept, TheViewIsKept, after_task, handed, if_any}
 use Rattle.plugin_session.specs.Views.{SessionView, begun, finish, leased_to, number}
 use Rattle.plugin_session.specs.declared.{answer.TaskAnswer.TaskAnswer, entry.Entry.Entry, row.Row.Row}
-use Rattle.plugin_session.proofs.{Numbered.{filter-none_of, numbered-own}, StepRows.{kept-later, kept-new}}
-use Rattle.plugin_session.proofs.StepShapes.{begun-found, leases-alone, objects-after, ready-after, run_of}
+use Rattle.plugin_session.proofs.{Numbered.numbered-own, StepRows.{kept-later, kept-new}, StepShapes.begun-found}
+use Rattle.plugin_session.proofs.StepShapes.{leases-alone, objects-after, ready-after, run_of}
 use Rattle.plugin_session.proofs.{StepViews.{leased_to-before, leased_to-own}, Unpooled.unpooled-leases}
+use Rattle.kernel_types.proofs.ListLemmas.{filter_never}
 
 entries-kept : (old : SessionView) (es : List Made) → IsViewKept old
     → list_all (λ (e : Entry). is_numbered (number old + 1) e.task) (old.history ++ map (entry_of (number old + 1)) es) ≡ true
@@ -124,7 +125,7 @@ outside-not_own att (tags.Own own) is = absurd cc
 
 opening-none : (att : Att) (host : Host) → IsOpening host → share_of att host ≡ no_objects
 opening-none att host opening = λ i. record {
-  links = filter-none_of (λ (l : Link). is_own att l.tag) (λ l. tag_eq l.tag tags.Outside) (λ l is. outside-not_own att l.tag is) host.links opening.links i;
+  links = filter_never (λ (l : Link). is_own att l.tag) (λ l. tag_eq l.tag tags.Outside) (λ l is. outside-not_own att l.tag is) host.links opening.links i;
   addresses = ap (filter (λ (a : AddrObj). is_own att a.tag)) opening.addresses i;
   routes = ap (filter (λ (r : RouteObj). is_own att r.tag)) opening.routes i;
   rules = ap (filter (λ (r : Rule). is_own att r.tag)) opening.rules i;

@@ -10,6 +10,7 @@ use Rattle.plugin_session.proofs.Names.{pick_of, att_eq-refl, HostLocalConf, is_
 use Rattle.plugin_session.proofs.Names.{share_of, share_after_call, share_after_calls, share-other}
 use Rattle.plugin_base.proofs.{OtherCalls.call-plugin, OwnCalls.{share-begin, share-lease, share-own}}
 use Rattle.plugin_base.proofs.Refusals.{refused-lease, refused-same}
+use Rattle.gc_sweep.proofs.OfKinds.{HasKindsAlone-none}
 use Rattle.plugin_session.specs.{Course.advance, Holds.{IsPartOf, has_begun, is_begun}, Journal.IsOver}
 use Rattle.plugin_session.specs.Laws.{EachAddLeavesOthers, EachAddMakesParts, EachAddStaysReady, EachAddedIsWhole}
 use Rattle.plugin_session.specs.Laws.{EachUnpooledAddLeasesNothing, EachRefusedAddIsUndone, IsAdd, IsUndone, Run}
@@ -18,9 +19,9 @@ use Rattle.plugin_session.specs.declared.row.Row.{Row}
 use Rattle.plugin_session.proofs.Courses.Adding.{AddAt, Goes, Undoes, goes-part, moves-back, moves-begin, moves-call}
 use Rattle.plugin_session.proofs.Courses.{Adding.{moves-lease, undoes-at}, Calls.{IsForward, appends, with_leases}}
 use Rattle.plugin_session.proofs.Courses.Calls.{appends-allowed, appends-no_lease, forward-all, forward-makes}
-use Rattle.plugin_session.proofs.Courses.{Deleting.{deletes-on, gone-all}, Runs.{Keeps, along, host-made, on-call}}
-use Rattle.plugin_session.proofs.{Courses.{Runs.replied, Unbegun.begin-no_lease}, Ready.{lease-allowed, made_on}}
-use Rattle.plugin_session.proofs.Ready.{ready-begin, ready-lease, ready-own_call}
+use Rattle.plugin_session.proofs.Courses.{Deleting.deletes-on, Runs.{Keeps, along, host-made, on-call, replied}}
+use Rattle.plugin_session.proofs.{Courses.Unbegun.begin-no_lease, Numbered.slice_get-middle, Ready.lease-allowed}
+use Rattle.plugin_session.proofs.Ready.{made_on, ready-begin, ready-lease, ready-own_call}
 
 -- ---- one entry
 
@@ -67,10 +68,6 @@ next-begin ipam row r past number host fault ready none =
 
 -- ---- a lease
 
-set-at : (done left : List RangeSet) (set : RangeSet) → slice_get (done ++ set ∷ left) (length done) ≡ Some set
-set-at [] left set = refl
-set-at (x ∷ xs) left set = set-at xs left set
-
 set-apart : (done left : List RangeSet) (set : RangeSet) → AllByRecursion HasRangesApart (done ++ set ∷ left)
     → HasRangesApart set
 set-apart [] left set all = all.0
@@ -107,7 +104,7 @@ next-lease ipam row r past number set left given host fault add ready was =
     let n = length given in
     let call = LeaseNext att n set in
     let e = made_on host call fault in
-    let there : slice_get r.course.sets n ≡ Some set = ap (λ sets. slice_get sets n) was.1 ∙ ap (slice_get (was.0 ++ set ∷ left)) was.2.each ∙ set-at was.0 left set in
+    let there : slice_get r.course.sets n ≡ Some set = ap (λ sets. slice_get sets n) was.1 ∙ ap (slice_get (was.0 ++ set ∷ left)) was.2.each ∙ slice_get-middle was.0 left set in
     let apart = set-apart was.0 left set (subst (AllByRecursion HasRangesApart) was.1 add.apart) in record {
       at = moves-lease ipam row r past e number set was.0 left given e.reply host (host_on host e) add refl was.1 was.2
           (lease-share att host n set fault) (lease-same att host n set fault) (lease-not_done host att n set fault);
@@ -282,7 +279,7 @@ at-undone ipam row r past (Over e given) host cause ready at over = elim at [
     are = u.are;
     granted = u.granted;
     refuses = u.refuses;
-    undone = inr (elim u.left [ inl none ↦ inl (gone-all (own_att r) host ready.sound none.1) | inr fault ↦ inr fault.2 ]);
+    undone = inr (elim u.left [ inl none ↦ inl (HasKindsAlone-none (own_att r) host ready.sound none.1) | inr fault ↦ inr fault.2 ]);
   }
 ]
 at-undone ipam row r past (Collecting work faults) host cause ready at over = absurd at

@@ -1,12 +1,12 @@
 -- What a DEL leaves.
 use Rattle.plugin_session.proofs.Names.{◌≡◌, ℕ, List, [], refl, ◌∙◌, ap, subst, inl, inr, Yes, State, ReadingCache}
 use Rattle.plugin_session.proofs.Names.{Over, faulted, Made, Att, Host, share_of}
-use Rattle.gc_sweep.proofs.Removes.{within_trans}
+use Rattle.gc_sweep.proofs.{OfKinds.HasKindsAlone-none, Removes.within_trans}
 use Rattle.plugin_session.specs.Laws.{EachDelLeavesOthers, EachDelMakesParts, EachDelOnlyRemoves, EachDelStaysReady}
 use Rattle.plugin_session.specs.Laws.{EachDeletedIsGone, EachIdleDelLeavesTheHost, IsDel, Run, end_from, finish}
 use Rattle.plugin_session.specs.Laws.{own_att}
-use Rattle.plugin_session.proofs.Courses.Deleting.{Left, TakesBack, deletes-on, gone-all, takes-nothing}
-use Rattle.plugin_session.proofs.Courses.{Parts.part-removes, Runs.{Keeps, along}}
+use Rattle.plugin_session.proofs.Courses.{Deleting.{Left, TakesBack, deletes-on, takes-nothing}, Parts.part-removes}
+use Rattle.plugin_session.proofs.Courses.Runs.{Keeps, along}
 
 -- what holds of a DEL after some of its entries
 record IsDeleting (r : Run) (past : List Made) (s : State) (host : Host) : Type 0 where
@@ -45,7 +45,7 @@ deleted-gone r del given is =
     let was = deleted r del in
     let left : Left r.course Yes r.entries (Over Yes given) (share_of (own_att r) (finish r)) = subst (λ s. Left r.course Yes r.entries s (share_of (own_att r) (finish r))) is was.left in
     elim left [
-      | inl none ↦ gone-all (own_att r) (finish r) was.takes.sound none.1
+      | inl none ↦ HasKindsAlone-none (own_att r) (finish r) was.takes.sound none.1
       | inr fault ↦ absurd (not-faulted fault.0 fault.1)
     ]
 

@@ -5,30 +5,16 @@ use Rattle.plugin_session.proofs.Names.{State, AtBegin, BeforeLeases, Leasing, A
 use Rattle.plugin_session.proofs.Names.{FindingEntry, Asking, Changing, Collecting, Over, deleting, faulted, next_call}
 use Rattle.plugin_session.proofs.Names.{at_deletion, leases_in, IsWithin, Made, host_on, HasKindsAlone, apply, att_eq}
 use Rattle.plugin_session.proofs.Names.{is_fault, IsSound, is_own, Call, CacheGet, Kind, Reply, Gone, Fault, Att, Host}
-use Rattle.plugin_session.proofs.Names.{att_eq-refl, is_call_of, Share, no_objects, share_of, share-other, deletion}
-use Rattle.plugin_session.proofs.Names.{Command}
-use Rattle.gc_sweep.proofs.{Deletions.{deletes, deletion-none}, Lists.list_any-snoc, OfKinds.HasKindsAlone-removes}
-use Rattle.gc_sweep.proofs.Removes.{within_same}
+use Rattle.plugin_session.proofs.Names.{Share, no_objects, share_of, share-other, deletion, Command}
+use Rattle.gc_sweep.proofs.{Deletions.{deletes, deletion-none, deletion-own}, Lists.list_any-snoc}
+use Rattle.gc_sweep.proofs.{OfKinds.HasKindsAlone-removes, Removes.within_same}
 use Rattle.kernel_types.specs.declared.call.Kind.TheVariants as kinds
-use Rattle.plugin_base.proofs.Deletions.{gone-links, gone-none, no-links}
+use Rattle.plugin_base.proofs.Deletions.{gone-links, gone-none}
 use Rattle.plugin_session.specs.{Course.{Course, advance, at_cache}, Pools.{IsReady, Pools}}
 use Rattle.plugin_session.proofs.{Courses.Runs.{host-made, on-call, replied}, Ready.{deletion-allowed, made_on}}
 use Rattle.plugin_session.proofs.Ready.{ready-deletion}
 
 -- ---- no kind is left
-
-pub gone-all : (att : Att) (host : Host) → IsSound host → HasKindsAlone [] (share_of att host)
-    → share_of att host ≡ no_objects
-gone-all att host sound none =
-    let links = none.links refl in
-    let lain = no-links att host sound links in
-    let addresses = lain.0 in
-    let routes = lain.1 in
-    let rules = none.rules refl in
-    let settings = none.settings refl in
-    let leases = none.leases refl in
-    let cached = none.cached refl in
-    rw (links, addresses, routes, rules, settings, leases, cached) refl
 
 -- a deletion that found nothing of its kind
 pub gone-kind : (att : Att) (host : Host) (k : Kind) (ks : List Kind) → (apply host (deletion att k)).1 ≡ Gone false
@@ -142,13 +128,6 @@ takes-nothing att host sound = record {
   idle = λ none. refl;
   ready = λ pools ready. ready;
 }
-
-deletion-own : (att : Att) (k : Kind) → is_call_of att (deletion att k) ≡ true
-deletion-own att kinds.Links = att_eq-refl att
-deletion-own att kinds.Rules = att_eq-refl att
-deletion-own att kinds.Settings = att_eq-refl att
-deletion-own att kinds.Leases = att_eq-refl att
-deletion-own att kinds.Cached = att_eq-refl att
 
 pub deletion-takes : (att : Att) (host : Host) (k : Kind) (fault : Bool) → IsSound host
     → TakesBack att host (host_on host (made_on host (deletion att k) fault))

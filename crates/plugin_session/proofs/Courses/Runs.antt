@@ -6,6 +6,7 @@ use Rattle.plugin_session.proofs.Names.{host_on, replies, apply, is_fault, Call,
 use Rattle.plugin_session.proofs.Names.{Command}
 use Rattle.plugin_session.specs.Course.{Course, IsRunFrom, advance, state_from}
 use Rattle.plugin_session.proofs.Ready.{made_on}
+use Rattle.cni_addr.proofs.Cases.{by_test}
 
 -- ---- a run
 
@@ -29,14 +30,10 @@ along co c faulty P keeps past made s host (e ∷ es) run was =
 
 -- ---- one call
 
-chosen : (P : Host → Type 0) (b : Bool) (old new : Host) → P old → P new → P (if b then old else new)
-chosen P true old new before after = before
-chosen P false old new before after = after
-
 -- what holds before a call, and after the kernel made it, holds with and without a fault
 pub on-call : (P : Host → Type 0) (host : Host) (call : Call) (fault : Bool) → P host → P (apply host call).0
     → P (host_on host (made_on host call fault))
-on-call P host call fault before after = chosen P (is_fault (reply_to host call fault)) host (apply host call).0 before after
+on-call P host call fault before after = by_test P (is_fault (reply_to host call fault)) host (apply host call).0 (λ _. before) (λ _. after)
 
 -- the host after a call that the kernel made
 pub host-made : (host : Host) (call : Call) → host_after host call (apply host call).1 ≡ (apply host call).0

@@ -10,21 +10,13 @@ use Rattle.pod_laws.proofs.Names.{commands_of, World, after_entry, host_of, own_
 use Rattle.pod_laws.proofs.Names.{LeftIsOutside, left-are-of_plugins, left-is-outside, alone_apart, sound_host}
 use Rattle.pod_laws.proofs.Names.{OnlyRemoves, removes-nothing}
 use Rattle.pod_file.specs.declared.command.Verb.TheVariants as verbs
-use Rattle.kernel_types.specs.declared.call.Kind.TheVariants as kinds
 use Rattle.plugin_base.proofs.OtherCalls.{call-plugin}
 use Rattle.pod_workers.proofs.OfPlugins.{IsOutside}
-use Rattle.gc_sweep.proofs.Removes.{removes-outside}
+use Rattle.gc_sweep.proofs.{Deletions.deletion-own, Removes.removes-outside}
 use Rattle.pod_laws.proofs.Histories.States.{LeftFit, is_question, left-fit, question-leaves, asked-is_question}
 use Rattle.pod_laws.proofs.Histories.Steps.{Changes, GoesOn, on-entry}
 
 -- ---- what a run calls
-
-own-deletion : (att : Att) (kind : Kind) → is_call_of att (deletion att kind) ≡ true
-own-deletion att kinds.Links = att_eq-refl att
-own-deletion att kinds.Rules = att_eq-refl att
-own-deletion att kinds.Settings = att_eq-refl att
-own-deletion att kinds.Leases = att_eq-refl att
-own-deletion att kinds.Cached = att_eq-refl att
 
 -- a GC deletes of any attachment
 pub record IsDeletionOfCollection (c : Command) (call : Call) : Type 0 where
@@ -59,7 +51,7 @@ own-turn list c (BeforeLeases x xs) call left fit is = subst (IsTurnOf c) (let e
 own-turn list c (Leasing set sets given) call left fit is = subst (IsTurnOf c) (let e : LeaseNext (att_of c) (length given) set ≡ call = cc in e) (inl (att_eq-refl (att_of c)))
 own-turn list c (AfterLeases x xs given) call left fit is = subst (IsTurnOf c) (let e : x ≡ call = cc in e) (inl (call-plugin (att_of c) x left.0.0))
 own-turn list c (ReadingCache ending) call left fit is = subst (IsTurnOf c) (let e : CacheGet (att_of c) ≡ call = cc in e) (inl (att_eq-refl (att_of c)))
-own-turn list c (Deleting kind ks ending) call left fit is = subst (IsTurnOf c) (let e : deletion (att_of c) kind ≡ call = cc in e) (inl (own-deletion (att_of c) kind))
+own-turn list c (Deleting kind ks ending) call left fit is = subst (IsTurnOf c) (let e : deletion (att_of c) kind ≡ call = cc in e) (inl (deletion-own (att_of c) kind))
 own-turn list c FindingEntry call left fit is = subst (IsTurnOf c) (let e : CacheGet (att_of c) ≡ call = cc in e) (inl (att_eq-refl (att_of c)))
 own-turn list c (Asking q qs) call left fit is = subst (IsTurnOf c) (let e : q.call ≡ call = cc in e) (inr (inl (asked-is_question list q.call fit.0)))
 own-turn list c (Changing change) call left fit is = absurd fit

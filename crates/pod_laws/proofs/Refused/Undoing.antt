@@ -14,7 +14,7 @@ use Rattle.pod_laws.proofs.Names.{after_entry, reply_to, Entry, LeftAreOfPlugins
 use Rattle.pod_laws.proofs.Names.{HasKindsAlone-removes, removes-deletion}
 use Rattle.pod_file.specs.declared.command.Verb.TheVariants as verbs
 use Rattle.kernel_types.specs.declared.call.Kind.TheVariants as kinds
-use Rattle.plugin_base.proofs.Deletions.{gone-none, gone-links, no-links}
+use Rattle.plugin_base.proofs.Deletions.{gone-none, gone-links}
 use Rattle.pod_laws.specs.{Deleted.{HasDeleted, IsUndeletedFor}, Moments.{has_fault, own_entries}, Refused.lets_go_on}
 use Rattle.pod_laws.specs.Refused.{FirstRefusal, IsRefusedFor}
 use Rattle.pod_laws.proofs.{Added.{Footing.IsMacvlan, Stands.no_link-now}, Histories.{Entries.pushed, Runs.AfterEntry}}
@@ -23,6 +23,7 @@ use Rattle.pod_laws.proofs.Histories.{States.{IsOtherVerb, aside-advance, aside-
 use Rattle.pod_laws.proofs.{Histories.Steps.sound-entered, Questions.Asking.{no_fault-more, fault-last}}
 use Rattle.pod_laws.proofs.Refused.Causes.{Refuses, begin-refused, plugin-refused, lease-refused}
 use Rattle.pod_laws.proofs.Shares.Within.{within-entered}
+use Rattle.gc_sweep.proofs.OfKinds.{HasKindsAlone-none}
 
 -- ---- what led to a state
 
@@ -259,11 +260,6 @@ gone-deleted : (att : Att) (k : Host) (n : ℕ) (faulty : Bool) (kind : Kind) (k
 gone-deleted att k n true kind ks h w = cc
 gone-deleted att k n false kind ks h w = subst (λ j. HasKindsAlone ks (share_of att j)) (sym (host-made k n (deletion att kind))) (gone-kind att k kind ks h w)
 
-none-left : (att : Att) (k : Host) → IsSound k → HasKindsAlone [] (share_of att k) → share_of att k ≡ no_objects
-none-left att k sound w =
-    let lies = no-links att k sound (w.links refl) in
-    rw (w.links refl, lies.0, lies.1, w.rules refl, w.settings refl, w.leases refl, w.cached refl) refl
-
 -- ---- runs that make no attachment
 
 pub undone-end : (c : Command) (es : List Entry) (ending : Ending) (s : Share) → IsOther c → IsNoResult ending
@@ -317,12 +313,12 @@ undone-own list c es (AfterLeases x xs given) k n faulty call left is sound on w
     subst P (let e : x ≡ call = cc in e)
     (λ here. undo-after list c es (entry_of k n x faulty) xs given _ _ refl was (λ not. plugin-refused (att_of c) k x faulty (length es + 1) left.0.0 (here.over left.0.0) not)) on
 undone-own list c es (ReadingCache ending) k n faulty call left is sound on was =
-    undo-cache list c es (entry_of k n call faulty) ending _ _ refl was on.within (none-left (att_of c) (after_entry k (entry_of k n call faulty)) on.sound)
+    undo-cache list c es (entry_of k n call faulty) ending _ _ refl was on.within (HasKindsAlone-none (att_of c) (after_entry k (entry_of k n call faulty)) on.sound)
 undone-own list c es (Deleting kind ks ending) k n faulty call left is sound on was =
     let P : Call → Type 0 = λ j. IsEntered list c k n faulty j → AfterEntry Undoing list c es (Deleting kind ks ending) k n faulty j in
     subst P (let e : deletion (att_of c) kind ≡ call = cc in e)
     (λ here. undo-deletion list c es (entry_of k n (deletion (att_of c) kind) faulty) kind ks ending _ _ refl was.0 (within-deleted (att_of c) k n faulty (kind ∷ ks) kind sound was.1)
-    (λ h. gone-deleted (att_of c) k n faulty kind ks h was.1) (none-left (att_of c) (after_entry k (entry_of k n (deletion (att_of c) kind) faulty)) here.sound)) on
+    (λ h. gone-deleted (att_of c) k n faulty kind ks h was.1) (HasKindsAlone-none (att_of c) (after_entry k (entry_of k n (deletion (att_of c) kind) faulty)) here.sound)) on
 undone-own list c es (Over ending given) k n faulty call left is sound on was = cc
 undone-own list c es st k n faulty call left is sound on was =
     let e = entry_of k n call faulty in
