@@ -9,10 +9,10 @@ use Rattle.kernel_types.specs.declared.rule.Chain.TheVariants as chains
 use Rattle.packet_laws.specs.{Complete.IsAttached, Packets.{has_address, has_firewall, has_ip_masq, is_firewall}}
 use Rattle.packet_laws.specs.Packets.{lets_through}
 use Rattle.packet_laws.proofs.{Equal.{addr-same, chain-same, equal-addr}, Lists.{among-any, among-map, any-among}}
-use Rattle.packet_laws.proofs.{Lists.{map-among, same_answer}, Matching.{from-matches, replies-matches}}
-use Rattle.packet_laws.proofs.{Settled.{IsSettled, cached-object, keeper, rule-of}, WantedRules.forward-wanted}
-use Rattle.packet_laws.proofs.{WantedRules.wanted-forward, Ways.{IsOnItsWay, accepted-moved, moved, on_its_way}}
-use Rattle.packet_laws.proofs.Ways.{one-moved}
+use Rattle.packet_laws.proofs.{Lists.map-among, Matching.{from-matches, replies-matches}, Settled.IsSettled}
+use Rattle.packet_laws.proofs.{Settled.{cached-object, keeper, rule-of}, WantedRules.{forward-wanted, wanted-forward}}
+use Rattle.packet_laws.proofs.Ways.{IsOnItsWay, accepted-moved, moved, on_its_way, one-moved}
+use Rattle.std.specs.Cmp.Derive.{one_truth}
 
 -- ---- an accepted packet has an attachment that lets it through
 
@@ -135,4 +135,4 @@ accepted-as_cached p host s packet one =
     let way = on_its_way host.rules packet in
     let still = one-moved packet q one way in
     accepted-moved host.rules packet
-    ∙ same_answer (any_match chains.Forward host.rules q) (list_any (lets_through p packet) host.cached) (accepted-let p host s packet q still way) (let-accepted p host s packet q still way)
+    ∙ one_truth (any_match chains.Forward host.rules q) (list_any (lets_through p packet) host.cached) (accepted-let p host s packet q still way) (let-accepted p host s packet q still way)

@@ -12,14 +12,14 @@ use Rattle.cni_verbs.specs.{Mappings.mappings_of, Script.leases_in}
 use Rattle.plugin_chain.specs.Wanted.{all_chained_results, cached_of, chained_result, first_plugin_result}
 use Rattle.plugin_chain.specs.Wanted.{result_of_add, wanted}
 use Rattle.plugin_chain.proofs.GivenAddresses.{chained-ips}
-use Rattle.pod_file.specs.{Commands.is_of_network, declared.command.Command.Command}
-use Rattle.pod_workers.specs.{Legal.Legal, Plans.list_for, World.{World, after, replies_of}, declared.plan.Entry.Entry}
-use Rattle.pod_workers.proofs.GoesWell.{if-listed}
+use Rattle.pod_file.specs.declared.command.Command.{Command}
+use Rattle.pod_workers.specs.{Legal.Legal, World.{World, after, replies_of}, declared.plan.Entry.Entry}
 use Rattle.pod_laws.specs.{CachedResults.IsResultOfItsAdd, Guaranteed.IsWellKept}
 use Rattle.packet_laws.specs.{Complete.{IsAttached, IsComplete, wanted_of}, Packets.has_ip_masq}
 use Rattle.packet_laws.proofs.{Equal.{lease-equal, rule-equal}, Lists.{all-among, any-among, filter-among}}
 use Rattle.packet_laws.proofs.{Settled.{IsSettled, IsSettledFor, rules_for}, WantedRules.{chained_rules, first-rules}}
 use Rattle.packet_laws.proofs.WantedRules.{rules_by}
+use Rattle.pod_workers.proofs.Sound.{list_named-listed}
 
 -- ---- what is asked for is what the cached result wants
 
@@ -58,15 +58,10 @@ takes-handed : (list : NetList) (c : Command) (m : PortMapping) → IsAmong m (m
 unfolding mappings_of
 takes-handed list c m at = handed (list_any takes_mappings list.chained) _ m at
 
-listed-named : (p : Plan) (c : Command) (list : NetList) → list_for p c ≡ Some list
-    → list_named p.lists c.network ≡ Some list
-unfolding list_for
-listed-named p c list is = if-listed (is_of_network c.verb) (list_named p.lists c.network) list is
-
 -- the list of the ADD is that of the attachment's network
 add-listed : (p : Plan) (h : List Entry) (att : Att) (cached : Cached) (r : IsResultOfItsAdd p h att cached)
     → list_named p.lists att.network ≡ Some r.add.list
-add-listed p h att cached r = ap (λ (a : Att). list_named p.lists a.network) (sym r.add.attachment) ∙ listed-named p r.add.by.command r.add.list r.add.listed
+add-listed p h att cached r = ap (λ (a : Att). list_named p.lists a.network) (sym r.add.attachment) ∙ list_named-listed p r.add.by.command r.add.list r.add.listed
 
 same-cached : (l m : NetList) (att : Att) (n o : List ℕ) (ms ns : List PortMapping) (g h : List Addr) → l ≡ m → n ≡ o
     → ms ≡ ns → g ≡ h → cached_of l att n ms g ≡ cached_of m att o ns h

@@ -23,12 +23,6 @@ all-among p x (y ∷ ys) all at = elim at [
   | inr later ↦ all-among p x ys (and_parts (p y) (list_all p ys) all).1 later
 ]
 
--- two tests that pass alike are one
-pub same_answer : (a b : Bool) → (a ≡ true → b ≡ true) → (b ≡ true → a ≡ true) → a ≡ b
-same_answer true b there back = sym (there refl)
-same_answer false true there back = back refl
-same_answer false false there back = refl
-
 -- the first that passes
 pub record IsFirst {X : Type 0} (p : X → Bool) (xs : List X) (x : X) : Type 0 where
   pub before : List X

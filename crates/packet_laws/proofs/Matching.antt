@@ -9,21 +9,22 @@ use Rattle.cni_addr.proofs.Networks.{contains_between, contains_whole}
 use Rattle.kernel_types.specs.declared.rule.Chain.TheVariants as chains
 use Rattle.packet_probe.specs.Fate.{is_of_family, is_to}
 use Rattle.packet_laws.specs.Packets.{is_for}
-use Rattle.packet_laws.proofs.{Equal.{addr-same, equal-addr, family-itself}, Lists.same_answer}
+use Rattle.packet_laws.proofs.Equal.{addr-same, equal-addr, family-itself}
+use Rattle.std.specs.Cmp.Derive.{one_truth}
 
 -- ---- one network
 
 -- it has addresses of its family alone, so that need not be tested
 network-part : (c : Cidr) (a : Addr) (f : Family) → a.family ≡ f → (is_of_family f c && contains c a) ≡ contains c a
 network-part c a f same =
-    same_answer (is_of_family f c && contains c a) (contains c a) (λ h. (and_parts (is_of_family f c) (contains c a) h).1)
+    one_truth (is_of_family f c && contains c a) (contains c a) (λ h. (and_parts (is_of_family f c) (contains c a) h).1)
     (λ inside. and_from (is_of_family f c) (contains c a) (ap (λ g. family_eq g f) (((contains_between c a).0 inside).0 ∙ same) ∙ family-itself f) inside)
 
 -- that of one address has no other
 whole-part : (a b : Addr) (f : Family) → b.family ≡ f → (is_of_family f (whole a) && contains (whole a) b) ≡ addr_eq a b
 whole-part a b f same =
     network-part (whole a) b f same
-    ∙ same_answer (contains (whole a) b) (addr_eq a b) (λ inside. equal-addr a b ((contains_whole a b).0 inside)) (λ is. (contains_whole a b).1 (addr-same a b is))
+    ∙ one_truth (contains (whole a) b) (addr_eq a b) (λ inside. equal-addr a b ((contains_whole a b).0 inside)) (λ is. (contains_whole a b).1 (addr-same a b is))
 
 -- ---- published ports
 

@@ -1,14 +1,14 @@
 -- A settled host: of each attachment it has nothing, or all that its cached result wants. What the rules mean for packets
 -- follows from that alone.
-use Rattle.packet_laws.proofs.Names.{◌≡◌, Bool, true, false, List, [], ◌∷◌, Some, refl, ap, inl, inr, arith, none-some}
+use Rattle.packet_laws.proofs.Names.{◌≡◌, Bool, true, false, List, [], ◌∷◌, Some, refl, inl, inr, arith, none-some}
 use Rattle.packet_laws.proofs.Names.{same_Some, list_any, option_map, find, if◌then◌else◌, IsAmong, Cached, PortMapping}
 use Rattle.packet_laws.proofs.Names.{takes_mappings, addresses_of_result, AreCandidates, cached_in, is_own, Att}
 use Rattle.packet_laws.proofs.Names.{CachedObj, Host, Lease, Tag, Outside, Base, Own, Rule, own-own, NetList, share_of}
 use Rattle.packet_laws.proofs.Names.{given_by_list, sets_of, Plan, IsPart, among-part}
 use Rattle.kernel_types.specs.{Sound.IsSound, Terms.{has_objects, is_owned}}
-use Rattle.kernel_types.proofs.Isolation.{att_eq-same}
 use Rattle.packet_laws.specs.{Complete.{IsAttached, wanted_of}, Packets.has_ip_masq}
 use Rattle.packet_laws.proofs.{Lists.{all-among, among-any, filter-among}, WantedRules.rules_by}
+use Rattle.kernel_types.proofs.Isolation.{is_own-one}
 
 -- ---- a settled host
 
@@ -43,11 +43,6 @@ owner : (t : Tag) → is_owned t ≡ true → (att : Att) × (t ≡ Own att)
 owner Outside is = cc
 owner Base is = cc
 owner (Own att) is = (att, refl)
-
-pub own-tag : (att : Att) (t : Tag) → is_own att t ≡ true → t ≡ Own att
-own-tag att Outside is = cc
-own-tag att Base is = cc
-own-tag att (Own a) is = ap Own (att_eq-same a att is)
 
 -- a rule of the host, with its attachment
 pub record IsRuleOf (p : Plan) (host : Host) (r : Rule) : Type 0 where
@@ -102,4 +97,4 @@ found-object (c ∷ cs) p cached is = found-step (p c) c cs p cached refl is (λ
 
 pub cached-object : (host : Host) (att : Att) (cached : Cached) → cached_in host att ≡ Some cached
     → (c : CachedObj) × IsAmong c host.cached × (c.tag ≡ Own att) × (c.cached ≡ cached)
-cached-object host att cached is = let found = found-object host.cached (λ c. is_own att c.tag) cached is in (found.0, found.1, own-tag att found.0.tag found.2, found.3)
+cached-object host att cached is = let found = found-object host.cached (λ c. is_own att c.tag) cached is in (found.0, found.1, is_own-one att found.0.tag found.2, found.3)

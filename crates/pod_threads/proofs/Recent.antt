@@ -10,7 +10,7 @@ use Rattle.pod_workers.specs.{Plans.commands_of, World.{World, IsReady, answered
 use Rattle.pod_workers.specs.{World.{next_round, own_replies, is_of_round}, declared.plan.{Entry.Entry, Next.Next}}
 use Rattle.pod_workers.specs.declared.plan.Plan.{Plan}
 use Rattle.pod_workers.specs.declared.plan.Next.TheVariants as next
-use Rattle.pod_workers.proofs.{Elements.at_number-is, Rounds.is_in_round}
+use Rattle.pod_workers.proofs.{Elements.at_number-is, RoundDone.same-is-in, Rounds.is_in_round}
 use Rattle.cni_errors.specs.declared.answer.Answer.{Answer, TheVariants.OutOfMemory}
 use Rattle.pod_threads.specs.Counted.{entries_of_round, is_current}
 use Rattle.pod_threads.proofs.Counting.{count-all, count-append}
@@ -34,9 +34,6 @@ entry-round : (p : Plan) (n : ℕ) (c : Placed) (e : Entry) (r : ℕ) → e.comm
     → slice_get (commands_of p) n ≡ Some c → is_of_round p r e ≡ is_in_round r (Some c)
 entry-round p n c e r number there = ap (is_in_round r) (at_number-is (commands_of p) e.command n number ∙ there)
 
-in-its-round : (round : ℕ) (c : Placed) → c.round ≡ round → is_in_round round (Some c) ≡ true
-in-its-round round c is = elim (eqb_tells c.round round) [ inl t ↦ t.0 | inr f ↦ absurd (f.1 is) ]
-
 in-no-later : (round : ℕ) (c : Placed) → c.round < round → is_in_round round (Some c) ≡ false
 in-no-later round c less = elim (eqb_tells c.round round) [ inl t ↦ absurd (let same = t.1 in omega arith) | inr f ↦ f.0 ]
 
@@ -47,7 +44,7 @@ recent-done : (w : World) (n : ℕ) (c : Placed) (x : Next) → Recent w → IsR
 recent-done w n c (next.Answer a) r ready = recent-answered w n a r
 recent-done w n c (next.Call call faulty) r ready =
     let e = entry_of (host_of w) n call faulty in
-    let mine : IsOfRound w.plan w.round e = entry-round w.plan n c e w.round refl ready.there ∙ in-its-round w.round c ready.current in
+    let mine : IsOfRound w.plan w.round e = entry-round w.plan n c e w.round refl ready.there ∙ same-is-in w.round c ready.current in
     let later : NoneFrom w.plan (w.round + 1) e = λ k less. entry-round w.plan n c e k refl ready.there ∙ in-no-later k c (let current = ready.current in omega arith) in
     record {
       older = r.older;

@@ -1,21 +1,16 @@
 -- Exclusive commands of well-formed pods have their rounds for themselves.
-use Rattle.pod_workers.proofs.Names.{◌≡◌, ◌+◌, ℕ, zero, suc, true, List, [], ◌∷◌, ◌∙◌, ap, arith, inl, inr, Some}
-use Rattle.pod_workers.proofs.Names.{slice_get, All-drop, All-get_or, same_Some, none-some, slice_get_within, All}
-use Rattle.pod_workers.proofs.Names.{list_any, is_exclusive, IsWellFormedPods, Command}
+use Rattle.pod_workers.proofs.Names.{◌≡◌, ◌+◌, ℕ, true, List, [], ◌∷◌, arith, inl, inr, Some, slice_get, All-drop}
+use Rattle.pod_workers.proofs.Names.{All-get_or, none-some, slice_get_within, All, is_exclusive, IsWellFormedPods}
+use Rattle.pod_workers.proofs.Names.{Command}
 use Rattle.pod_file.proofs.CommandFacts.{one_alone}
 use Rattle.pod_file.specs.WellFormed.{IsWellFormedRound}
 use Rattle.pod_workers.specs.{Plans.{Placed, commands_of, placed_from}, declared.plan.Plan.Plan}
 use Rattle.pod_workers.proofs.Rounds.{here_or_later, round-of}
+use Rattle.std.proofs.lemmas.Map.Keys.{any_passes_from_place}
 
 -- an exclusive command has its round for itself
 abbrev pub AreAlone : Plan → Type 0
 AreAlone p = (m n : ℕ) (d c : Placed) → slice_get (commands_of p) m ≡ Some d → slice_get (commands_of p) n ≡ Some c → d.round ≡ c.round → is_exclusive c.command ≡ true → m ≡ n
-
-any_at : (commands : List Command) (n : ℕ) (c : Command) → slice_get commands n ≡ Some c → is_exclusive c ≡ true
-    → list_any is_exclusive commands ≡ true
-any_at [] n c at exclusive = absurd (none-some c at)
-any_at (x ∷ xs) zero c at exclusive = let here : is_exclusive x ≡ true = ap is_exclusive (same_Some x c at) ∙ exclusive in grind (arith, here)
-any_at (x ∷ xs) (suc n) c at exclusive = let rest : list_any is_exclusive xs ≡ true = any_at xs n c at exclusive in grind (arith, rest)
 
 alone_from : (round : ℕ) (rounds : List (List Command)) → All IsWellFormedRound rounds → (m n : ℕ) (d c : Placed)
     → slice_get (placed_from round rounds) m ≡ Some d → slice_get (placed_from round rounds) n ≡ Some c
@@ -26,7 +21,7 @@ alone_from round (commands ∷ rounds) all m n d c at_m at_n same exclusive =
     elim (here_or_later round commands rest m d at_m) [
       | inl f ↦ elim (here_or_later round commands rest n c at_n) [
         | inl g ↦
-            let one = one_alone commands (All-get_or IsWellFormedRound (commands ∷ rounds) 0 commands (omega arith) all).alone (any_at commands n c.command g.1 exclusive) in
+            let one = one_alone commands (All-get_or IsWellFormedRound (commands ∷ rounds) 0 commands (omega arith) all).alone (any_passes_from_place is_exclusive commands n c.command g.1 exclusive) in
             let a = slice_get_within commands m d.command f.1 in
             let b = slice_get_within commands n c.command g.1 in
             omega arith

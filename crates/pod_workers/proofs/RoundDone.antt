@@ -64,7 +64,7 @@ answered_extends w n c a ready = record {
   others = λ m d at_m far. slice_get-set_other w.answers n m (Some a) (other_round w n m c d ready.there at_m (λ e. far (e ∙ ready.current)));
 }
 
-same-is-in : (round : ℕ) (c : Placed) → c.round ≡ round → is_in_round round (Some c) ≡ true
+pub same-is-in : (round : ℕ) (c : Placed) → c.round ≡ round → is_in_round round (Some c) ≡ true
 same-is-in round c is = elim (eqb_tells c.round round) [ inl t ↦ t.0 | inr f ↦ absurd (f.1 is) ]
 
 of-round : (p : Plan) (round n : ℕ) (c : Placed) (e : Entry) → e.command ≡ n + 1 → slice_get (commands_of p) n ≡ Some c

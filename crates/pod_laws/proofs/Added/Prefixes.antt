@@ -104,7 +104,7 @@ prefix-part s t all made left is makes =
 
 -- nothing is cached before the last lease
 
-front-none : {X : Type 0} (xs ys : List X) → [] ≡ xs ++ ys → xs ≡ []
+pub front-none : {X : Type 0} (xs ys : List X) → [] ≡ xs ++ ys → xs ≡ []
 front-none [] ys e = refl
 front-none (x ∷ xs) ys e = cc
 

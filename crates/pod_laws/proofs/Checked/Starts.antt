@@ -1,9 +1,9 @@
 -- What a CHECK asks for is in the host before its first entry as after its last.
-use Rattle.pod_laws.proofs.Names.{◌≡◌, ◌≢◌, ℕ, Bool, true, false, not, List, [], ◌∷◌, ◌++◌, length, Option, Some, None}
-use Rattle.pod_laws.proofs.Names.{refl, sym, ◌∙◌, ap, subst, inl, inr, ◌⊎◌, arith, and_parts, both_ways, cases_Bool}
-use Rattle.pod_laws.proofs.Names.{eqb_tells, nil_from_length, any-filter_same, bytes_eq-Decides, nat_list_eq_equiv}
-use Rattle.pod_laws.proofs.Names.{list_all, list_any, ◌&&◌, filter, if◌then◌else◌, bytes_eq, mac_eq, distinct, Mac}
-use Rattle.pod_laws.proofs.Names.{Cached, Interface, att_of, addresses_of_result, cached_share, bridge_of, has_object}
+use Rattle.pod_laws.proofs.Names.{◌≡◌, ◌≢◌, ℕ, Bool, true, not, List, [], ◌∷◌, ◌++◌, length, Option, Some, None, refl}
+use Rattle.pod_laws.proofs.Names.{sym, ◌∙◌, ap, subst, inl, inr, arith, and_parts, both_ways, cases_Bool, eqb_tells}
+use Rattle.pod_laws.proofs.Names.{nil_from_length, any-filter_same, bytes_eq-Decides, nat_list_eq_equiv, list_all}
+use Rattle.pod_laws.proofs.Names.{list_any, ◌&&◌, filter, if◌then◌else◌, bytes_eq, mac_eq, distinct, Mac, Cached}
+use Rattle.pod_laws.proofs.Names.{Interface, att_of, addresses_of_result, cached_share, bridge_of, has_object}
 use Rattle.pod_laws.proofs.Names.{addr_obj_eq, lease_eq, link_eq, route_eq, rule_eq, setting_eq, tag_eq, IsSound}
 use Rattle.pod_laws.proofs.Names.{cached_in, is_at, is_bridge, is_bridge_with, is_host_bridge, is_host_link, is_host_ns}
 use Rattle.pod_laws.proofs.Names.{is_own, BridgeAt, Att, Host, Link, Tag, is_own-tag_eq, NetList, Share, share_of}
@@ -20,13 +20,10 @@ use Rattle.pod_laws.proofs.Histories.Entries.{no-entries, own_entries-other, unt
 use Rattle.pod_laws.proofs.Histories.Steps.{AllListed, IsOtherKept, IsOwnKept, ListFact, by-listed}
 use Rattle.pod_laws.proofs.Questions.{Entries.question-entered, SteadyHosts.{KeepsAsked, KeepsBridges, asked-kept}}
 use Rattle.pod_laws.proofs.{Questions.SteadyHosts.keeps-same, Shares.DistinctLeases.sound-at_end}
-use Rattle.pod_laws.proofs.Shares.Within.{list_named-listed}
+use Rattle.std.specs.Cmp.Derive.{one_truth}
+use Rattle.pod_workers.proofs.{Sound.list_named-listed, Splits.none-or-some}
 
 -- ---- from the first entry to the last
-
-none-or-some : (es : List Entry) → (es ≡ []) ⊎ (es ≢ [])
-none-or-some [] = inl refl
-none-or-some (e ∷ es) = inr (λ none. cc)
 
 -- where there is an own entry, one more entry leaves what stands before the first
 until_first-more : (n : ℕ) (h : List Entry) (e : Entry) → own_entries n h ≢ []
@@ -180,16 +177,11 @@ bridge-of name (x ∷ xs) h = elim (cases_Bool (is_host_bridge name x)) [
       }
 ]
 
-same-truth : (a b : Bool) → (a ≡ true → b ≡ true) → (b ≡ true → a ≡ true) → a ≡ b
-same-truth true b f g = sym (f refl)
-same-truth false true f g = g refl
-same-truth false false f g = refl
-
 alike-mac : (name : List ℕ) (mac : Option Mac) (old new : Host) → IsSound new → KeepsBridges old new
     → list_any (is_host_bridge name) old.links ≡ true → has_bridge_by old name mac ≡ has_bridge_by new name mac
 alike-mac name None old new sound keeps there = refl
 alike-mac name (Some mac) old new sound keeps there =
-    same-truth (has_object old (BridgeAt name mac)) (has_object new (BridgeAt name mac)) (keeps name mac)
+    one_truth (has_object old (BridgeAt name mac)) (has_object new (BridgeAt name mac)) (keeps name mac)
     (λ now. let was = bridge-of name old.links there in was.alike mac (one-mac name was.mac mac new.links sound.links.keys (keeps name was.mac was.there) now))
 
 alike-bridge : (bridge : Option (List ℕ)) (interfaces : List Interface) (old new : Host) → IsSound new

@@ -12,11 +12,11 @@ use Rattle.cni_errors.specs.declared.answer.Answer.TheVariants as answers
 use Rattle.pod_laws.specs.{AskedFor.{begins, is_begin_of}, Moments.{IsGone, is_of, own_entries, until_last}}
 use Rattle.pod_laws.specs.{Refused.lets_go_on, Repeated.{GoneStaysGone, IsWithoutMaking, RepeatedDeletionsLeave}}
 use Rattle.pod_laws.specs.{Repeated.makes_nothing, Single.EachEntry}
-use Rattle.pod_laws.proofs.Deleted.{Entries.each_deletion_is_own, FirstEntries.{BeginsFirst, begins_first}}
-use Rattle.pod_laws.proofs.Deleted.{InTurn.in_turn, Removals.{removes-entered, quiet-entered}}
-use Rattle.pod_laws.proofs.{Given.OfRuns.was_deleted, Histories.EachEntry.{DoesNow, DoesOutside, each-entry}}
-use Rattle.pod_laws.proofs.Histories.{Entries.{is_of-own, own_entries-own}, States.not-both, Turns.other-entered}
-use Rattle.pod_laws.proofs.{Histories.Turns.removes-changed, Tests.any-filtered}
+use Rattle.pod_laws.proofs.{Added.Prefixes.front-none, Deleted.{Entries.each_deletion_is_own, FirstEntries.BeginsFirst}}
+use Rattle.pod_laws.proofs.Deleted.{FirstEntries.begins_first, InTurn.in_turn, Removals.removes-entered}
+use Rattle.pod_laws.proofs.{Deleted.Removals.quiet-entered, Given.OfRuns.was_deleted, Histories.EachEntry.DoesNow}
+use Rattle.pod_laws.proofs.Histories.{EachEntry.{DoesOutside, each-entry}, Entries.{is_of-own, own_entries-own}}
+use Rattle.pod_laws.proofs.{Histories.{States.not-both, Turns.{other-entered, removes-changed}}, Tests.any-filtered}
 
 -- ---- one entry
 
@@ -79,10 +79,6 @@ gone_stays_gone w legal att before between later is without gone = stays-through
 
 -- ---- after a DEL no ADD makes anything until one has begun
 
-prefix-none : (xs ys : List Entry) → xs ++ ys ≡ [] → xs ≡ []
-prefix-none [] ys e = refl
-prefix-none (x ∷ xs) ys e = cc
-
 unbegun-quiet : (c : Command) (att : Att) (es rest : List Entry) → att_of c ≡ att → BeginsFirst c (es ++ rest)
     → list_any (begins att) es ≡ false → list_all (makes_nothing att) es ≡ true
 unbegun-quiet c att [] rest same first none = refl
@@ -90,7 +86,7 @@ unbegun-quiet c att (e ∷ es) rest same first none =
     let begin : is_begin_of att e.call ≡ true = ap (is_begin_of att) first.0 ∙ ap (λ a. att_eq a att) same ∙ att_eq-refl att in
     elim first.2 [
       | inl done ↦ absurd (let e : true ≡ false = sym (and_from (is_begin_of att e.call) (is_done e.reply) begin done) ∙ (or_parts (begins att e) (list_any (begins att) es) none).0 in cc)
-      | inr alone ↦ and_from (makes_nothing att e) (list_all (makes_nothing att) es) (ap (λ b. b || not (lets_go_on e)) begin) (ap (list_all (makes_nothing att)) (prefix-none es rest alone))
+      | inr alone ↦ and_from (makes_nothing att e) (list_all (makes_nothing att) es) (ap (λ b. b || not (lets_go_on e)) begin) (ap (list_all (makes_nothing att)) (front-none es rest (sym alone)))
     ]
 
 unbegun : (w : World) → Legal w → (n : ℕ) (c : Placed) (between later : List Entry)
@@ -113,7 +109,7 @@ unbegun w legal n c between later at del is none = λ m d there add same.
           let after : own_entries m between ++ own_entries m later ≡ [] =
           append_cancel_left (own_entries m past) (own_entries m between ++ own_entries m later) []
           (sym (append_assoc (own_entries m past) (own_entries m between) (own_entries m later)) ∙ sym split ∙ all ∙ sym (append-nil (own_entries m past))) in
-          ap (list_all (makes_nothing att)) (prefix-none (own_entries m between) (own_entries m later) after)
+          ap (list_all (makes_nothing att)) (front-none (own_entries m between) (own_entries m later) (sym after))
     ]
 
 -- ---- a DEL that is repeated

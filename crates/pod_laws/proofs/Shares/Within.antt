@@ -1,21 +1,21 @@
 -- An attachment never has objects of a kind that its list's plugins don't name.
 use Rattle.pod_laws.proofs.Names.{◌≡◌, ℕ, Bool, true, false, List, [], ◌∷◌, ◌++◌, length, Some, refl, sym, ◌∙◌, ap}
 use Rattle.pod_laws.proofs.Names.{subst, inl, inr, both_ways, cases_Bool, and_parts, same_Some, list_all, filter}
-use Rattle.pod_laws.proofs.Names.{RangeSet, NetList, is_of_network, Command, apply, att_eq, tag_eq, IsSound, is_own}
-use Rattle.pod_laws.proofs.Names.{Call, Begin, LeaseNext, CacheGet, Kind, Att, Host, Tag, att_eq-same, is_of_kinds}
+use Rattle.pod_laws.proofs.Names.{RangeSet, NetList, Command, apply, att_eq, tag_eq, IsSound, is_own, Call, Begin}
+use Rattle.pod_laws.proofs.Names.{LeaseNext, CacheGet, Kind, Att, Host, Tag, att_eq-same, is_of_kinds}
 use Rattle.pod_laws.proofs.Names.{is_plugin_call_of, share_of, no_objects, share-other, share-own, share-lease}
 use Rattle.pod_laws.proofs.Names.{refused-same, refused-lease, att_of, State, AtBegin, BeforeLeases, Leasing}
 use Rattle.pod_laws.proofs.Names.{AfterLeases, ReadingCache, Deleting, FindingEntry, Asking, Changing, Collecting, Over}
-use Rattle.pod_laws.proofs.Names.{Calls, turn, state_after, kinds_of, deletion, Legal, Placed, IsWellFormed, list_for}
-use Rattle.pod_laws.proofs.Names.{list_named, World, entry_of, host_of, after_entry, own_replies, Entry, Plan}
-use Rattle.pod_laws.proofs.Names.{after-append, LeftAreOfPlugins, left-are-of_plugins, sound_host, if-listed}
-use Rattle.pod_laws.proofs.Names.{done_or_not, leased_or_not, HasKindsAlone, HasKindsAlone-removes, removes-deletion}
+use Rattle.pod_laws.proofs.Names.{Calls, turn, state_after, kinds_of, deletion, Legal, Placed, IsWellFormed, list_named}
+use Rattle.pod_laws.proofs.Names.{World, entry_of, host_of, after_entry, own_replies, Entry, Plan, after-append}
+use Rattle.pod_laws.proofs.Names.{LeftAreOfPlugins, left-are-of_plugins, sound_host, done_or_not, leased_or_not}
+use Rattle.pod_laws.proofs.Names.{HasKindsAlone, HasKindsAlone-removes, removes-deletion}
 use Rattle.pod_file.specs.WellFormed.{IsOpening}
 use Rattle.kernel_types.proofs.ListLemmas.{filter_never}
 use Rattle.kernel_types.specs.declared.object.Tag.TheVariants as tags
 use Rattle.kernel_types.specs.declared.call.Kind.TheVariants as kinds
 use Rattle.plugin_base.specs.Calls.{has_kind}
-use Rattle.pod_workers.proofs.AddCalls.{leases-kinds_of}
+use Rattle.pod_workers.proofs.{AddCalls.leases-kinds_of, Sound.list_named-listed}
 use Rattle.gc_sweep.proofs.OfKinds.{HasKindsAlone-nothing, HasKindsAlone-call}
 use Rattle.pod_laws.specs.Moments.{objects_after}
 use Rattle.pod_laws.proofs.Histories.States.{LeftFit, is_question, left-fit, question-leaves, asked-is_question}
@@ -82,11 +82,6 @@ within-turn list c (Over ending given) k call left fit sound is w = cc
 -- each attachment of a list's network has objects of the list's kinds alone
 abbrev AllWithin : Plan → List Entry → Type 0
 AllWithin p h = (att : Att) (list : NetList) → list_named p.lists att.network ≡ Some list → HasKindsAlone (kinds_of list) (objects_after p att h)
-
-pub list_named-listed : (p : Plan) (c : Command) (list : NetList) → list_for p c ≡ Some list
-    → list_named p.lists c.network ≡ Some list
-unfolding list_for
-list_named-listed p c list is = if-listed (is_of_network c.verb) (list_named p.lists c.network) list is
 
 outside-unowned : (att : Att) (t : Tag) → tag_eq t tags.Outside ≡ true → is_own att t ≡ false
 outside-unowned att tags.Outside h = refl
