@@ -1,10 +1,10 @@
 -- What stays of a session while its tasks are run.
-use Rattle.std.proofs.Common.{◌≡◌, ◌∙◌, ◌≤◌, ◌<◌, ◌+◌, ◌-◌, Bool, false, List, [], ◌∷◌, length, sym, ap, arith}
-use Rattle.std.proofs.{Common.length-append, lemmas.Bool.Decides.nat_tests}
+use Rattle.std.proofs.Common.{◌≡◌, ◌∙◌, ◌≤◌, ◌<◌, ◌-◌, Bool, false, length, sym, ap, arith}
+use Rattle.std.proofs.lemmas.Bool.Decides.{nat_tests}
 use Rattle.std.specs.Prelude.{nat_le}
 use Rattle.plugin_session.specs.EachTask.{EachTaskHolds, EachTaskHoldsWithOneMore, GrownViewsGrow, IsGrown}
 use Rattle.plugin_session.specs.{Holds.{Grows, Suite, TaskHolds}, Views.{SessionView, number}}
-use Rattle.plugin_session.specs.declared.answer.TaskAnswer.{TaskAnswer}
+use Rattle.plugin_session.proofs.EachTask.{number-more}
 
 -- the session is the one that was begun, so far, and of each task that was run holds what the law says
 pub record IsRunning (suite : Suite) (begun now : SessionView) : Type 0 where
@@ -12,10 +12,6 @@ pub record IsRunning (suite : Suite) (begun now : SessionView) : Type 0 where
   pub grown : IsGrown now
   pub left : number now ≤ length now.conf.tasks
   pub held : EachTaskHolds suite now
-
--- one more task was answered
-pub one_more : (old new : SessionView) → Grows old new → number new ≡ number old + 1
-one_more old new grows = ap (λ (answers : List TaskAnswer). length answers) grows.answers ∙ length-append old.answers (grows.answer ∷ [])
 
 -- a task is left where the session hasn't ended
 pub is_left : (s : SessionView) (ended : Bool) → ended ≡ nat_le (length s.conf.tasks) (number s) → ended ≡ false
@@ -25,7 +21,7 @@ is_left s ended is not = let no : nat_le (length s.conf.tasks) (number s) ≡ fa
 pub comes_nearer : (old new : SessionView) → Grows old new → number old < length old.conf.tasks
     → length new.conf.tasks - number new < length old.conf.tasks - number old
 comes_nearer old new grows unended =
-    let count = one_more old new grows in
+    let count = number-more old new grows in
     let tasks : length new.conf.tasks ≡ length old.conf.tasks = ap (λ conf. length conf.tasks) grows.conf in
     omega (arith, count, tasks, unended)
 
@@ -33,7 +29,7 @@ pub goes_on : (suite : Suite) (begun old new : SessionView) → GrownViewsGrow �
     → IsRunning suite begun old → number old < length old.conf.tasks → Grows old new → TaskHolds suite new
     → IsRunning suite begun new
 goes_on suite begun old new grow more is unended grows holds =
-    let count = one_more old new grows in
+    let count = number-more old new grows in
     let tasks : length new.conf.tasks ≡ length old.conf.tasks = ap (λ conf. length conf.tasks) grows.conf in
     record {
       conf = grows.conf ∙ is.conf;
