@@ -3,12 +3,11 @@ use Rattle.gc_sweep.proofs.Names.{◌≡◌, ◌<◌, Bool, true, false, ap, Lis
 use Rattle.gc_sweep.proofs.Names.{◌∙◌, arith, list_any, filter, find, without_first, apply, tags_of, without_link}
 use Rattle.gc_sweep.proofs.Names.{goes_with, RemovesOwn, IsSound, is_own, TouchesOwn, Kind, Links, Rules, Settings}
 use Rattle.gc_sweep.proofs.Names.{Leases, Cached, Reply, Gone, Att, Host, Link, Tag, list_any-map, passes-find}
-use Rattle.gc_sweep.proofs.Names.{goes_with-itself, Share, share_of, no_objects, empty_none, deletion}
-use Rattle.kernel_types.proofs.{Cases.att_eq-refl, Deletes.{IsSound-rule_del, IsSound-setting_del, IsSound-lease_del}}
-use Rattle.kernel_types.proofs.{Deletes.IsSound-cache_del, DropsOwn.{TouchesOwn-RemovesOwn, RemovesOwn-rule_del}}
-use Rattle.kernel_types.proofs.DropsOwn.{RemovesOwn-setting_del, RemovesOwn-lease_del, RemovesOwn-cache_del}
-use Rattle.kernel_types.proofs.{DropsOwn.RemovesOwn-link_del, ListLemmas.{without_first-none, list_any-find_none}}
-use Rattle.kernel_types.proofs.Removal.{IsSound-link_del}
+use Rattle.gc_sweep.proofs.Names.{goes_with-itself, Share, share_of, no_objects, empty_none, deletion, att_eq-refl}
+use Rattle.kernel_types.proofs.Deletes.{IsSound-rule_del, IsSound-setting_del, IsSound-lease_del, IsSound-cache_del}
+use Rattle.kernel_types.proofs.DropsOwn.{TouchesOwn-RemovesOwn, RemovesOwn-rule_del, RemovesOwn-setting_del}
+use Rattle.kernel_types.proofs.DropsOwn.{RemovesOwn-lease_del, RemovesOwn-cache_del, RemovesOwn-link_del}
+use Rattle.kernel_types.proofs.{ListLemmas.{without_first-none, list_any-find_none}, Removal.IsSound-link_del}
 use Rattle.gc_sweep.specs.Keep.{IsWithin}
 use Rattle.gc_sweep.proofs.{Lists.{any-found, count_found, count_without_first}, Removes.within_own, Weights.total}
 use Rattle.plugin_base.specs.Calls.{is_call_of}

@@ -2,13 +2,12 @@
 use Rattle.gc_sweep.proofs.Names.{◌≡◌, Bool, true, false, not, List, [], map, refl, ap, both_ways, not-true, filter}
 use Rattle.gc_sweep.proofs.Names.{list_all-none, is_own, DropsOnly, Call, VethAdd, MacvlanAdd, LinkSet, AddrAdd}
 use Rattle.gc_sweep.proofs.Names.{RouteAdd, RuleAppend, SettingSet, CachePut, Kind, Att, Host, Share, share_of}
-use Rattle.gc_sweep.proofs.Names.{no_objects, share_after_call, empty_none}
+use Rattle.gc_sweep.proofs.Names.{no_objects, share_after_call, empty_none, IsSound}
 use Rattle.kernel_types.proofs.ListLemmas.{filter_never}
 use Rattle.kernel_types.specs.declared.call.Kind.TheVariants as kinds
 use Rattle.plugin_base.specs.Calls.{has_kind, is_of_kinds}
 use Rattle.gc_sweep.specs.Keep.{OnlyRemoves}
 use Rattle.gc_sweep.proofs.Lists.{list_all-drops}
-use Rattle.kernel_types.specs.Sound.{IsSound}
 use Rattle.plugin_base.proofs.Deletions.{no-links}
 
 -- ---- a share within kinds

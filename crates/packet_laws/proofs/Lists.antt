@@ -3,7 +3,7 @@ use Rattle.packet_laws.proofs.Names.{◌≡◌, ◌⊎◌, Bool, true, false, Li
 use Rattle.packet_laws.proofs.Names.{sym, ◌∙◌, ap, subst, inl, inr, arith, and_parts, both_ways, none-some, same_Some}
 use Rattle.packet_laws.proofs.Names.{list_all, list_any, filter, find, flat_map, if◌then◌else◌, IsAmong, distinct}
 use Rattle.packet_laws.proofs.Names.{each_key_once, IsPart, among-part}
-use Rattle.std.proofs.lemmas.Bool.{cases_Bool}
+use Rattle.std.proofs.lemmas.{Bool.cases_Bool, List.Folds.find-append}
 use Rattle.std.specs.{Option.option_or, Prelude.fold}
 use Rattle.cni_addr.specs.Lists.{push_unless_there}
 
@@ -200,10 +200,6 @@ part-whole same s (y ∷ ys) (x ∷ xs) d apart w = elim d [
 
 -- ---- the first that passes, where each key stands once
 
-find-joined : {X : Type 0} (p : X → Bool) (xs ys : List X) → find p (xs ++ ys) ≡ option_or (find p xs) (find p ys)
-find-joined p [] ys = refl
-find-joined p (x ∷ xs) ys = let rest = find-joined p xs ys in grind (arith, rest)
-
 or-none : {X : Type 0} (o : Option X) → option_or o None ≡ o
 or-none None = refl
 or-none (Some x) = refl
@@ -230,7 +226,7 @@ once-step : {X : Type 0} (p : X → Bool) (same : X → X → Bool) → IsSame s
     → list_any (same x) kept ≡ b
     → find p (if b then kept else kept ++ x ∷ []) ≡ option_or (find p kept) (if p x then Some x else None)
 once-step p same s true kept x there = once-there p (p x) kept x (λ is. any-found p kept (among-any p x kept (any-same same s x kept there) is))
-once-step p same s false kept x none = find-joined p kept (x ∷ [])
+once-step p same s false kept x none = find-append p kept (x ∷ [])
 
 once-kept : {X : Type 0} (p : X → Bool) (same : X → X → Bool) → IsSame same → (kept xs : List X)
     → find p (fold (push_unless_there same) kept xs) ≡ option_or (find p kept) (find p xs)

@@ -1,6 +1,6 @@
 -- What address management gives an ADD can be read again.
 use Rattle.std.proofs.Common.{◌≡◌, ◌<◌, ◌≤◌, true, List, [], ◌∷◌, map, Option, Some, None, sym, ◌∙◌, subst, arith}
-use Rattle.std.proofs.lemmas.Bool.{and_parts, Decides.nat_tests}
+use Rattle.std.proofs.lemmas.{Bool.{and_parts, Decides.nat_tests}, List.Elements.recursion_from_All}
 use Rattle.std.specs.{List.{AllByRecursion, cons_option}, Prelude.{IfSome, find, nat_le, option_map}}
 use Rattle.cni_addr.proofs.Networks.{family_eq-true}
 use Rattle.cni_addr.specs.{Codes.family_eq, Network.contains, Value.{bits_below, longest_prefix}}
@@ -14,7 +14,7 @@ use Rattle.ip_pool.specs.NextAddress.{is_between}
 use Rattle.kernel_types.specs.declared.call.Given.{Given}
 use Rattle.net_conf.specs.WellFormed.{IsWellFormedIpam, IsWellFormedRange, IsWellFormedRoute, IsWellFormedSet}
 use Rattle.net_conf.specs.declared.first.HostLocalConf.{HostLocalConf}
-use Rattle.plugin_laws.proofs.Lists.{by_recursion, find-all}
+use Rattle.plugin_laws.proofs.Lists.{find-all}
 
 range-entry : (addr : Addr) (r : Range) → IsWellFormedRange r → is_between addr r ≡ true
     → IsIpEntry (ip_of (given_by addr r))
@@ -51,7 +51,7 @@ given-entries [] addrs formed = tt
 given-entries (s ∷ ss) [] formed = tt
 given-entries (s ∷ ss) (a ∷ more) formed =
     entries-cons (given_by_set s a) (given_of ss more)
-    (found-entry a (find (is_between a) s.ranges) (find-all IsWellFormedRange (is_between a) s.ranges (by_recursion IsWellFormedRange s.ranges formed.0.ranges)))
+    (found-entry a (find (is_between a) s.ranges) (find-all IsWellFormedRange (is_between a) s.ranges (recursion_from_All IsWellFormedRange s.ranges formed.0.ranges)))
     (given-entries ss more formed.1)
 
 pub record IsIpamResult (r : AddResult) : Type 0 where
@@ -62,7 +62,7 @@ pub ipam-result : (ipam : Option HostLocalConf) (addrs : List Addr) (version : V
     → IsIpamResult (ipam_result_of ipam (given_of (range_sets_of ipam) addrs) version)
 ipam-result None addrs version formed = record { ips = tt; routes = tt }
 ipam-result (Some conf) addrs version formed = record {
-  ips = given-entries conf.sets addrs (by_recursion IsWellFormedSet conf.sets formed.sets);
+  ips = given-entries conf.sets addrs (recursion_from_All IsWellFormedSet conf.sets formed.sets);
   routes = everywhere IsWellFormedRoute IsRouteEntry conf.routes (λ r is. record { dst = is.is_cidr; gw = is.hop_is_addr })
-      (by_recursion IsWellFormedRoute conf.routes formed.routes);
+      (recursion_from_All IsWellFormedRoute conf.routes formed.routes);
 }

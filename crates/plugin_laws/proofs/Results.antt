@@ -1,6 +1,6 @@
 -- The result of an ADD is read again as it was printed.
 use Rattle.std.proofs.Common.{◌≡◌, ◌<◌, ◌^◌, ℕ, Bool, true, false, List, [], ◌∷◌, ◌++◌, length, map, Option, Some, None}
-use Rattle.std.proofs.Common.{refl, arith}
+use Rattle.std.proofs.{Common.{refl, arith}, lemmas.List.Elements.recursion_from_All}
 use Rattle.std.specs.{List.AllByRecursion, Prelude.{IfSome, if◌then◌else◌, nat_lt, option_map, option_to_list}}
 use Rattle.cni_addr.specs.{Network.IsCidr, Value.IsAddr, declared.address.{Addr.Addr, Family.{Family, TheVariants.V4}}}
 use Rattle.cni_addr.specs.declared.address.Family.TheVariants.{V6}
@@ -17,8 +17,7 @@ use Rattle.plugin_base.specs.{Results.inner_interface, Shapes.default_route}
 use Rattle.plugin_chain.proofs.PluginLaws.{formed_ipam}
 use Rattle.plugin_chain.specs.{Plugins.plugin_of, Wanted.{first_plugin_result, first_result, ipam_of, result_of_add}}
 use Rattle.plugin_laws.proofs.{AddressResults.{IsIpamResult, ipam-result}, ChainedResults.all-readable}
-use Rattle.plugin_laws.proofs.{Interfaces.{inner-is, pair-is, bridge-is}, Lists.{all-append, by_recursion, find-all}}
-use Rattle.plugin_laws.proofs.Lists.{if_some-weaker}
+use Rattle.plugin_laws.proofs.{Interfaces.{inner-is, pair-is, bridge-is}, Lists.{all-append, find-all, if_some-weaker}}
 use Rattle.plugin_laws.specs.Laws.{ResultsAreReadable}
 
 -- ---- routes
@@ -86,5 +85,5 @@ pub results_are_readable : ResultsAreReadable
 unfolding result_of_add
 results_are_readable list att netns addrs formed =
     let ipam = ipam-result (ipam_of list.first) addrs list.version (formed_ipam list.first formed.first) in
-    all-readable list.chained (first_plugin_result list att netns addrs) (by_recursion IsWellFormedChained list.chained formed.chained)
+    all-readable list.chained (first_plugin_result list att netns addrs) (recursion_from_All IsWellFormedChained list.chained formed.chained)
     (first-readable list.first att netns _ formed.first ipam)

@@ -2,7 +2,7 @@
 use Rattle.std.proofs.Common.{◌≡◌, ◌⊎◌, inl, inr, ℕ, zero, suc, ◌+◌, ◌-◌, ◌≤◌, List, [], ◌∷◌, ◌++◌, length, map, take}
 use Rattle.std.proofs.Common.{slice_index_or, slice_range, Some, None, Result, Ok, refl, sym, ap, ap₂, ◌∙◌}
 use Rattle.std.proofs.{Common.{append_assoc, append-nil, length-append, arith}, Math.Seq.take-append_seam}
-use Rattle.std.proofs.lemmas.List.Sums.{fold-append}
+use Rattle.std.proofs.{Math.Seq.take-length, lemmas.List.{length-map, Sums.fold-append}}
 use Rattle.std.specs.List.{scan}
 use Rattle.serde_json.specs.{Data.Data, View.items_of}
 use Rattle.cni_json.proofs.Endings.{goes, ok_same}
@@ -24,18 +24,10 @@ length-each read (d ∷ ds) xs is =
     let rest = goes (each read (items_of ds)) _ xs first.rest in
     ap suc (length-each read ds rest.value rest.first) ∙ ap length (ok_same rest.rest)
 
-length-map : {A B : Type 0} (f : A → B) (xs : List A) → length (map f xs) ≡ length xs
-length-map f [] = refl
-length-map f (x ∷ xs) = ap suc (length-map f xs)
-
 -- each plugin has its object
 pub length-objects : (raw : RawView) → IsRaw raw → length raw.objects ≡ suc (length raw.list.chained)
 length-objects raw is =
-    length-each plugin_by_type_at raw.objects (plugins_in raw.list.first raw.list.chained) is.plugins ∙ ap suc (length-map plugins.Chained raw.list.chained)
-
-take-whole : {A : Type 0} (xs : List A) → take (length xs) xs ≡ xs
-take-whole [] = refl
-take-whole (x ∷ xs) = ap (λ l. x ∷ l) (take-whole xs)
+    length-each plugin_by_type_at raw.objects (plugins_in raw.list.first raw.list.chained) is.plugins ∙ ap suc (length-map raw.list.chained plugins.Chained)
 
 -- a list with its first member apart
 pub first-and-rest : {A : Type 0} (xs : List A) (x : A) (rest : List A) → 1 ≤ length xs → x ≡ slice_index_or xs 0 x
@@ -43,7 +35,7 @@ pub first-and-rest : {A : Type 0} (xs : List A) (x : A) (rest : List A) → 1 �
 first-and-rest [] x rest some first others = absurd (omega (arith, some))
 first-and-rest (y ∷ ys) x rest some first others =
     let left : length (y ∷ ys) - 1 ≡ length ys = omega arith in
-    ap₂ (λ z l. z ∷ l) (sym first) (sym (others ∙ ap (λ n. take n ys) left ∙ take-whole ys))
+    ap₂ (λ z l. z ∷ l) (sym first) (sym (others ∙ ap (λ n. take n ys) left ∙ take-length ys))
 
 -- ---- requests
 

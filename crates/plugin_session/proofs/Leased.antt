@@ -8,12 +8,11 @@ use Rattle.plugin_session.proofs.Names.{has_host_bridge, has_named_ns, has_objec
 use Rattle.plugin_session.proofs.Names.{is_host_or_ns, is_own, link_at, Call, Begin, BridgeEnsure, GatewayEnsure}
 use Rattle.plugin_session.proofs.Names.{ForwardEnsure, VethAdd, MacvlanAdd, LinkSet, AddrAdd, RouteAdd, RuleAppend}
 use Rattle.plugin_session.proofs.Names.{SettingSet, LeaseNext, CachePut, LinkDel, NsChange, Outside, DropLink, Flush}
-use Rattle.plugin_session.proofs.Names.{Reply, Done, Leased, NoNs, Taken, Att, Host, Link, Tag, is_done, reply_to}
+use Rattle.plugin_session.proofs.Names.{Reply, Done, Leased, NoNs, Taken, Att, Host, Link, Tag, is_done, reply_to, Kind}
+use Rattle.plugin_session.proofs.Names.{is_own_call}
 use Rattle.kernel_types.specs.Apply.Calls.{begin_of, is_same_rule, new_forward, new_gateway, unless_there}
-use Rattle.kernel_types.specs.declared.call.Kind.{Kind}
 use Rattle.plugin_session.specs.LawsOfAnswers.{asks_for_lease}
 use Rattle.std.specs.Prelude.{not}
-use Rattle.plugin_registry.specs.Own.{is_own_call}
 
 -- ---- no other call is leased an address
 

@@ -2,8 +2,8 @@
 use Rattle.plugin_session.proofs.Names.{◌≡◌, ◌<◌, ◌==◌, ℕ, Bool, true, false, cond, List, [], ◌∷◌, ◌++◌, map, filter}
 use Rattle.plugin_session.proofs.Names.{find, Option, Some, None, refl, sym, ap, subst, ◌∙◌, arith, eq-eqb, nat_tests}
 use Rattle.plugin_session.proofs.Names.{map-append, reverse-append, All-head, All-tail, filter-append, find-append, All}
-use Rattle.plugin_session.proofs.Names.{list_all, option_or, nat_lt, reverse, Made}
-use Rattle.std.proofs.{Common.{slice_get, length}, lemmas.Bool.ne_eqb}
+use Rattle.plugin_session.proofs.Names.{list_all, option_or, nat_lt, reverse, Made, slice_get, length}
+use Rattle.std.proofs.lemmas.Bool.{ne_eqb}
 use Rattle.plugin_session.specs.{Journal.entry_of, Kept.is_numbered, Views.{entries_of, made_of}}
 use Rattle.plugin_session.specs.declared.entry.Entry.{Entry}
 use Rattle.kernel_types.proofs.ListLemmas.{filter_never}

@@ -8,7 +8,7 @@ use Rattle.plugin_session.proofs.Names.{ForwardEnsure, VethAdd, MacvlanAdd, Link
 use Rattle.plugin_session.proofs.Names.{SettingSet, LeaseNext, CachePut, LinkDel, RuleDel, SettingDel, LeaseDel}
 use Rattle.plugin_session.proofs.Names.{CacheDel, HasObj, CacheGet, OwnersOf, PoolFree, NsChange, Outside, Kind, Leased}
 use Rattle.plugin_session.proofs.Names.{Att, Host, Tag, passes-find, is_plugin_call_of, deletion, reply_to, Made}
-use Rattle.plugin_session.proofs.Names.{host_on}
+use Rattle.plugin_session.proofs.Names.{host_on, by_test}
 use Rattle.std.proofs.lemmas.Bool.Decides.{eqb_tells}
 use Rattle.ip_pool.specs.NextAddress.{is_candidate, is_candidate_or_none}
 use Rattle.kernel_types.specs.{Apply.Calls.{is_of_pool, moved_last}, Touch.{Touches, TouchesTag}}
@@ -17,7 +17,6 @@ use Rattle.kernel_types.proofs.{EveryCall.{IsSound-apply, Touches-apply}, Leased
 use Rattle.kernel_types.specs.declared.object.Tag.TheVariants as tags
 use Rattle.kernel_types.specs.declared.call.Kind.TheVariants as kinds
 use Rattle.plugin_session.specs.{Journal.{JournalView, after_entries, made_next}, Pools.{IsLastOf, IsReady, Pools}}
-use Rattle.cni_addr.proofs.Cases.{by_test}
 
 -- ---- the host after one call
 

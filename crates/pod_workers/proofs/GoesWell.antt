@@ -160,6 +160,11 @@ pub if-listed : (b : Bool) (o : Option NetList) (list : NetList) → (if b then 
 if-listed true o list is = is
 if-listed false o list is = absurd (none-some list is)
 
+pub list_named-listed : (p : Plan) (c : Command) (list : NetList) → list_for p c ≡ Some list
+    → list_named p.lists c.network ≡ Some list
+unfolding list_for
+list_named-listed p c list is = if-listed (is_of_network c.verb) (list_named p.lists c.network) list is
+
 pub by-list : (p : Plan) (host : Host) (c : Command) (rs : List Reply) (o : Option NetList) (call : Call) → IsWellFormed p
     → IsSound host → AreLastsOfSets p host.lasts
     → list_in p.lists c ≡ o → turn_by o c rs ≡ Calls call → GoesWell p host call

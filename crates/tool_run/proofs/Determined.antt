@@ -1,7 +1,7 @@
 -- What an undisturbed run reports is determined by what it was told.
 use Rattle.std.proofs.Common.{◌≡◌, ◌≢◌, ◌∙◌, ℕ, zero, suc, List, [], ◌∷◌, ◌++◌, refl, sym, ap, ap₂, subst, arith, inl}
-use Rattle.std.proofs.{Common.{inr, Bool, true, cond, Option, Some, None, IfSome, slice_get}, lemmas.Option.none-some}
-use Rattle.std.proofs.lemmas.Option.{same_Some}
+use Rattle.std.proofs.Common.{inr, Bool, true, cond, Option, Some, None, IfSome, slice_get}
+use Rattle.std.proofs.lemmas.{Map.Keys.any_passes_from_place, Option.{none-some, same_Some}}
 use Rattle.std.specs.List.{list_any}
 use Rattle.cni_io.specs.Files.{StoredFiles}
 use Rattle.cni_errors.specs.declared.answer.Answer.{Answer, TheVariants.OutOfMemory}
@@ -36,16 +36,10 @@ has_not_read words files bytes un (inr calm) = calm un.unread.rose
 
 -- ---- one outcome
 
-any-at : {X : Type 0} (p : X → Bool) (xs : List X) (i : ℕ) (x : X) → slice_get xs i ≡ Some x → p x ≡ true
-    → list_any p xs ≡ true
-any-at p [] i x at h = absurd (none-some x at)
-any-at p (y ∷ ys) zero x at h = let here : p y ≡ true = ap p (same_Some y x at) ∙ h in grind (arith, here)
-any-at p (y ∷ ys) (suc i) x at h = let later : list_any p ys ≡ true = any-at p ys i x at h in grind (arith, later)
-
 had_memory : (answers : List (Option Answer)) → status_of answers ≢ 8 → (n : ℕ)
     → slice_get answers n ≢ Some (Some OutOfMemory)
 had_memory answers not_eight n at =
-    not_eight (ap (λ (b : Bool). cond b 8 (cond (list_any is_failure answers) 1 0)) (any-at is_out_of_memory answers n (Some OutOfMemory) at refl))
+    not_eight (ap (λ (b : Bool). cond b 8 (cond (list_any is_failure answers) 1 0)) (any_passes_from_place is_out_of_memory answers n (Some OutOfMemory) at refl))
 
 -- what is printed is of the plan, the history and the answers, and not of the round
 part-any_round : (w : World) (round : ℕ) (part : CommandPart)

@@ -3,10 +3,9 @@ use Rattle.plugin_session.proofs.Names.{◌≡◌, ℕ, ◌+◌, Bool, true, fal
 use Rattle.plugin_session.proofs.Names.{append_assoc, append-nil, map-append, filter_map-append, if◌then◌else◌}
 use Rattle.plugin_session.proofs.Names.{host_after, reply_to, State, leased_by, leases_in, next_call, Made, host_from}
 use Rattle.plugin_session.proofs.Names.{host_on, replies, apply, is_fault, Call, Reply, Fault, Host, IsReplyOf-apply}
-use Rattle.plugin_session.proofs.Names.{Command}
+use Rattle.plugin_session.proofs.Names.{Command, by_test}
 use Rattle.plugin_session.specs.Course.{Course, IsRunFrom, advance, state_from}
 use Rattle.plugin_session.proofs.Ready.{made_on}
-use Rattle.cni_addr.proofs.Cases.{by_test}
 
 -- ---- a run
 

@@ -11,6 +11,7 @@ use Rattle.kernel_types.specs.{Apply.Calls.{goes_with, goes_with_ns, has_peer_in
 use Rattle.kernel_types.specs.{Terms.is_veth, declared.object.LinkKind.LinkKind}
 use Rattle.kernel_types.specs.declared.object.LinkKind.TheVariants as link_kinds
 use Rattle.pod_laws.proofs.{Added.HostBridges.BridgeIn, Histories.{Steps.{Changes, on-entry}, Turns.change-of}}
+use Rattle.kernel_types.proofs.Cases.{other_host}
 
 bridge-no_veth : (k : LinkKind) → is_bridge k ≡ true → is_veth k ≡ false
 bridge-no_veth link_kinds.Device h = refl
@@ -42,21 +43,17 @@ stays-beside name gone host sound stays there =
     host.links sound.links.peers in
     list_any-kept (is_host_bridge name) (λ l. not (gone l)) host.links there none
 
--- a place in another namespace than the host's own isn't that of a link in it
-apart-places : (a b : List ℕ) → is_host_ns a ≡ true → is_host_ns b ≡ false → bytes_eq a b ≡ false
-apart-places a b outer inner = false_from_ne_true (bytes_eq a b) (λ same. both_ways (is_host_ns b) inner (ap is_host_ns (sym ((bytes_eq-Decides a b).0 same)) ∙ outer))
-
 stays-in_ns : (ns : List ℕ) → is_host_ns ns ≡ false → (l : Link) → is_host_ns l.ns ≡ true → l.peer ≡ None
     → goes_with_ns ns l ≡ false
 stays-in_ns ns inner l outer alone =
-    let apart : bytes_eq l.ns ns ≡ false = apart-places l.ns ns outer inner in
+    let apart : bytes_eq l.ns ns ≡ false = other_host l.ns ns outer inner in
     let no_peer : has_peer_in ns l.peer ≡ false = ap (has_peer_in ns) alone in
     grind (arith, apart, no_peer)
 
 stays-at : (ns name : List ℕ) → is_host_ns ns ≡ false → (l : Link) → is_host_ns l.ns ≡ true → l.peer ≡ None
     → goes_with ns name l ≡ false
 stays-at ns name inner l outer alone =
-    let apart : bytes_eq l.ns ns ≡ false = apart-places l.ns ns outer inner in
+    let apart : bytes_eq l.ns ns ≡ false = other_host l.ns ns outer inner in
     let no_peer : is_peer_at ns name l.peer ≡ false = ap (is_peer_at ns name) alone in
     grind (arith, apart, no_peer)
 

@@ -8,7 +8,7 @@ use Rattle.pod_laws.proofs.Names.{addr_obj_eq, lease_eq, link_eq, route_eq, rule
 use Rattle.pod_laws.proofs.Names.{cached_in, is_at, is_bridge, is_bridge_with, is_host_bridge, is_host_link, is_host_ns}
 use Rattle.pod_laws.proofs.Names.{is_own, BridgeAt, Att, Host, Link, Tag, is_own-tag_eq, NetList, Share, share_of}
 use Rattle.pod_laws.proofs.Names.{is_of_network, Command, Legal, Placed, list_for, World, after, entry_of, host_of}
-use Rattle.pod_laws.proofs.Names.{Entry, Plan, after-append, listed_network}
+use Rattle.pod_laws.proofs.Names.{Entry, Plan, after-append, listed_network, none-or-some}
 use Rattle.kernel_types.proofs.ListLemmas.{list_any-weaker}
 use Rattle.pod_laws.specs.Checked.{ChecksHoldFromTheirStart, HoldAlike, are_in, has_bridge_by, has_bridge_for}
 use Rattle.pod_laws.specs.{Checked.has_objects_of, Granted.only_asks, Moments.{host_at_end, host_at_start, is_of}}
@@ -21,7 +21,7 @@ use Rattle.pod_laws.proofs.Histories.Steps.{AllListed, IsOtherKept, IsOwnKept, L
 use Rattle.pod_laws.proofs.Questions.{Entries.question-entered, SteadyHosts.{KeepsAsked, KeepsBridges, asked-kept}}
 use Rattle.pod_laws.proofs.{Questions.SteadyHosts.keeps-same, Shares.DistinctLeases.sound-at_end}
 use Rattle.std.specs.Cmp.Derive.{one_truth}
-use Rattle.pod_workers.proofs.{Sound.list_named-listed, Splits.none-or-some}
+use Rattle.pod_workers.proofs.GoesWell.{list_named-listed}
 
 -- ---- from the first entry to the last
 
