@@ -19,7 +19,7 @@ use Rattle.packet_laws.specs.{Complete.{IsAttached, IsComplete, wanted_of}, Pack
 use Rattle.packet_laws.proofs.{Equal.{lease-equal, rule-equal}, Lists.{all-among, any-among, filter-among}}
 use Rattle.packet_laws.proofs.{Settled.{IsSettled, IsSettledFor, rules_for}, WantedRules.{chained_rules, first-rules}}
 use Rattle.packet_laws.proofs.WantedRules.{rules_by}
-use Rattle.pod_workers.proofs.GoesWell.{list_named-listed}
+use Rattle.pod_workers.proofs.Hosts.GoesWell.{list_named-listed}
 
 -- ---- what is asked for is what the cached result wants
 

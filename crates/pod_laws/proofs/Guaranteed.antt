@@ -4,7 +4,7 @@ use Rattle.pod_laws.proofs.Names.{Answer, NetList, is_of_network, Command, Verb,
 use Rattle.pod_laws.proofs.Names.{World, Entry, Plan, listed_network, each_prefix, sound_host}
 use Rattle.cni_errors.specs.declared.answer.Answer.TheVariants as answers
 use Rattle.pod_file.specs.declared.command.Verb.TheVariants as verbs
-use Rattle.pod_workers.proofs.Sound.{no_address_twice}
+use Rattle.pod_workers.proofs.Hosts.Sound.{no_address_twice}
 use Rattle.pod_laws.specs.{Answers.is_cut_off, CachedResults.EachCachedResultIsItsAdds, Collected.IsAnswerOfGc}
 use Rattle.pod_laws.specs.Guaranteed.{AreAnswers, EveryLegalHistoryIsGuaranteed, IsAnswerOfAdd, IsAnswerOfCheck}
 use Rattle.pod_laws.specs.Guaranteed.{IsAnswerOfDel, IsWellKept}

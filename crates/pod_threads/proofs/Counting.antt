@@ -3,7 +3,7 @@ use Rattle.std.proofs.Common.{◌≡◌, ℕ, ◌+◌, ◌≤◌, cond, List, []
 use Rattle.std.proofs.{Common.arith, lemmas.List.{length-append, Elements.{All-head, All-tail}, Sums.sum_by-append}}
 use Rattle.std.proofs.lemmas.List.Sums.{sum_by-cons}
 use Rattle.std.specs.{List.{All, count_by}, Prelude.{slice_index, slice_set}}
-use Rattle.pod_workers.proofs.RoundDone.{extends_trans}
+use Rattle.pod_workers.proofs.Books.RoundDone.{extends_trans}
 use Rattle.pod_workers.specs.{Extends.{Extends, IsOfRound, Rounds}, World.{World, is_of_round}}
 use Rattle.pod_workers.specs.declared.plan.{Entry.Entry, Plan.Plan}
 use Rattle.pod_threads.specs.Counted.{entries_of_round}

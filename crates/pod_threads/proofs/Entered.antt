@@ -1,7 +1,7 @@
 -- A step under the lock goes on from the book that went in, and is counted.
 use Rattle.std.proofs.{Common.{◌≡◌, ℕ, ◌+◌, Result, Ok, Err, length, sym, ◌∙◌, ap, arith}, lemmas.List.length_push}
 use Rattle.cni_addr.specs.declared.memory.NoMemory.{NoMemory}
-use Rattle.pod_workers.proofs.RoundDone.{IsStepped, extends_trans, step_extends}
+use Rattle.pod_workers.proofs.Books.RoundDone.{IsStepped, extends_trans, step_extends}
 use Rattle.pod_workers.specs.{Extends.Extends, World.{World, IsReadyNumber, done, end_of, entry_of, host_of, next_of}}
 use Rattle.pod_workers.specs.{World.own_replies, declared.plan.{Next.Next, StepEnd.StepEnd}}
 use Rattle.pod_workers.specs.declared.plan.Next.TheVariants as next

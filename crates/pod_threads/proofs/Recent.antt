@@ -10,7 +10,7 @@ use Rattle.pod_workers.specs.{Plans.commands_of, World.{World, IsReady, answered
 use Rattle.pod_workers.specs.{World.{next_round, own_replies, is_of_round}, declared.plan.{Entry.Entry, Next.Next}}
 use Rattle.pod_workers.specs.declared.plan.Plan.{Plan}
 use Rattle.pod_workers.specs.declared.plan.Next.TheVariants as next
-use Rattle.pod_workers.proofs.{Elements.at_number-is, RoundDone.same-is-in, Rounds.is_in_round}
+use Rattle.pod_workers.proofs.{Books.{RoundDone.same-is-in, Rounds.is_in_round}, Lists.Elements.at_number-is}
 use Rattle.cni_errors.specs.declared.answer.Answer.{Answer, TheVariants.OutOfMemory}
 use Rattle.pod_threads.specs.Counted.{entries_of_round, is_current}
 use Rattle.pod_threads.proofs.Counting.{count-all, count-append}

@@ -8,7 +8,7 @@ use Rattle.cni_io.specs.Files.{StoredFiles}
 use Rattle.cni_errors.specs.declared.answer.Answer.{Answer}
 use Rattle.pod_text.specs.Statuses.{is_failure, is_out_of_memory, status_of}
 use Rattle.pod_workers.specs.{Facts.LegalWorldsMeetEachClause, Plans.{Placed, commands_of}, declared.plan.Plan.Plan}
-use Rattle.pod_workers.proofs.Rounds.{round-of}
+use Rattle.pod_workers.proofs.Books.Rounds.{round-of}
 use Rattle.tool_words.specs.{Words.words_given, declared.words.Words.Words}
 use Rattle.tool_plan.specs.{Dues.AreFiles, Seen.FilesSeen, Verdict.{Verdict, verdict_if, verdict_of}}
 use Rattle.tool_run.specs.Laws.{EachOutcomeIsOfItsVerdict, EachCommandIsAnsweredAtTheEnd, EachStatusIsOfItsVerdict}

@@ -20,8 +20,8 @@ use Rattle.plugin_session.proofs.Courses.Adding.{AddAt, Goes, Undoes, goes-part,
 use Rattle.plugin_session.proofs.Courses.{Adding.{moves-lease, undoes-at}, Calls.{IsForward, appends, with_leases}}
 use Rattle.plugin_session.proofs.Courses.Calls.{appends-allowed, appends-no_lease, forward-all, forward-makes}
 use Rattle.plugin_session.proofs.Courses.{Deleting.deletes-on, Runs.{Keeps, along, host-made, on-call, replied}}
-use Rattle.plugin_session.proofs.{Courses.Unbegun.begin-no_lease, Numbered.slice_get-middle, Ready.lease-allowed}
-use Rattle.plugin_session.proofs.Ready.{made_on, ready-begin, ready-lease, ready-own_call}
+use Rattle.plugin_session.proofs.{Courses.Unbegun.begin-no_lease, Steps.Numbered.slice_get-middle}
+use Rattle.plugin_session.proofs.Tasks.Ready.{lease-allowed, made_on, ready-begin, ready-lease, ready-own_call}
 
 -- ---- one entry
 

@@ -14,7 +14,7 @@ use Rattle.plugin_session.specs.{Laws.{Run, own_att, part_of}, Pools.sets_by, Ta
 use Rattle.plugin_session.specs.declared.row.Row.{Row}
 use Rattle.plugin_session.proofs.Courses.Calls.{forward-all, forward-makes, part-first, part-of_kinds, with_leases}
 use Rattle.plugin_session.proofs.Courses.{Deleting.{Left, deletes-on}, Parts.{part-removes, part-trans}}
-use Rattle.plugin_session.proofs.{Courses.{Runs.{leases-push, leases-same}, Unbegun.begun-more}, Ready.made_on}
+use Rattle.plugin_session.proofs.{Courses.{Runs.{leases-push, leases-same}, Unbegun.begun-more}, Tasks.Ready.made_on}
 
 -- ---- on the way forward
 

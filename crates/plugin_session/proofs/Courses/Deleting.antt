@@ -11,8 +11,8 @@ use Rattle.gc_sweep.proofs.{OfKinds.HasKindsAlone-removes, Removes.within_same}
 use Rattle.kernel_types.specs.declared.call.Kind.TheVariants as kinds
 use Rattle.plugin_base.proofs.Deletions.{gone-links, gone-none}
 use Rattle.plugin_session.specs.{Course.{Course, advance, at_cache}, Pools.{IsReady, Pools}}
-use Rattle.plugin_session.proofs.{Courses.Runs.{host-made, on-call, replied}, Ready.{deletion-allowed, made_on}}
-use Rattle.plugin_session.proofs.Ready.{ready-deletion}
+use Rattle.plugin_session.proofs.{Courses.Runs.{host-made, on-call, replied}, Tasks.Ready.{deletion-allowed, made_on}}
+use Rattle.plugin_session.proofs.Tasks.Ready.{ready-deletion}
 
 -- ---- no kind is left
 

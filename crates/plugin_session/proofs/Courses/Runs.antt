@@ -5,7 +5,7 @@ use Rattle.plugin_session.proofs.Names.{host_after, reply_to, State, leased_by, 
 use Rattle.plugin_session.proofs.Names.{host_on, replies, apply, is_fault, Call, Reply, Fault, Host, IsReplyOf-apply}
 use Rattle.plugin_session.proofs.Names.{Command, by_test}
 use Rattle.plugin_session.specs.Course.{Course, IsRunFrom, advance, state_from}
-use Rattle.plugin_session.proofs.Ready.{made_on}
+use Rattle.plugin_session.proofs.Tasks.Ready.{made_on}
 
 -- ---- a run
 

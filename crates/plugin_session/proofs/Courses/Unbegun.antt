@@ -7,7 +7,7 @@ use Rattle.plugin_session.proofs.Names.{share_of}
 use Rattle.plugin_session.specs.{Course.{advance, at_begin}, Holds.has_begun, Journal.IsOver, Laws.BeginsAt}
 use Rattle.plugin_session.specs.Laws.{EachUnbegunAddIsUndone, EachUnbegunAddLeavesTheHost, IsUndone, Run, end_from}
 use Rattle.plugin_session.specs.Laws.{finish, own_att}
-use Rattle.plugin_session.proofs.{Courses.Runs.{Keeps, along, on-call}, Ready.made_on}
+use Rattle.plugin_session.proofs.{Courses.Runs.{Keeps, along, on-call}, Tasks.Ready.made_on}
 
 -- no reply to a Begin leases
 pub begin-no_lease : (host : Host) (att : Att) (netns : List ℕ) (fault : Bool)

@@ -14,7 +14,7 @@ use Rattle.pod_laws.proofs.Names.{entry_of, host_of, after_entry, replies_of, re
 use Rattle.pod_laws.proofs.Names.{replies_of-other, other_number, by-cache, by-deletion, host-made}
 use Rattle.gc_sweep.proofs.Lists.{any-found}
 use Rattle.plugin_base.specs.PluginCalls.{is_ensured}
-use Rattle.pod_workers.proofs.Replies.{by-begin, by-lease, by-call_after}
+use Rattle.pod_workers.proofs.Hosts.Replies.{by-begin, by-lease, by-call_after}
 use Rattle.pod_laws.specs.Moments.{is_of, own_entries}
 use Rattle.pod_laws.proofs.{Added.HostBridges.{BridgeIn, bridge-entered}, Histories.Entries.{apart-entry, is_of-own}}
 use Rattle.pod_laws.proofs.Histories.{Entries.{no-entries, own_entries-own, own_entries-other}, RunFacts.state_by}

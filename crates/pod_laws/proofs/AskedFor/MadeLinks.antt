@@ -17,7 +17,7 @@ use Rattle.plugin_base.specs.PluginCalls.{at_most_one, changes_links, set_links_
 use Rattle.plugin_base.proofs.PluginCalls.{at_most-none}
 use Rattle.plugin_chain.specs.Wanted.{all_chained_calls, sets_links}
 use Rattle.plugin_chain.proofs.PluginLaws.{one_setter}
-use Rattle.pod_workers.proofs.Sound.{list_for-found}
+use Rattle.pod_workers.proofs.Hosts.Sound.{list_for-found}
 use Rattle.pod_laws.specs.AskedFor.{AreAmong, links_after_part, EachLinkIsWanted, LinksAreMadeOrWanted}
 use Rattle.pod_laws.proofs.Added.{Achieved.with_leases, Prefixes.{links-calls, links_made-leased}}
 

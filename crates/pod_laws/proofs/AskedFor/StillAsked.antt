@@ -5,7 +5,7 @@ use Rattle.pod_laws.proofs.Names.{Reply, Done, Att, share_of, Command, is_done, 
 use Rattle.pod_laws.proofs.Names.{after, done, entry_of, host_of, after_entry, replies_of, reply_to, Entry, Plan}
 use Rattle.pod_laws.proofs.Names.{after-append, replies_of-other, done_or_not, share-removes_none, removes-deletion}
 use Rattle.pod_laws.proofs.Names.{removes-nothing, OnlyRemoves}
-use Rattle.pod_workers.proofs.Histories.{replies_of-own}
+use Rattle.pod_workers.proofs.Worlds.Histories.{replies_of-own}
 use Rattle.pod_laws.specs.AskedFor.{begins, AreAskedFor, AreCandidatesSoFar, HasNothingUnasked, IsAskedFor, IsPart}
 use Rattle.pod_laws.specs.Moments.{objects_after}
 use Rattle.pod_laws.proofs.Added.{Achieved.{begun-none, leases-push}, Prefixes.asked-removes}

@@ -5,7 +5,7 @@ use Rattle.pod_laws.proofs.Names.{share_of, att_of, advance, start_state, Legal,
 use Rattle.pod_laws.proofs.Names.{host_of, own_replies, entry_of, Entry, Plan, calls_left, after-append, entry_or_none}
 use Rattle.pod_laws.proofs.Names.{has_reply, sound_host, split_nil, split_snoc, IsNoCollection}
 use Rattle.pod_workers.specs.CallCounts.{AddsInAtMost}
-use Rattle.pod_workers.proofs.{Replies.true-from, StepsLeft.{entry-falls, none-stays}}
+use Rattle.pod_workers.proofs.{Ends.StepsLeft.{entry-falls, none-stays}, Hosts.Replies.true-from}
 use Rattle.pod_laws.specs.Moments.{is_of, objects_after, own_entries, until_last}
 use Rattle.pod_laws.proofs.Histories.Entries.{is_of-own, own_entries-own, own_entries-other, replies_in, no-entries}
 use Rattle.pod_laws.proofs.Histories.{Entries.{until_last-own, until_last-other}, RunFacts.{state_by, state_by-append}}

@@ -16,7 +16,7 @@ use Rattle.kernel_types.specs.declared.call.Reply.TheVariants.{Entry as Found}
 use Rattle.cni_errors.specs.declared.answer.Skip.TheVariants as skips
 use Rattle.gc_sweep.specs.Deletions.{deletions_of}
 use Rattle.pod_workers.specs.CallCounts.{most_calls}
-use Rattle.pod_workers.proofs.{Falls.left-asking, MostCalls.adds_in_most_calls, StepsLeft.none-asking}
+use Rattle.pod_workers.proofs.Ends.{Falls.left-asking, MostCalls.adds_in_most_calls, StepsLeft.none-asking}
 use Rattle.pod_laws.specs.Bounded.{EachAddHasMost, EachChangeIsOneCall, EachRunIsBounded, IsFirst, asked_of}
 use Rattle.pod_laws.specs.Moments.{objects_after}
 use Rattle.pod_laws.proofs.{Bounded.Runs.{made-below, made-within}, Outside.Changes.one-call}

@@ -6,7 +6,7 @@ use Rattle.pod_laws.proofs.Names.{Share, share_after_call, share_after_calls, wa
 use Rattle.plugin_base.proofs.{KeyLists.{list_all-append, list_all-every, list_all-mapped}, OwnCalls.set_link-tag}
 use Rattle.plugin_chain.specs.Wanted.{add_calls}
 use Rattle.pod_workers.specs.AddCalls.{only_leases}
-use Rattle.pod_workers.proofs.AddCalls.{make_the_wanted}
+use Rattle.pod_workers.proofs.Hosts.AddCalls.{make_the_wanted}
 use Rattle.cni_addr.proofs.Lists.{list_all-push}
 
 -- each object that a CHECK asks for

@@ -19,7 +19,7 @@ use Rattle.cni_errors.specs.declared.answer.Missed.TheVariants as missed
 use Rattle.pod_laws.specs.Checked.{are_in, has_bridge_by, has_bridge_for, has_first_bridge, has_objects_of}
 use Rattle.pod_laws.specs.{Checked.holds_cached, Granted.grants}
 use Rattle.pod_laws.proofs.{Checked.OwnWanted.{AreOwn, own-wanted}, Questions.{Asking.tells, SteadyHosts.KeepsAsked}}
-use Rattle.pod_workers.proofs.Each.{each-map_of}
+use Rattle.pod_workers.proofs.Lists.Each.{each-map_of}
 
 -- ---- one question
 

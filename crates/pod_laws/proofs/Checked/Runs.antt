@@ -10,7 +10,7 @@ use Rattle.cni_errors.specs.declared.answer.Cause.TheVariants as causes
 use Rattle.cni_errors.specs.declared.answer.Skip.TheVariants as skips
 use Rattle.pod_laws.specs.{Answers.EndsByFault, Checked.{EndsByEntry, EndsByList, EndsCheck, IsMissing, WasChecked}}
 use Rattle.pod_laws.specs.{Checked.holds_cached, Granted.only_asks, Moments.{has_fault, host_at_end, own_entries}}
-use Rattle.pod_workers.proofs.Each.{each-prefix}
+use Rattle.pod_workers.proofs.Lists.Each.{each-prefix}
 use Rattle.pod_laws.proofs.Checked.Questions.{IsSteadyQuestion, cached-stays, granted-check, granted-stay}
 use Rattle.pod_laws.proofs.{Checked.Questions.steady-questions, Given.CutOff.{over-by, answered-by}}
 use Rattle.pod_laws.proofs.Histories.{RunFacts.{HostFact, IsHostFact, StartsOn, each-run}, Runs.own-state}

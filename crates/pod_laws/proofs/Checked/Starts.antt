@@ -21,7 +21,7 @@ use Rattle.pod_laws.proofs.Histories.Steps.{AllListed, IsOtherKept, IsOwnKept, L
 use Rattle.pod_laws.proofs.Questions.{Entries.question-entered, SteadyHosts.{KeepsAsked, KeepsBridges, asked-kept}}
 use Rattle.pod_laws.proofs.{Questions.SteadyHosts.keeps-same, Shares.DistinctLeases.sound-at_end}
 use Rattle.std.specs.Cmp.Derive.{one_truth}
-use Rattle.pod_workers.proofs.GoesWell.{list_named-listed}
+use Rattle.pod_workers.proofs.Hosts.GoesWell.{list_named-listed}
 
 -- ---- from the first entry to the last
 

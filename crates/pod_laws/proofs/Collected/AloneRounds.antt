@@ -8,7 +8,8 @@ use Rattle.std.proofs.lemmas.Bool.{cases_lt, cases_order, le-ltb, lt-ltb, or_lef
 use Rattle.std.specs.Prelude.{◌<◌}
 use Rattle.plugin_base.proofs.Deletions.{empty_none}
 use Rattle.pod_workers.specs.{Facts.{EachOne, IsEntryOf}, World.{at_number, replies_in}}
-use Rattle.pod_workers.proofs.{Elements.at_number-is, Facts.{each_follows, goes_by_rounds}, WellFormedPlans.stand_alone}
+use Rattle.pod_workers.proofs.{Lists.Elements.at_number-is, Plans.WellFormedPlans.stand_alone}
+use Rattle.pod_workers.proofs.Worlds.Facts.{each_follows, goes_by_rounds}
 use Rattle.pod_laws.specs.Moments.{host_at_end, host_at_round, host_at_start, is_before, is_of, own_entries}
 use Rattle.pod_laws.specs.Moments.{until_first, until_last, until_round}
 use Rattle.pod_laws.proofs.Histories.{AloneRuns.until_first-own, Entries.{is_of-own, no-entries, same-place}}

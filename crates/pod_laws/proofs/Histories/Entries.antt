@@ -1,9 +1,9 @@
 -- The entries of one command in a history that is one entry longer.
 use Rattle.pod_laws.proofs.Names.{◌≡◌, ◌≢◌, ℕ, ◌+◌, Bool, true, false, List, [], ◌∷◌, ◌++◌, refl, sym, ◌∙◌, ap, arith}
 use Rattle.pod_laws.proofs.Names.{list_any, if◌then◌else◌, Call, list_any-append_right}
-pub use Rattle.pod_workers.proofs.Histories.{is_of-own, is_of-other, own_entries-own, own_entries-other}
-use Rattle.pod_workers.proofs.Order.{other_number}
-use Rattle.pod_workers.proofs.Splits.{split_nil}
+pub use Rattle.pod_workers.proofs.Worlds.Histories.{is_of-own, is_of-other, own_entries-own, own_entries-other}
+use Rattle.pod_workers.proofs.InOrder.Order.{other_number}
+use Rattle.pod_workers.proofs.Lists.Splits.{split_nil}
 use Rattle.pod_workers.specs.World.{World, entry_of, host_of}
 pub use Rattle.pod_workers.specs.World.{replies_in}
 use Rattle.pod_workers.specs.declared.plan.Entry.{Entry}

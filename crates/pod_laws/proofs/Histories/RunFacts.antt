@@ -3,7 +3,7 @@ use Rattle.pod_laws.proofs.Names.{◌≡◌, ℕ, ◌+◌, Bool, true, List, [],
 use Rattle.pod_laws.proofs.Names.{inr, ◌⊎◌, arith, length-map, map-append, NetList, Command, Call, Host, State, advance}
 use Rattle.pod_laws.proofs.Names.{start_state, state_after, Legal, Placed, World, IsReady, after, after_entry, host_of}
 use Rattle.pod_laws.proofs.Names.{replies_of, entry_of, Entry, Plan, after-append}
-use Rattle.pod_workers.proofs.Kept.{state_from-append}
+use Rattle.pod_workers.proofs.Books.Kept.{state_from-append}
 use Rattle.pod_laws.specs.Moments.{is_of, own_entries, until_last}
 use Rattle.pod_laws.proofs.Histories.Entries.{is_of-own, own_entries-own, own_entries-other, replies_in, no-entries}
 use Rattle.pod_laws.proofs.Histories.{Entries.{until_last-own, until_last-other}, Steps.{AllListed, AllOpen, GoesOn}}

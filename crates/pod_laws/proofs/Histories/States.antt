@@ -8,8 +8,9 @@ use Rattle.pod_laws.proofs.Names.{AtBegin, BeforeLeases, Leasing, AfterLeases, R
 use Rattle.pod_laws.proofs.Names.{Asking, Changing, Collecting, Over, before_of, back_of, after_leases, leasing}
 use Rattle.pod_laws.proofs.Names.{before_leases, asking, gc_of, changed, faulted, swept, advance, start_of, state_after}
 use Rattle.pod_laws.proofs.Names.{Work, start_work, sets_of, kinds_of}
-use Rattle.pod_workers.proofs.{AddCalls.{of_kinds-before, of_kinds-back}, Asked.{AreQuestionsOf, IsQuestionOf}}
-use Rattle.pod_workers.proofs.{Asked.{check-asks, status-asks}, Replies.{StaysTrue, by-entry, by-question, true-after}}
+use Rattle.pod_workers.proofs.Hosts.{AddCalls.{of_kinds-before, of_kinds-back}, Asked.{AreQuestionsOf, IsQuestionOf}}
+use Rattle.pod_workers.proofs.Hosts.{Asked.{check-asks, status-asks}, Replies.{StaysTrue, by-entry, by-question}}
+use Rattle.pod_workers.proofs.Hosts.Replies.{true-after}
 use Rattle.pod_file.specs.declared.command.Verb.TheVariants as verbs
 use Rattle.cni_errors.specs.declared.answer.Skip.TheVariants as skips
 

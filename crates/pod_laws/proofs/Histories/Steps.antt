@@ -11,7 +11,8 @@ use Rattle.cni_errors.specs.declared.answer.Answer.TheVariants.{OutOfMemory}
 use Rattle.pod_workers.specs.{Legal.{starts, steps, refused_memory, turns}, World.{with_entry, answered, next_of}}
 use Rattle.pod_workers.specs.declared.plan.Next.{Next}
 use Rattle.pod_workers.specs.declared.plan.Next.TheVariants as next
-use Rattle.pod_workers.proofs.{Histories.{slice_get-set_same, slice_get-set_other}, Sound.{allowed_next, goes_in}}
+use Rattle.pod_workers.proofs.{Hosts.Sound.{allowed_next, goes_in}, Worlds.Histories.slice_get-set_same}
+use Rattle.pod_workers.proofs.Worlds.Histories.{slice_get-set_other}
 use Rattle.pod_laws.specs.Moments.{is_of}
 use Rattle.pod_laws.proofs.Histories.Entries.{apart-entry}
 

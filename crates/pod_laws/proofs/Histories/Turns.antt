@@ -11,7 +11,7 @@ use Rattle.pod_laws.proofs.Names.{LeftIsOutside, left-are-of_plugins, left-is-ou
 use Rattle.pod_laws.proofs.Names.{OnlyRemoves, removes-nothing}
 use Rattle.pod_file.specs.declared.command.Verb.TheVariants as verbs
 use Rattle.plugin_base.proofs.OtherCalls.{call-plugin}
-use Rattle.pod_workers.proofs.OfPlugins.{IsOutside}
+use Rattle.pod_workers.proofs.Hosts.OfPlugins.{IsOutside}
 use Rattle.gc_sweep.proofs.{Deletions.deletion-own, Removes.removes-outside}
 use Rattle.pod_laws.proofs.Histories.States.{LeftFit, is_question, left-fit, question-leaves, asked-is_question}
 use Rattle.pod_laws.proofs.Histories.Steps.{Changes, GoesOn, on-entry}

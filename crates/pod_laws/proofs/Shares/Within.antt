@@ -15,7 +15,7 @@ use Rattle.kernel_types.proofs.ListLemmas.{filter_never}
 use Rattle.kernel_types.specs.declared.object.Tag.TheVariants as tags
 use Rattle.kernel_types.specs.declared.call.Kind.TheVariants as kinds
 use Rattle.plugin_base.specs.Calls.{has_kind}
-use Rattle.pod_workers.proofs.{AddCalls.leases-kinds_of, GoesWell.list_named-listed}
+use Rattle.pod_workers.proofs.Hosts.{AddCalls.leases-kinds_of, GoesWell.list_named-listed}
 use Rattle.gc_sweep.proofs.OfKinds.{HasKindsAlone-nothing, HasKindsAlone-call}
 use Rattle.pod_laws.specs.Moments.{objects_after}
 use Rattle.pod_laws.proofs.Histories.States.{LeftFit, is_question, left-fit, question-leaves, asked-is_question}

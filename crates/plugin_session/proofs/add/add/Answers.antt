@@ -1,6 +1,6 @@
 use Rattle.plugin_session.proofs.Names.{true, Ok, Err, subst, refl, rules, err_from_is_err_and, Begin}
 use Rattle.plugin_session.specs.{Adds.CallEndsAs, declared.{begun.Begun.Begun, step.StepEnd.StepEnd}}
-use Rattle.plugin_session.proofs.AddEnds.{adds-begun, adds-none, adds-refused, adds-stopped, adds-unmade}
+use Rattle.plugin_session.proofs.Adds.AddEnds.{adds-begun, adds-none, adds-refused, adds-stopped, adds-unmade}
 use Rattle.plugin_session.proofs.add.add.Goals as goal
 
 pub returns-in_err-copy-clause-ends : goal.returns-in_err-copy-clause-ends

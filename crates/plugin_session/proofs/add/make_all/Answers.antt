@@ -2,8 +2,8 @@ use Rattle.plugin_session.proofs.Names.{◌≡◌, Ok, Err, Option, subst, refl,
 use Rattle.plugin_session.proofs.Names.{HostLocalConf}
 use Rattle.plugin_session.specs.{Adds.{ask_for, pools_of}, Pools.{IsReady, sets_by}, declared.step.StepEnd.StepEnd}
 use Rattle.plugin_session.specs.declared.step.StepEnd.TheVariants.{Granted}
-use Rattle.plugin_session.proofs.AddEnds.{LeasesGo, all-made, all-short, all-unasked, all-unleased, fills-none}
-use Rattle.plugin_session.proofs.AddSteps.{other-is_short}
+use Rattle.plugin_session.proofs.Adds.AddEnds.{LeasesGo, all-made, all-short, all-unasked, all-unleased, fills-none}
+use Rattle.plugin_session.proofs.Adds.AddSteps.{other-is_short}
 use Rattle.plugin_session.proofs.add.make_all.Goals as goal
 
 pub returns-in_err-end-clause-ends : goal.returns-in_err-end-clause-ends

@@ -1,6 +1,6 @@
 use Rattle.plugin_session.proofs.Names.{◌≡◌, Some, sym, ◌∙◌, rules, option_copied}
 use Rattle.plugin_session.specs.Tasks.{kinds_back}
-use Rattle.plugin_session.proofs.AddEnds.{undone-refused}
+use Rattle.plugin_session.proofs.Adds.AddEnds.{undone-refused}
 use Rattle.plugin_session.proofs.add.undo.Goals as goal
 
 pub returns-clause-ends : goal.returns-clause-ends

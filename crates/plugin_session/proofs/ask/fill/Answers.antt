@@ -1,6 +1,6 @@
 use Rattle.plugin_session.proofs.Names.{ap, subst, sym, List, [], Some, ◌≡◌, rules, Cached, Kind, OwnCalls, Ask}
 use Rattle.plugin_session.specs.Adds.{IsAnswer, ask_for}
-use Rattle.plugin_session.proofs.AddEnds.{askable}
+use Rattle.plugin_session.proofs.Adds.AddEnds.{askable}
 use Rattle.plugin_session.proofs.ask.fill.Goals as goal
 
 pub ask_calls-requires-clause-askable : goal.ask_calls-requires-clause-askable

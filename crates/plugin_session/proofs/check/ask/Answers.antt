@@ -1,4 +1,4 @@
-use Rattle.plugin_session.proofs.Asking.{asked-same, question-asked}
+use Rattle.plugin_session.proofs.Checks.Asking.{asked-same, question-asked}
 use Rattle.plugin_session.proofs.check.ask.Goals as goal
 
 pub returns-in-Ok-clause-ends : goal.returns-in-Ok-clause-ends

@@ -1,5 +1,5 @@
 use Rattle.plugin_session.proofs.Names.{◌≡◌, length}
-use Rattle.plugin_session.proofs.Asking.{AskedSoFar}
+use Rattle.plugin_session.proofs.Checks.Asking.{AskedSoFar}
 use Rattle.plugin_session.proofs.check.ask_questions.Given as goal
 
 -- so many were asked, and the host is as it was

@@ -1,7 +1,7 @@
 use Rattle.plugin_session.proofs.Names.{◌∙◌, sym}
-use Rattle.plugin_session.proofs.Sweeping.{IsNext, sweep-falls, swept-failed, swept-more, swept-over, swept-stopped}
-use Rattle.plugin_session.proofs.{Sweeping.{swept-unread, told-next, told-none}, collect.collect.Given.Over}
-use Rattle.plugin_session.proofs.collect.collect.Goals.{In-Some}
+use Rattle.plugin_session.proofs.Removals.Sweeping.{IsNext, sweep-falls, swept-failed, swept-more, swept-over}
+use Rattle.plugin_session.proofs.Removals.Sweeping.{swept-stopped, swept-unread, told-next, told-none}
+use Rattle.plugin_session.proofs.collect.collect.{Given.Over, Goals.In-Some}
 use Rattle.plugin_session.proofs.collect.collect.Goals as goal
 
 -- the call is the next

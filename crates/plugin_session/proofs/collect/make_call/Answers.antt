@@ -1,4 +1,4 @@
-use Rattle.plugin_session.proofs.Sweeping.{next-allowed, next-ready}
+use Rattle.plugin_session.proofs.Removals.Sweeping.{next-allowed, next-ready}
 use Rattle.plugin_session.proofs.collect.make_call.Goals as goal
 
 pub make-requires-clause-allowed : goal.make-requires-clause-allowed

@@ -1,5 +1,6 @@
 use Rattle.plugin_session.proofs.Names.{err_from_is_err_and, Links}
-use Rattle.plugin_session.proofs.TakenBack.{each-fault, each-gone, each-refused, each-stopped, leaves-fewer, ready-then}
+use Rattle.plugin_session.proofs.Removals.TakenBack.{each-fault, each-gone, each-refused, each-stopped, leaves-fewer}
+use Rattle.plugin_session.proofs.Removals.TakenBack.{ready-then}
 use Rattle.plugin_session.proofs.delete.delete_each.Goals as goal
 
 pub returns-in_err-delete_kind-clause-ends : goal.returns-in_err-delete_kind-clause-ends

@@ -1,5 +1,5 @@
 use Rattle.plugin_session.proofs.Names.{drop, IsSound}
-use Rattle.plugin_session.proofs.{KindEnds.StaysReady, TakenBack.LeavesKinds}
+use Rattle.plugin_session.proofs.Removals.{KindEnds.StaysReady, TakenBack.LeavesKinds}
 use Rattle.plugin_session.proofs.delete.delete_each.Given as goal
 
 abbrev pub invariant-loop-kind : goal.invariant-loop-kind

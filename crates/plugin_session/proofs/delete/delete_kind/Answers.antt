@@ -1,7 +1,7 @@
 use Rattle.plugin_session.proofs.Names.{◌≡◌, false, rules, ◌∙◌, sym, err_from_is_err_and}
 use Rattle.plugin_session.specs.Journal.{may_go}
-use Rattle.plugin_session.proofs.KindEnds.{deletions-fewer, ready-more, ready-same, stays-ended, stays-more}
-use Rattle.plugin_session.proofs.KindEnds.{stays-refused, stays-stopped}
+use Rattle.plugin_session.proofs.Removals.KindEnds.{deletions-fewer, ready-more, ready-same, stays-ended, stays-more}
+use Rattle.plugin_session.proofs.Removals.KindEnds.{stays-refused, stays-stopped}
 use Rattle.plugin_session.proofs.delete.delete_kind.Goals as goal
 
 pub returns-then-not-may_go-clause-ends : goal.returns-then-not-may_go-clause-ends

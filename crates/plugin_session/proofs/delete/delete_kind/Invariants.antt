@@ -1,5 +1,5 @@
 use Rattle.plugin_session.proofs.Names.{IsSound, share_of, deletions_of}
-use Rattle.plugin_session.proofs.KindEnds.{StaysAt, StaysReady}
+use Rattle.plugin_session.proofs.Removals.KindEnds.{StaysAt, StaysReady}
 use Rattle.plugin_session.proofs.delete.delete_kind.Given as goal
 
 abbrev pub invariant-loop-kind : goal.invariant-loop-kind

@@ -1,6 +1,6 @@
 use Rattle.plugin_session.proofs.Names.{◌∙◌, ap, subst, Ok, faulted}
 use Rattle.plugin_session.specs.declared.delete.KindEnd.{KindEnd}
-use Rattle.plugin_session.proofs.TakenBack.{EndsEach, kinds-fault, kinds-gone, kinds-stopped}
+use Rattle.plugin_session.proofs.Removals.TakenBack.{EndsEach, kinds-fault, kinds-gone, kinds-stopped}
 use Rattle.plugin_session.proofs.delete.delete_kinds.Goals as goal
 
 pub returns-in-Gone-clause-ends : goal.returns-in-Gone-clause-ends

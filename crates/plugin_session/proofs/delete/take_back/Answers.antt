@@ -1,5 +1,5 @@
 use Rattle.plugin_session.proofs.Names.{ap, sym, ◌∙◌, faulted}
-use Rattle.plugin_session.proofs.TakenBack.{back-fault, back-then, ready-cache, ready-then}
+use Rattle.plugin_session.proofs.Removals.TakenBack.{back-fault, back-then, ready-cache, ready-then}
 use Rattle.plugin_session.proofs.delete.take_back.Goals as goal
 
 pub returns-then-met_fault-clause-ends : goal.returns-then-met_fault-clause-ends

@@ -1,4 +1,4 @@
-use Rattle.plugin_session.proofs.Collected.{gc-removes}
+use Rattle.plugin_session.proofs.Removals.Collected.{gc-removes}
 use Rattle.plugin_session.proofs.laws_of_answers.a_collection_only_removes.Goals as goal
 
 pub returns : goal.returns

@@ -1,4 +1,4 @@
-use Rattle.plugin_session.proofs.Checked.{row-asks}
+use Rattle.plugin_session.proofs.Checks.Checked.{row-asks}
 use Rattle.plugin_session.proofs.laws_of_answers.a_row_asks_for_objects.Goals as goal
 
 pub returns : goal.returns

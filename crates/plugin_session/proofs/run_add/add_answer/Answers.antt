@@ -2,7 +2,7 @@ use Rattle.plugin_session.proofs.Names.{◌≡◌, List, IfOk, length, refl, sym
 use Rattle.plugin_session.specs.{Adds.{IsFor, IsUnbegun}, Course.begins, Holds.Suite, Pools.sets_by, Ran.Handed}
 use Rattle.plugin_session.specs.{Ran.command_for, Runs.{IsAnswerToAdd, handed_of}, Views.PluginView}
 use Rattle.plugin_session.specs.declared.begun.Begun.{Begun}
-use Rattle.plugin_session.proofs.AddRuns.{add-cut, add-ends, add-stopped, course_left, left-course, new-row}
+use Rattle.plugin_session.proofs.Adds.AddRuns.{add-cut, add-ends, add-stopped, course_left, left-course, new-row}
 use Rattle.plugin_session.proofs.run_add.add_answer.Goals as goal
 
 for-command : (h : Handed) (c : Command) (kinds : List Kind) (b : Begun) → c ≡ command_for h

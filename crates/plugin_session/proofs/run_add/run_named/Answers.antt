@@ -1,8 +1,8 @@
 use Rattle.plugin_session.proofs.Names.{◌≡◌, None, Some, sym, ap, ◌∙◌, option_copied, first_unmet, add_refusal}
 use Rattle.plugin_session.specs.{Holds.{Suite, Wrong, wrong_error}, Ran.command_for, Runs.handed_of, Views.PluginView}
 use Rattle.pod_file.specs.declared.command.Verb.TheVariants as verbs
-use Rattle.plugin_session.proofs.{EarlyAdds.{none-wrong, option-wrong, words-container}, RanTasks.{early-as, ran-add}}
-use Rattle.plugin_session.proofs.RanTasks.{ran-memory, ran-refused}
+use Rattle.plugin_session.proofs.{Adds.EarlyAdds.{none-wrong, option-wrong, words-container}, Tasks.RanTasks.early-as}
+use Rattle.plugin_session.proofs.Tasks.RanTasks.{ran-add, ran-memory, ran-refused}
 use Rattle.plugin_session.proofs.run_add.run_named.Goals as goal
 
 pub returns-in-Some-clause-ran : goal.returns-in-Some-clause-ran

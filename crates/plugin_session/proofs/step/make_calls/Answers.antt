@@ -1,7 +1,7 @@
 use Rattle.plugin_session.proofs.Names.{◌≡◌, ◌+◌, drop, Ok, subst, rules, drop_all, err_from_is_err_and}
 use Rattle.plugin_session.specs.{Adds.CallEndsAs, declared.step.StepEnd.StepEnd}
-use Rattle.plugin_session.proofs.AddCalls.{makes-done, makes-end, makes-more, makes-next, makes-ready, makes-refused}
-use Rattle.plugin_session.proofs.{AddCalls.makes-unmade, AddSteps.other-is_short}
+use Rattle.plugin_session.proofs.Adds.AddCalls.{makes-done, makes-end, makes-more, makes-next, makes-ready}
+use Rattle.plugin_session.proofs.Adds.{AddCalls.{makes-refused, makes-unmade}, AddSteps.other-is_short}
 use Rattle.plugin_session.proofs.step.make_calls.Goals as goal
 
 pub returns-in_err-copy-clause-ends : goal.returns-in_err-copy-clause-ends

@@ -1,5 +1,5 @@
 use Rattle.plugin_session.proofs.Names.{drop}
-use Rattle.plugin_session.proofs.AddCalls.{MakesFirst}
+use Rattle.plugin_session.proofs.Adds.AddCalls.{MakesFirst}
 use Rattle.plugin_session.proofs.step.make_calls.Given as goal
 
 abbrev pub invariant-loop-call : goal.invariant-loop-call

@@ -1,7 +1,7 @@
 use Rattle.plugin_session.proofs.Names.{Ok, subst, rules, err_from_is_err_and, CachePut}
 use Rattle.plugin_session.specs.{Adds.CallEndsAs, declared.step.StepEnd.StepEnd}
-use Rattle.plugin_session.proofs.AddCalls.{MakesCalls, cache-ready, row-cached, row-refused, row-short, row-uncached}
-use Rattle.plugin_session.proofs.AddSteps.{other-is_short}
+use Rattle.plugin_session.proofs.Adds.AddCalls.{MakesCalls, cache-ready, row-cached, row-refused, row-short}
+use Rattle.plugin_session.proofs.Adds.{AddCalls.row-uncached, AddSteps.other-is_short}
 use Rattle.plugin_session.proofs.step.make_row.Goals as goal
 
 pub returns-in_err-end-clause-ends : goal.returns-in_err-end-clause-ends

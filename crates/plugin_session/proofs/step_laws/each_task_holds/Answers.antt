@@ -1,4 +1,4 @@
-use Rattle.plugin_session.proofs.EachTask.{each-first, each-more}
+use Rattle.plugin_session.proofs.Steps.EachTask.{each-first, each-more}
 use Rattle.plugin_session.proofs.step_laws.each_task_holds.Goals as goal
 
 pub returns : goal.returns

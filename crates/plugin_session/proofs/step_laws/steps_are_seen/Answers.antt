@@ -1,4 +1,4 @@
-use Rattle.plugin_session.proofs.StepViews.{steps-seen}
+use Rattle.plugin_session.proofs.Steps.StepViews.{steps-seen}
 use Rattle.plugin_session.proofs.step_laws.steps_are_seen.Goals as goal
 
 pub returns : goal.returns

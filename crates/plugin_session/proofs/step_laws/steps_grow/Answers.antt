@@ -1,4 +1,4 @@
-use Rattle.plugin_session.proofs.StepViews.{steps-grow}
+use Rattle.plugin_session.proofs.Steps.StepViews.{steps-grow}
 use Rattle.plugin_session.proofs.step_laws.steps_grow.Goals as goal
 
 pub returns : goal.returns

@@ -1,4 +1,4 @@
-use Rattle.plugin_session.proofs.StepsHold.{steps-hold, steps-hold_of_the_last}
+use Rattle.plugin_session.proofs.Steps.StepsHold.{steps-hold, steps-hold_of_the_last}
 use Rattle.plugin_session.proofs.step_laws.steps_hold.Goals as goal
 
 pub returns : goal.returns

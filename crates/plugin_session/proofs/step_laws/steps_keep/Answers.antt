@@ -1,4 +1,4 @@
-use Rattle.plugin_session.proofs.StepsKeep.{steps-keep, steps-leases}
+use Rattle.plugin_session.proofs.Steps.StepsKeep.{steps-keep, steps-leases}
 use Rattle.plugin_session.proofs.step_laws.steps_keep.Goals as goal
 
 pub returns : goal.returns

@@ -1,4 +1,4 @@
-use Rattle.plugin_session.proofs.LastRows.{last_row-read, steps-places}
+use Rattle.plugin_session.proofs.Steps.LastRows.{last_row-read, steps-places}
 use Rattle.plugin_session.proofs.step_laws.steps_keep_places.Goals as goal
 
 pub returns : goal.returns

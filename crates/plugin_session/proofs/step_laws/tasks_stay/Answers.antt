@@ -1,4 +1,4 @@
-use Rattle.plugin_session.proofs.EachTask.{earlier-stays, first-grown, grown-more, kept-grown, last_task-all}
+use Rattle.plugin_session.proofs.Steps.EachTask.{earlier-stays, first-grown, grown-more, kept-grown, last_task-all}
 use Rattle.plugin_session.proofs.step_laws.tasks_stay.Goals as goal
 
 pub returns : goal.returns

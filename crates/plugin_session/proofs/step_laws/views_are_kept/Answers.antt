@@ -1,4 +1,4 @@
-use Rattle.plugin_session.proofs.StepsKeep.{first-kept, view-kept}
+use Rattle.plugin_session.proofs.Steps.StepsKeep.{first-kept, view-kept}
 use Rattle.plugin_session.proofs.step_laws.views_are_kept.Goals as goal
 
 pub returns : goal.returns

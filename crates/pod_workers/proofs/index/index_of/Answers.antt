@@ -1,5 +1,5 @@
 use Rattle.pod_workers.proofs.Names.{◌∙◌, file_limit}
-use Rattle.pod_workers.proofs.Indexed.{index-fits, index-is-whole, index-nothing, index-round-more}
+use Rattle.pod_workers.proofs.Books.Indexed.{index-fits, index-is-whole, index-nothing, index-round-more}
 use Rattle.pod_workers.proofs.index.index_of.Goals as goal
 
 pub loop-round-init : goal.loop-round-init

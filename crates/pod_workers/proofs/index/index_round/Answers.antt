@@ -2,7 +2,7 @@ use Rattle.pod_workers.proofs.Names.{◌≡◌, ℕ, List, Some, cond, length, �
 use Rattle.std.proofs.lemmas.Map.Text.{btree_map_updates_str}
 use Rattle.std.specs.{BTreeMap.is_at, Map.lookup}
 use Rattle.pod_workers.specs.declared.index.Place.{Place}
-use Rattle.pod_workers.proofs.Indexed.{all-indexed, at_text, count-more, indexed-more, nothing-indexed}
+use Rattle.pod_workers.proofs.Books.Indexed.{all-indexed, at_text, count-more, indexed-more, nothing-indexed}
 use Rattle.pod_workers.proofs.index.index_round.Goals as goal
 
 pub loop-within-init : goal.loop-within-init

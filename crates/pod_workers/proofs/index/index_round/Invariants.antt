@@ -1,6 +1,6 @@
 use Rattle.pod_workers.proofs.Names.{◌≡◌, ◌+◌, List, Some, length, take, slice_get, Command}
 use Rattle.pod_workers.specs.{Index.{AreBefore, IsIndex}, Plans.Placed}
-use Rattle.pod_workers.proofs.Indexed.{IsIndexedTo, at_text}
+use Rattle.pod_workers.proofs.Books.Indexed.{IsIndexedTo, at_text}
 use Rattle.pod_workers.proofs.index.index_round.Given as goal
 
 abbrev pub invariant-loop-within : goal.invariant-loop-within

@@ -1,5 +1,5 @@
 use Rattle.pod_workers.proofs.Names.{sym, ◌∙◌}
-use Rattle.pod_workers.proofs.Joined.{repeats-here, repeats-later}
+use Rattle.pod_workers.proofs.Plans.Joined.{repeats-here, repeats-later}
 use Rattle.pod_workers.proofs.join.first_repeat.Goals as goal
 
 pub returns-then-has_list : goal.returns-then-has_list

@@ -1,5 +1,5 @@
 use Rattle.pod_workers.proofs.Names.{sym, ◌∙◌}
-use Rattle.pod_workers.proofs.Positions.{scanned-found, scanned-more, scanned-none}
+use Rattle.pod_workers.proofs.Books.Positions.{scanned-found, scanned-more, scanned-none}
 use Rattle.pod_workers.proofs.join.first_without_list.Goals as goal
 
 pub returns-in-Some : goal.returns-in-Some

@@ -1,5 +1,5 @@
 use Rattle.pod_workers.specs.Plans.{lacks_list}
-use Rattle.pod_workers.proofs.Positions.{IsScanned}
+use Rattle.pod_workers.proofs.Books.Positions.{IsScanned}
 use Rattle.pod_workers.proofs.join.first_without_list.Given as goal
 
 abbrev pub invariant-loop-commands : goal.invariant-loop-commands

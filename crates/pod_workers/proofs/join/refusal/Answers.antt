@@ -1,6 +1,6 @@
 use Rattle.pod_workers.proofs.Names.{arith}
 use Rattle.pod_workers.specs.Plans.{lacks_list, placed_from}
-use Rattle.pod_workers.proofs.Positions.{found-within}
+use Rattle.pod_workers.proofs.Books.Positions.{found-within}
 use Rattle.pod_workers.proofs.join.refusal.Goals as goal
 
 pub overflow_add-result : goal.overflow_add-result

@@ -1,5 +1,5 @@
 use Rattle.pod_workers.proofs.Names.{false≢true}
-use Rattle.pod_workers.proofs.Turns.{refused-reply}
+use Rattle.pod_workers.proofs.Hosts.Turns.{refused-reply}
 use Rattle.pod_workers.proofs.step.make_call.Goals as goal
 
 pub returns-in-Err-take-clause-err : goal.returns-in-Err-take-clause-err

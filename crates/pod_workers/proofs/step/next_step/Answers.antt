@@ -2,7 +2,7 @@ use Rattle.pod_workers.proofs.Names.{sym, ◌∙◌, ap, subst, option_map, ◌|
 use Rattle.pod_workers.proofs.Names.{finish_of, Stopped}
 use Rattle.pod_workers.specs.World.{is_faulty, is_stop}
 use Rattle.pod_workers.specs.declared.plan.Next.TheVariants as next
-use Rattle.pod_workers.proofs.Turns.{next-is-answer, next-is-call, next-is-stop, over-answers, open-has-next}
+use Rattle.pod_workers.proofs.Hosts.Turns.{next-is-answer, next-is-call, next-is-stop, over-answers, open-has-next}
 use Rattle.pod_workers.proofs.step.next_step.Goals as goal
 
 pub is_stopped-requires : goal.is_stopped-requires

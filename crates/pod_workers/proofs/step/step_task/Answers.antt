@@ -1,6 +1,6 @@
 use Rattle.pod_workers.proofs.Names.{refl, sym, ◌∙◌, ap, advanced}
 use Rattle.pod_workers.specs.World.{reply_to}
-use Rattle.pod_workers.proofs.Turns.{may-call, open-before-call, steps-answered, steps-called}
+use Rattle.pod_workers.proofs.Hosts.Turns.{may-call, open-before-call, steps-answered, steps-called}
 use Rattle.pod_workers.proofs.step.step_task.Goals as goal
 
 pub make_call-requires-clause-allowed : goal.make_call-requires-clause-allowed

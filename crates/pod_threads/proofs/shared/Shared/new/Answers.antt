@@ -1,5 +1,5 @@
 use Rattle.std.proofs.Common.{length, subst, ap, arith}
-use Rattle.pod_workers.proofs.RoundDone.{extends_refl}
+use Rattle.pod_workers.proofs.Books.RoundDone.{extends_refl}
 use Rattle.pod_workers.specs.{Extends.Extends, World.World}
 use Rattle.pod_threads.proofs.shared.Shared.new.Goals as goal
 

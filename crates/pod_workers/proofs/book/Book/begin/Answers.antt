@@ -1,7 +1,7 @@
 use Rattle.pod_workers.proofs.Names.{◌≡◌, length, arith}
 use Rattle.pod_workers.specs.Plans.{commands_of}
-use Rattle.pod_workers.proofs.{FileOrder.file_order_begun, KeptAtBegin.{begun-here, begun-is}}
-use Rattle.pod_workers.proofs.WellFormedPlans.{few_commands}
+use Rattle.pod_workers.proofs.{Books.KeptAtBegin.{begun-here, begun-is}, InOrder.FileOrder.file_order_begun}
+use Rattle.pod_workers.proofs.Plans.WellFormedPlans.{few_commands}
 use Rattle.pod_workers.proofs.book.Book.begin.Goals as goal
 
 pub index_of-requires : goal.index_of-requires

@@ -1,6 +1,6 @@
 use Rattle.pod_workers.specs.Order.{IsEntryBy}
-use Rattle.pod_workers.proofs.{Appended.own-more, RoundDone.{appends-none, extends_refl, extends_trans, order-more}}
-use Rattle.pod_workers.proofs.{RoundDone.step_extends, StepsLeft.step_takes}
+use Rattle.pod_workers.proofs.Books.RoundDone.{appends-none, extends_refl, extends_trans, order-more, step_extends}
+use Rattle.pod_workers.proofs.{Ends.StepsLeft.step_takes, InOrder.Appended.own-more}
 use Rattle.pod_workers.proofs.book.Book.finish.Goals as goal
 
 pub loop-self-init : goal.loop-self-init

@@ -1,6 +1,6 @@
 use Rattle.pod_workers.proofs.Names.{◌≡◌, ℕ, ◌+◌}
 use Rattle.pod_workers.specs.{Extends.Extends, Order.{EarlierAreAnswered, IsInFileOrder}}
-use Rattle.pod_workers.proofs.{Appended.AppendsOwn, StepsLeft.steps_left}
+use Rattle.pod_workers.proofs.{Ends.StepsLeft.steps_left, InOrder.Appended.AppendsOwn}
 use Rattle.pod_workers.proofs.book.Book.finish.Given as goal
 
 abbrev pub invariant-loop-self : goal.invariant-loop-self

@@ -1,6 +1,6 @@
 use Rattle.pod_workers.proofs.Names.{◌∙◌, ap}
 use Rattle.pod_workers.specs.Index.{is_entry_in}
-use Rattle.pod_workers.proofs.ReadyByIndex.{round-tells}
+use Rattle.pod_workers.proofs.Books.ReadyByIndex.{round-tells}
 use Rattle.pod_workers.proofs.book.Book.is_of_round.Goals as goal
 
 pub returns : goal.returns

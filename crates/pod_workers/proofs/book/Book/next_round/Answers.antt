@@ -1,6 +1,6 @@
 use Rattle.pod_workers.proofs.Names.{sym, subst, arith}
 use Rattle.pod_workers.specs.World.{IsRoundOver}
-use Rattle.pod_workers.proofs.RoundDone.{round-fits, round-there, turned-keeps}
+use Rattle.pod_workers.proofs.Books.RoundDone.{round-fits, round-there, turned-keeps}
 use Rattle.pod_workers.proofs.book.Book.next_round.Goals as goal
 
 pub overflow_add-self : goal.overflow_add-self

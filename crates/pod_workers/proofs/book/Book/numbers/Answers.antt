@@ -1,6 +1,6 @@
 use Rattle.pod_workers.proofs.Names.{◌≡◌, ◌+◌, ◌≤◌, length, subst, arith, file_limit}
 use Rattle.pod_workers.specs.Slots.{AreNumbersOf}
-use Rattle.pod_workers.proofs.{RoundDone.{numbers-of, round-fits, round-there}, book.Book.numbers.Given.Over}
+use Rattle.pod_workers.proofs.{Books.RoundDone.{numbers-of, round-fits, round-there}, book.Book.numbers.Given.Over}
 use Rattle.pod_workers.proofs.book.Book.numbers.Goals.{After-self}
 use Rattle.pod_workers.proofs.book.Book.numbers.Goals as goal
 

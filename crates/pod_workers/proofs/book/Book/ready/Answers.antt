@@ -1,7 +1,7 @@
 use Rattle.pod_workers.proofs.Names.{◌≡◌, ◌+◌, ◌-◌, sym, ◌∙◌, ap, arith}
 use Rattle.std.specs.Option.{option_copied}
 use Rattle.pod_workers.specs.{Index.may_step_by, World.at_number}
-use Rattle.pod_workers.proofs.{Elements.numbered, ReadyByIndex.{place-answered, ready-nowhere, ready-tells}}
+use Rattle.pod_workers.proofs.{Books.ReadyByIndex.{place-answered, ready-nowhere, ready-tells}, Lists.Elements.numbered}
 use Rattle.pod_workers.proofs.book.Book.ready.Goals as goal
 
 pub overflow_sub-n : goal.overflow_sub-n

@@ -1,6 +1,6 @@
-use Rattle.pod_workers.proofs.{Appended.{below-none, below-own, turned-appends}, RoundDone.{below-earlier, below-more}}
-use Rattle.pod_workers.proofs.RoundDone.{extends_refl, extends_trans, none-below, round-is-over, rounds-from}
-use Rattle.pod_workers.proofs.RoundDone.{still-left, turned-in-order}
+use Rattle.pod_workers.proofs.Books.RoundDone.{below-earlier, below-more, extends_refl, extends_trans, none-below}
+use Rattle.pod_workers.proofs.Books.RoundDone.{round-is-over, rounds-from, still-left, turned-in-order}
+use Rattle.pod_workers.proofs.InOrder.Appended.{below-none, below-own, turned-appends}
 use Rattle.pod_workers.proofs.book.Book.round_alone.Goals as goal
 
 pub loop-number-init : goal.loop-number-init

@@ -1,5 +1,5 @@
 use Rattle.pod_workers.specs.{Extends.Extends, Order.IsInFileOrder}
-use Rattle.pod_workers.proofs.{Appended.AppendsBelow, RoundDone.AllBelow}
+use Rattle.pod_workers.proofs.{Books.RoundDone.AllBelow, InOrder.Appended.AppendsBelow}
 use Rattle.pod_workers.proofs.book.Book.round_alone.Given as goal
 
 abbrev pub invariant-loop-number : goal.invariant-loop-number

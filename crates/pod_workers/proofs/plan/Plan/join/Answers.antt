@@ -1,4 +1,4 @@
-use Rattle.pod_workers.proofs.WellFormedPlans.{few_placed}
+use Rattle.pod_workers.proofs.Plans.WellFormedPlans.{few_placed}
 use Rattle.pod_workers.proofs.plan.Plan.join.Goals as goal
 
 pub refusal-requires : goal.refusal-requires

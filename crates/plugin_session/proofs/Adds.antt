@@ -1,0 +1,8 @@
+-- How an ADD goes on and ends.
+pub mod AddCalls
+pub mod AddEnds
+pub mod AddRuns
+pub mod AddSteps
+pub mod EarlyAdds
+pub mod QuietRuns
+pub mod Unpooled

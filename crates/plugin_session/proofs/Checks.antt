@@ -1,0 +1,4 @@
+-- What a CHECK asks, and when it succeeds.
+pub mod Asking
+pub mod Checked
+pub mod Entered
