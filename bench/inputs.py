@@ -17,6 +17,7 @@ def of_scale(part):
     for kind in (scale.mappings, scale.routes, scale.collected):
         files, _ = kind(20000 // part)
         yield f"scale, {kind.__name__}", files
+    yield "scale, opening", {"pods.json": scale.opened(20000 // part), "net.json": scale.NET}
 
 
 def of_readers(part):

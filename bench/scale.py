@@ -81,14 +81,19 @@ def tell(program, kind, small, large, of_one=seconds):
         print(f"{name:10} {of_large * 1e6:8.2f} us an item, x{of_large / of_small:.2f} of N={small}", flush=True)
 
 
+def opened(count):
+    """An opening of so many links, and of three times as many namespaces."""
+    links = [{"name": f"ens{i}", "kind": "device"} for i in range(count)]
+    return {"opening": {**names(3 * count), "links": links}, "rounds": []}
+
+
 def opening_over_json(program, count):
     """The time for an opening over that for its JSON."""
 
     def timed(files):
         return least(RUNS, seconds, program, files)
 
-    links = [{"name": f"ens{i}", "kind": "device"} for i in range(count)]
-    pods = {"opening": {"namespaces": [f"/ns/{i}" for i in range(3 * count)], "links": links}, "rounds": []}
+    pods = opened(count)
     read = timed({"pods.json": pods, "net.json": NET})
     alone = timed({"pods.json": f"[{compact(pods)}]".encode(), "net.json": NET})
     none = timed({"pods.json": NO_PODS, "net.json": NET})
