@@ -18,7 +18,8 @@ work_of_add list c given =
 pub plugins_result : (list : NetList) (c : Command) (given : List Given) → AreGivenFor list given
     → (work_of_add list c given).result ≡ result_of_add list (att_of c) c.netns (addresses given)
 unfolding result_of_add plugins_work add_work
-plugins_result list c given are = ap (all_chained_results list.chained) (first_work-result list (att_of c) c.netns given are)
+plugins_result list c given are =
+    ap (all_chained_results list.chained) (first_work-result list (att_of c) c.netns given are)
 
 pub plugins_calls_of_add : (list : NetList) (c : Command) (given : List Given) → AreGivenFor list given
     → (work_of_add list c given).calls ≡ calls_of_add list c (addresses given)
@@ -28,11 +29,14 @@ plugins_calls_of_add list c given are =
     let mappings = mappings_of list c in
     let first = first_work list.first list.version att c.netns given in
     let put : List Call =
-    CachePut att (record { netns = c.netns; mappings = mappings; result = all_chained_results list.chained first.result }) ∷ [] in
+    CachePut att
+    (record { netns = c.netns; mappings = mappings; result = all_chained_results list.chained first.result })
+    ∷ [] in
     ap (λ l. Begin att c.netns ∷ l)
     (append_assoc first.calls (all_chained_calls list.chained att c.netns mappings first.result) put
     ∙ ap (λ r. first.calls
     ++ (all_chained_calls list.chained att c.netns mappings r
-    ++ CachePut att (record { netns = c.netns; mappings = mappings; result = all_chained_results list.chained r }) ∷ []))
+    ++ CachePut att (record { netns = c.netns; mappings = mappings; result = all_chained_results list.chained r })
+    ∷ []))
     (first_work-result list att c.netns given are))
     ∙ works-calls_of_add list c given are

@@ -27,7 +27,8 @@ given-again (set ∷ sets) (g ∷ gs) are =
 pub first_work-result : (list : NetList) (att : Att) (netns : List ℕ) (given : List Given) → AreGivenFor list given
     → (first_work list.first list.version att netns given).result ≡ first_plugin_result list att netns (addresses given)
 first_work-result list att netns given are =
-    ap (λ g. first_result list.first att netns (ipam_result_of (ipam_of list.first) g list.version)) (sym (given-again (sets_of list) given are))
+    ap (λ g. first_result list.first att netns (ipam_result_of (ipam_of list.first) g list.version))
+    (sym (given-again (sets_of list) given are))
 
 -- ---- calls
 
@@ -38,15 +39,18 @@ regroup a b c d = append_assoc a (b ++ c) d ∙ ap (λ l. a ++ l) (append_assoc 
 pub works-calls_of_add : (list : NetList) (c : Command) (given : List Given) → AreGivenFor list given
     → Begin (att_of c) c.netns
     ∷ ((first_work list.first list.version (att_of c) c.netns given).calls
-    ++ (all_chained_calls list.chained (att_of c) c.netns (mappings_of list c) (first_plugin_result list (att_of c) c.netns (addresses given))
+    ++ (all_chained_calls list.chained (att_of c) c.netns (mappings_of list c)
+    (first_plugin_result list (att_of c) c.netns (addresses given))
     ++ CachePut (att_of c) (cached_of list (att_of c) c.netns (mappings_of list c) (addresses given)) ∷ []))
     ≡ calls_of_add list c (addresses given)
 works-calls_of_add list c given are =
     let before = calls_before list.first (att_of c) c.netns in
     let leases = lease_calls_of (sets_of list) (att_of c) in
     let rest : List Call =
-    all_chained_calls list.chained (att_of c) c.netns (mappings_of list c) (first_plugin_result list (att_of c) c.netns (addresses given))
+    all_chained_calls list.chained (att_of c) c.netns (mappings_of list c)
+    (first_plugin_result list (att_of c) c.netns (addresses given))
     ++ CachePut (att_of c) (cached_of list (att_of c) c.netns (mappings_of list c) (addresses given)) ∷ [] in
     ap (λ l. Begin (att_of c) c.netns ∷ l)
     (regroup before leases (calls_after list.first (att_of c) c.netns given) rest
-    ∙ ap (λ g. before ++ (leases ++ (calls_after list.first (att_of c) c.netns g ++ rest))) (sym (given-again (sets_of list) given are)))
+    ∙ ap (λ g. before ++ (leases ++ (calls_after list.first (att_of c) c.netns g ++ rest)))
+    (sym (given-again (sets_of list) given are)))

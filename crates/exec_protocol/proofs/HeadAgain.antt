@@ -62,7 +62,8 @@ plugin_again p plugin is =
     record { object = read_of_object p.own plugin is; members = λ q own. sym (at_own q p own) } in
     sym (plugin_by_type_at-same p.own (made p) same) ∙ is
 
-pub head_again : (p : Parts) (plugin : Plugin) → is_network_name p.list.name ≡ true → plugin_by_type_at p.own ≡ Ok plugin
+pub head_again : (p : Parts) (plugin : Plugin) → is_network_name p.list.name ≡ true
+    → plugin_by_type_at p.own ≡ Ok plugin
     → head_at (made p) ≡ Ok (record {
       header = record { version = p.list.version; name = p.list.name };
       plugin = plugin;

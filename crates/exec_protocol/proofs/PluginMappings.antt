@@ -48,7 +48,8 @@ later_of-portmap types.Tuning d conf is = let read = mapped later.Tuning _ (late
 plugin_at-portmap : (first : Bool) (d : Data) (conf : PortmapConf)
     → plugin_at first d ≡ Ok (plugins.Chained (later.Portmap conf)) → portmap_at d ≡ Ok conf
 unfolding chained_at
-plugin_at-portmap true d conf is = let read = mapped plugins.First (first_at d) (plugins.Chained (later.Portmap conf)) is in cc
+plugin_at-portmap true d conf is =
+    let read = mapped plugins.First (first_at d) (plugins.Chained (later.Portmap conf)) is in cc
 plugin_at-portmap false d conf is =
     let read = mapped plugins.Chained (chained_at d) (plugins.Chained (later.Portmap conf)) is in
     let same : read.value ≡ later.Portmap conf = cc in
@@ -100,7 +101,8 @@ apart-none conf cs once = others-take_none cs once.0
 others-apart : (d : Chained) (cs : List Chained) (k : ℕ) (conf : PortmapConf) → HaveTypesOnce (d ∷ cs)
     → slice_get cs k ≡ Some (later.Portmap conf) → takes_mappings d ≡ false
 unfolding IsDistinct
-others-apart d cs k conf once is = other-takes_none d (at-place cs k (later.Portmap conf) (λ t. type_eq (type_of_chained d) t ≡ false) once.0 is)
+others-apart d cs k conf once is =
+    other-takes_none d (at-place cs k (later.Portmap conf) (λ t. type_eq (type_of_chained d) t ≡ false) once.0 is)
 
 rest-once : (d : Chained) (cs : List Chained) → HaveTypesOnce (d ∷ cs) → HaveTypesOnce cs
 unfolding IsDistinct
@@ -112,9 +114,11 @@ portmap-takes : (cs : List Chained) (k : ℕ) (conf : PortmapConf) → HaveTypes
 portmap-takes [] k conf once is = cc
 portmap-takes (d ∷ cs) zero conf once is =
     let same : d ≡ later.Portmap conf = cc in
-    ap (λ x. list_any takes_mappings (x ∷ cs)) same ∙ first-takes conf cs (apart-none conf cs (subst (λ x. HaveTypesOnce (x ∷ cs)) same once))
+    ap (λ x. list_any takes_mappings (x ∷ cs)) same
+    ∙ first-takes conf cs (apart-none conf cs (subst (λ x. HaveTypesOnce (x ∷ cs)) same once))
 portmap-takes (d ∷ cs) (suc k) conf once is =
-    ap (λ b. b || list_any takes_mappings cs) (others-apart d cs k conf once is) ∙ portmap-takes cs k conf (rest-once d cs once) is
+    ap (λ b. b || list_any takes_mappings cs) (others-apart d cs k conf once is)
+    ∙ portmap-takes cs k conf (rest-once d cs once) is
 
 -- ---- the calls
 
@@ -136,11 +140,15 @@ portmap-mappings list c k conf d true once is takes asks = asked-all d (mappings
 portmap-mappings list c k conf d false once is takes asks =
     rw (none-reach list c (portmap-takes list.chained k conf once is ∙ takes)) (asked-none (asks_for_mappings d))
 
-pub asked-calls : (list : NetList) (c : Command) (k : ℕ) (plugin : Chained) (d : Data) (att : Att) (netns : List ℕ) (ips : List IpEntry)
-    → HaveTypesOnce list.chained → slice_get list.chained k ≡ Some plugin → plugin_by_type_at d ≡ Ok (plugins.Chained plugin)
-    → chained_calls plugin att netns (mappings_for d (mappings_of list c)) ips ≡ chained_calls plugin att netns (mappings_of list c) ips
+pub asked-calls : (list : NetList) (c : Command) (k : ℕ) (plugin : Chained) (d : Data) (att : Att) (netns : List ℕ)
+    (ips : List IpEntry)
+    → HaveTypesOnce list.chained → slice_get list.chained k ≡ Some plugin
+    → plugin_by_type_at d ≡ Ok (plugins.Chained plugin)
+    → chained_calls plugin att netns (mappings_for d (mappings_of list c)) ips
+    ≡ chained_calls plugin att netns (mappings_of list c) ips
 unfolding chained_plugin_of
 asked-calls list c k (later.Portmap conf) d att netns ips once is read =
-    ap (λ m. chained_calls (later.Portmap conf) att netns m ips) (portmap-mappings list c k conf d conf.mappings once is refl (portmap-asks d conf read))
+    ap (λ m. chained_calls (later.Portmap conf) att netns m ips)
+    (portmap-mappings list c k conf d conf.mappings once is refl (portmap-asks d conf read))
 asked-calls list c k (later.Firewall conf) d att netns ips once is read = refl
 asked-calls list c k (later.Tuning conf) d att netns ips once is read = refl

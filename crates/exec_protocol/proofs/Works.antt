@@ -23,37 +23,47 @@ use Rattle.exec_protocol.specs.{Works.{EachWorkIsOfTheAdd, read_of_add}, declare
 
 abbrev chained_works : List Chained → Att → List ℕ → List PortMapping → AddResult → List Work
 chained_works [] att netns mappings prev = []
-chained_works (c ∷ cs) att netns mappings prev = chained_work c att netns mappings prev ∷ chained_works cs att netns mappings (chained_result c prev)
+chained_works (c ∷ cs) att netns mappings prev =
+    chained_work c att netns mappings prev ∷ chained_works cs att netns mappings (chained_result c prev)
 
 length-works : (cs : List Chained) (att : Att) (netns : List ℕ) (mappings : List PortMapping) (prev : AddResult)
     → length (chained_works cs att netns mappings prev) ≡ length cs
 length-works [] att netns mappings prev = refl
 length-works (c ∷ cs) att netns mappings prev = ap suc (length-works cs att netns mappings (chained_result c prev))
 
-works-at : (cs : List Chained) (att : Att) (netns : List ℕ) (mappings : List PortMapping) (prev : AddResult) (k : ℕ) (c : Chained)
+works-at : (cs : List Chained) (att : Att) (netns : List ℕ) (mappings : List PortMapping) (prev : AddResult)
+    (k : ℕ) (c : Chained)
     → slice_get cs k ≡ Some c
-    → slice_get (chained_works cs att netns mappings prev) k ≡ Some (chained_work c att netns mappings (result_after cs prev k))
+    → slice_get (chained_works cs att netns mappings prev) k
+    ≡ Some (chained_work c att netns mappings (result_after cs prev k))
 works-at [] att netns mappings prev k c is = cc
-works-at (d ∷ cs) att netns mappings prev zero c is = let same : d ≡ c = cc in ap (λ x. Some (chained_work x att netns mappings prev)) same
+works-at (d ∷ cs) att netns mappings prev zero c is =
+    let same : d ≡ c = cc in ap (λ x. Some (chained_work x att netns mappings prev)) same
 works-at (d ∷ cs) att netns mappings prev (suc k) c is = works-at cs att netns mappings (chained_result d prev) k c is
 
-works-results : (cs : List Chained) (att : Att) (netns : List ℕ) (mappings : List PortMapping) (prev : AddResult) (k : ℕ) (w : Work)
+works-results : (cs : List Chained) (att : Att) (netns : List ℕ) (mappings : List PortMapping) (prev : AddResult)
+    (k : ℕ) (w : Work)
     → slice_get (chained_works cs att netns mappings prev) k ≡ Some w → result_after cs prev (suc k) ≡ w.result
 works-results [] att netns mappings prev k w is = cc
-works-results (d ∷ cs) att netns mappings prev zero w is = let same : chained_work d att netns mappings prev ≡ w = cc in ap (λ (x : Work). x.result) same
-works-results (d ∷ cs) att netns mappings prev (suc k) w is = works-results cs att netns mappings (chained_result d prev) k w is
+works-results (d ∷ cs) att netns mappings prev zero w is =
+    let same : chained_work d att netns mappings prev ≡ w = cc in ap (λ (x : Work). x.result) same
+works-results (d ∷ cs) att netns mappings prev (suc k) w is =
+    works-results cs att netns mappings (chained_result d prev) k w is
 
 works-calls : (cs : List Chained) (att : Att) (netns : List ℕ) (mappings : List PortMapping) (prev : AddResult)
     → flat_map (λ w. w.calls) (chained_works cs att netns mappings prev) ≡ all_chained_calls cs att netns mappings prev
 works-calls [] att netns mappings prev = refl
-works-calls (c ∷ cs) att netns mappings prev = ap (λ l. chained_calls c att netns mappings prev.ips ++ l) (works-calls cs att netns mappings (chained_result c prev))
+works-calls (c ∷ cs) att netns mappings prev =
+    ap (λ l. chained_calls c att netns mappings prev.ips ++ l)
+    (works-calls cs att netns mappings (chained_result c prev))
 
 -- ---- all works
 
 abbrev works_of : RawView → Command → List Given → List Work
 works_of raw c given =
     first_work raw.list.first raw.list.version (att_of c) c.netns given
-    ∷ chained_works raw.list.chained (att_of c) c.netns (mappings_of raw.list c) (first_plugin_result raw.list (att_of c) c.netns (addresses given))
+    ∷ chained_works raw.list.chained (att_of c) c.netns (mappings_of raw.list c)
+    (first_plugin_result raw.list (att_of c) c.netns (addresses given))
 
 -- the plugin in a later place
 record Placed (cs : List Chained) (k : ℕ) (plugin : Plugin) : Type 0 where
@@ -72,33 +82,48 @@ placed (c ∷ cs) (suc k) plugin is =
 each-work : (raw : RawView) (c : Command) (given : List Given) (k : ℕ) (plugin : Plugin) → IsRaw raw
     → IsAddFor raw.list c
     → slice_get (plugins_in raw.list.first raw.list.chained) k ≡ Some plugin
-    → work_of (read_of_add raw c (first_plugin_result raw.list (att_of c) c.netns (addresses given)) k plugin) given ≡ slice_get (works_of raw c given) k
+    → work_of (read_of_add raw c (first_plugin_result raw.list (att_of c) c.netns (addresses given)) k plugin) given
+    ≡ slice_get (works_of raw c given) k
 each-work raw c given zero plugin is add at =
     let first = first_plugin_result raw.list (att_of c) c.netns (addresses given) in
     let same : plugins.First raw.list.first ≡ plugin = cc in
     subst (λ (p : Plugin). work_of (read_of_add raw c first zero p) given ≡ slice_get (works_of raw c given) zero) same
-    (ap (λ (n : List ℕ). Some (first_work raw.list.first raw.list.version (record { network = n; container = c.container; ifname = c.ifname }) c.netns given)) (sym add.network))
+    (ap (λ (n : List ℕ).
+    Some (first_work raw.list.first raw.list.version
+    (record { network = n; container = c.container; ifname = c.ifname }) c.netns given))
+    (sym add.network))
 each-work raw c given (suc k) plugin is add at =
     let first = first_plugin_result raw.list (att_of c) c.netns (addresses given) in
     let mappings = mappings_of raw.list c in
     let prev = result_after raw.list.chained first k in
     let p = placed raw.list.chained k plugin at in
-    let here : slice_get (plugins_in raw.list.first raw.list.chained) (suc k) ≡ Some (plugins.Chained p.chained) = at ∙ ap Some (sym p.is) in
-    let read = each-at plugin_by_type_at raw.objects (plugins_in raw.list.first raw.list.chained) (suc k) (plugins.Chained p.chained) is.plugins here in
-    let calls = asked-calls raw.list c k p.chained (object_at raw (suc k)) (att_of c) c.netns prev.ips is.list.types_once p.here read in
-    subst (λ (q : Plugin). work_of (read_of_add raw c first (suc k) q) given ≡ slice_get (works_of raw c given) (suc k)) p.is
-    (ap (λ (n : List ℕ). Some (chained_work p.chained (record { network = n; container = c.container; ifname = c.ifname }) c.netns (mappings_for (object_at raw (suc k)) mappings) prev)) (sym add.network)
+    let here : slice_get (plugins_in raw.list.first raw.list.chained) (suc k) ≡ Some (plugins.Chained p.chained) =
+    at ∙ ap Some (sym p.is) in
+    let read =
+    each-at plugin_by_type_at raw.objects (plugins_in raw.list.first raw.list.chained) (suc k)
+    (plugins.Chained p.chained) is.plugins here in
+    let calls =
+    asked-calls raw.list c k p.chained (object_at raw (suc k)) (att_of c) c.netns prev.ips is.list.types_once
+    p.here read in
+    subst (λ (q : Plugin). work_of (read_of_add raw c first (suc k) q) given ≡ slice_get (works_of raw c given) (suc k))
+    p.is
+    (ap (λ (n : List ℕ).
+    Some (chained_work p.chained (record { network = n; container = c.container; ifname = c.ifname })
+    c.netns (mappings_for (object_at raw (suc k)) mappings) prev))
+    (sym add.network)
     ∙ ap (λ l. Some (record { calls = l; result = chained_result p.chained prev })) calls
     ∙ sym (works-at raw.list.chained (att_of c) c.netns mappings first k p.chained p.here))
 
 each-result : (raw : RawView) (c : Command) (given : List Given) (k : ℕ) (work : Work) → AreGivenFor raw.list given
     → slice_get (works_of raw c given) k ≡ Some work
-    → result_before raw.list.chained (first_plugin_result raw.list (att_of c) c.netns (addresses given)) (suc k) ≡ Some work.result
+    → result_before raw.list.chained (first_plugin_result raw.list (att_of c) c.netns (addresses given)) (suc k)
+    ≡ Some work.result
 each-result raw c given zero work are at =
     let same : first_work raw.list.first raw.list.version (att_of c) c.netns given ≡ work = cc in
     ap Some (sym (first_work-result raw.list (att_of c) c.netns given are) ∙ ap (λ (w : Work). w.result) same)
 each-result raw c given (suc k) work are at =
-    ap Some (works-results raw.list.chained (att_of c) c.netns (mappings_of raw.list c) (first_plugin_result raw.list (att_of c) c.netns (addresses given)) k work at)
+    ap Some (works-results raw.list.chained (att_of c) c.netns (mappings_of raw.list c)
+    (first_plugin_result raw.list (att_of c) c.netns (addresses given)) k work at)
 
 all-calls : (raw : RawView) (c : Command) (given : List Given) → AreGivenFor raw.list given
     → Begin (att_of c) c.netns
@@ -119,7 +144,9 @@ pub each_work_is_of_the_add : EachWorkIsOfTheAdd
 each_work_is_of_the_add raw c given is add are = (
   works_of raw c given,
   record {
-    all = ap suc (length-works raw.list.chained (att_of c) c.netns (mappings_of raw.list c) (first_plugin_result raw.list (att_of c) c.netns (addresses given)))
+    all =
+        ap suc (length-works raw.list.chained (att_of c) c.netns (mappings_of raw.list c)
+        (first_plugin_result raw.list (att_of c) c.netns (addresses given)))
         ∙ sym (length-objects raw is);
     each = λ k plugin at. each-work raw c given k plugin is add at;
     results = λ k work at. each-result raw c given k work are at;

@@ -51,13 +51,18 @@ carry : (gc : Gc) (es : List Made) (e : Made) (js js' : List Job) (ss ss' : List
     → ((asks kind ss || has_job kind t js) ≡ true → ((asks kind ss' || has_job kind t js') || blames kind t e) ≡ true)
     → is_covered gc es js ss kind t ≡ true → is_covered gc (es ++ e ∷ []) js' ss' kind t ≡ true
 carry gc es e js js' ss ss' kind t w h =
-    or_step (stays gc.network gc.valid t) (is_blamed es kind t) (is_blamed (es ++ e ∷ []) kind t) (asks kind ss || has_job kind t js) (asks kind ss' || has_job kind t js') (blames kind t e) (list_any-snoc (blames kind t) es e) w h
+    or_step (stays gc.network gc.valid t) (is_blamed es kind t) (is_blamed (es ++ e ∷ []) kind t)
+    (asks kind ss || has_job kind t js) (asks kind ss' || has_job kind t js') (blames kind t e)
+    (list_any-snoc (blames kind t) es e) w h
 
-carry_all : (gc : Gc) (es : List Made) (e : Made) (js js' : List Job) (ss ss' : List Sweep) (kind : Kind) (ts : List Tag)
-    → ((t : Tag) → (asks kind ss || has_job kind t js) ≡ true → ((asks kind ss' || has_job kind t js') || blames kind t e) ≡ true)
+carry_all : (gc : Gc) (es : List Made) (e : Made) (js js' : List Job) (ss ss' : List Sweep)
+    (kind : Kind) (ts : List Tag)
+    → ((t : Tag) → (asks kind ss || has_job kind t js) ≡ true
+    → ((asks kind ss' || has_job kind t js') || blames kind t e) ≡ true)
     → list_all (is_covered gc es js ss kind) ts ≡ true → list_all (is_covered gc (es ++ e ∷ []) js' ss' kind) ts ≡ true
 carry_all gc es e js js' ss ss' kind ts w h =
-    list_all-weaker (is_covered gc es js ss kind) (is_covered gc (es ++ e ∷ []) js' ss' kind) (λ t. carry gc es e js js' ss ss' kind t (w t)) ts h
+    list_all-weaker (is_covered gc es js ss kind) (is_covered gc (es ++ e ∷ []) js' ss' kind)
+    (λ t. carry gc es e js js' ss ss' kind t (w t)) ts h
 
 -- ---- kinds
 
@@ -106,7 +111,9 @@ pub record WorkKept (gc : Gc) (h : Host) (es : List Made) (js : List Job) (ss : 
 
 -- after a call with this reply
 abbrev pub Next : Gc → Host → List Made → List Job → List Sweep → Host → Call → Reply → Type 0
-Next gc h es js ss k call r = WorkKept gc h (es ++ record { call = call; reply = r } ∷ []) (work_after gc js ss r).jobs (work_after gc js ss r).sweeps (host_after k call r)
+Next gc h es js ss k call r =
+    WorkKept gc h (es ++ record { call = call; reply = r } ∷ []) (work_after gc js ss r).jobs
+    (work_after gc js ss r).sweeps (host_after k call r)
 
 -- ---- asking for owners
 
@@ -114,7 +121,9 @@ ask_fault : (gc : Gc) (h : Host) (es : List Made) (s : Sweep) (ss : List Sweep) 
     → WorkKept gc h es [] (s ∷ ss) k → Next gc h es [] (s ∷ ss) k (OwnersOf gc.network s.kind) Fault
 ask_fault gc h es s ss k v = record {
   stays = v.stays;
-  covered = λ kind. carry_all gc es (record { call = OwnersOf gc.network s.kind; reply = Fault }) [] [] (s ∷ ss) ss kind (tags_of k kind) (λ t w. grind (arith, w)) (v.covered kind);
+  covered = λ kind.
+      carry_all gc es (record { call = OwnersOf gc.network s.kind; reply = Fault }) [] [] (s ∷ ss) ss kind
+      (tags_of k kind) (λ t w. grind (arith, w)) (v.covered kind);
   stale = refl;
   well = let w = v.well in grind (arith, w);
 }
@@ -127,33 +136,50 @@ sole_all kind t s (x ∷ xs) h = grind (arith, h, sole_all kind t s xs h)
 -- the owners of a kind that is deleted alone
 cover_owners : (gc : Gc) (es : List Made) (e : Made) (s : Sweep) (ss : List Sweep) (k : Host)
     → is_sole s.kind s.step s.more ≡ true
-    → list_all (is_covered gc (es ++ e ∷ []) (map (job_of s) (stale_owners gc.network gc.valid (tags_of k s.kind))) ss s.kind) (tags_of k s.kind) ≡ true
+    → list_all
+    (is_covered gc (es ++ e ∷ []) (map (job_of s) (stale_owners gc.network gc.valid (tags_of k s.kind))) ss s.kind)
+    (tags_of k s.kind)
+    ≡ true
 cover_owners gc es e s ss k sole =
     let owners = stale_owners gc.network gc.valid (tags_of k s.kind) in
-    list_all-weaker (λ t. not (goes gc.network gc.valid t) || has_att owners t) (is_covered gc (es ++ e ∷ []) (map (job_of s) owners) ss s.kind)
-    (λ t w. let j : has_job s.kind t (map (job_of s) owners) ≡ has_att owners t = list_any-map (does s.kind t) (job_of s) owners ∙ sole_all s.kind t s owners sole in grind (arith, w, j))
+    list_all-weaker (λ t. not (goes gc.network gc.valid t) || has_att owners t)
+    (is_covered gc (es ++ e ∷ []) (map (job_of s) owners) ss s.kind)
+    (λ t w.
+    let j : has_job s.kind t (map (job_of s) owners) ≡ has_att owners t =
+    list_any-map (does s.kind t) (job_of s) owners ∙ sole_all s.kind t s owners sole in
+    grind (arith, w, j))
     (tags_of k s.kind) (owners_cover gc.network gc.valid (tags_of k s.kind))
 
 ask_covered : (gc : Gc) (h : Host) (es : List Made) (e : Made) (s : Sweep) (ss : List Sweep) (k : Host)
     → WorkKept gc h es [] (s ∷ ss) k → (kind : Kind)
-    → list_all (is_covered gc (es ++ e ∷ []) (map (job_of s) (stale_owners gc.network gc.valid (tags_of k s.kind))) ss kind) (tags_of k kind) ≡ true
+    → list_all
+    (is_covered gc (es ++ e ∷ []) (map (job_of s) (stale_owners gc.network gc.valid (tags_of k s.kind))) ss kind)
+    (tags_of k kind)
+    ≡ true
 ask_covered gc h es e s ss k v kind =
     let js = map (job_of s) (stale_owners gc.network gc.valid (tags_of k s.kind)) in
     by_bool (kind_eq s.kind kind)
     (λ same. let is : s.kind ≡ kind = kind_same s.kind kind same in
     let P : Kind → Type 0 = λ x. list_all (is_covered gc (es ++ e ∷ []) js ss x) (tags_of k x) ≡ true in
     subst P is (by_bool (asks s.kind ss)
-    (λ later. carry_all gc es e [] js (s ∷ ss) ss s.kind (tags_of k s.kind) (λ t w. grind (arith, later)) (v.covered s.kind))
+    (λ later.
+    carry_all gc es e [] js (s ∷ ss) ss s.kind (tags_of k s.kind) (λ t w. grind (arith, later)) (v.covered s.kind))
     (λ never. let w = v.well in cover_owners gc es e s ss k (grind (arith, w, never)))))
-    (λ other. carry_all gc es e [] js (s ∷ ss) ss kind (tags_of k kind) (λ t w. grind (arith, w, other)) (v.covered kind))
+    (λ other.
+    carry_all gc es e [] js (s ∷ ss) ss kind (tags_of k kind) (λ t w. grind (arith, w, other)) (v.covered kind))
 
 ask_owners : (gc : Gc) (h : Host) (es : List Made) (s : Sweep) (ss : List Sweep) (k : Host)
     → WorkKept gc h es [] (s ∷ ss) k
     → Next gc h es [] (s ∷ ss) k (OwnersOf gc.network s.kind) (apply k (OwnersOf gc.network s.kind)).1
 ask_owners gc h es s ss k v = record {
   stays = v.stays;
-  covered = ask_covered gc h es (record { call = OwnersOf gc.network s.kind; reply = (apply k (OwnersOf gc.network s.kind)).1 }) s ss k v;
-  stale = list_all-map (λ (j : Job). is_stale gc.network gc.valid j.att) (job_of s) (stale_owners gc.network gc.valid (tags_of k s.kind)) ∙ owners_stale gc.network gc.valid (tags_of k s.kind);
+  covered =
+      ask_covered gc h es
+      (record { call = OwnersOf gc.network s.kind; reply = (apply k (OwnersOf gc.network s.kind)).1 }) s ss k v;
+  stale =
+      list_all-map (λ (j : Job). is_stale gc.network gc.valid j.att) (job_of s)
+      (stale_owners gc.network gc.valid (tags_of k s.kind))
+      ∙ owners_stale gc.network gc.valid (tags_of k s.kind);
   well = let w = v.well in grind (arith, w);
 }
 
@@ -174,22 +200,29 @@ done_stale network valid att (s ∷ more) js h g = grind (arith, h, g)
 abbrev job : Att → Step → List Step → Job
 job att step more = record { att = att; step = step; more = more }
 
-look_fault : (gc : Gc) (h : Host) (es : List Made) (att : Att) (more : List Step) (js : List Job) (ss : List Sweep) (k : Host)
+look_fault : (gc : Gc) (h : Host) (es : List Made) (att : Att) (more : List Step) (js : List Job)
+    (ss : List Sweep) (k : Host)
     → WorkKept gc h es (job att AskCached more ∷ js) ss k
     → Next gc h es (job att AskCached more ∷ js) ss k (CacheGet att) Fault
 look_fault gc h es att more js ss k v = record {
   stays = v.stays;
-  covered = λ kind. carry_all gc es (record { call = CacheGet att; reply = Fault }) (job att AskCached more ∷ js) js ss ss kind (tags_of k kind) (λ t w. grind (arith, w)) (v.covered kind);
+  covered = λ kind.
+      carry_all gc es (record { call = CacheGet att; reply = Fault }) (job att AskCached more ∷ js) js ss ss kind
+      (tags_of k kind) (λ t w. grind (arith, w)) (v.covered kind);
   stale = let w = v.stale in grind (arith, w);
   well = v.well;
 }
 
-look_entry : (gc : Gc) (h : Host) (es : List Made) (att : Att) (more : List Step) (js : List Job) (ss : List Sweep) (k : Host)
+look_entry : (gc : Gc) (h : Host) (es : List Made) (att : Att) (more : List Step) (js : List Job)
+    (ss : List Sweep) (k : Host)
     → WorkKept gc h es (job att AskCached more ∷ js) ss k
     → Next gc h es (job att AskCached more ∷ js) ss k (CacheGet att) (apply k (CacheGet att)).1
 look_entry gc h es att more js ss k v = record {
   stays = v.stays;
-  covered = λ kind. carry_all gc es (record { call = CacheGet att; reply = (apply k (CacheGet att)).1 }) (job att AskCached more ∷ js) (after_step att more js) ss ss kind (tags_of k kind) (λ t w. grind (arith, w, done_more kind t att more js)) (v.covered kind);
+  covered = λ kind.
+      carry_all gc es (record { call = CacheGet att; reply = (apply k (CacheGet att)).1 }) (job att AskCached more ∷ js)
+      (after_step att more js) ss ss kind (tags_of k kind) (λ t w. grind (arith, w, done_more kind t att more js))
+      (v.covered kind);
   stale = let w = v.stale in done_stale gc.network gc.valid att more js (grind (arith, w)) (grind (arith, w));
   well = v.well;
 }
@@ -198,18 +231,22 @@ sole_drop : (kind : Kind) (d : Kind) (more : List Step) → is_sole kind (Delete
 sole_drop kind d [] h = h
 sole_drop kind d (s ∷ more) h = cc
 
-drop_fault : (gc : Gc) (h : Host) (es : List Made) (att : Att) (d : Kind) (more : List Step) (js : List Job) (ss : List Sweep) (k : Host)
+drop_fault : (gc : Gc) (h : Host) (es : List Made) (att : Att) (d : Kind) (more : List Step) (js : List Job)
+    (ss : List Sweep) (k : Host)
     → WorkKept gc h es (job att (Delete d) more ∷ js) ss k
     → Next gc h es (job att (Delete d) more ∷ js) ss k (deletion att d) Fault
 drop_fault gc h es att d more js ss k v = record {
   stays = v.stays;
-  covered = λ kind. carry_all gc es (record { call = deletion att d; reply = Fault }) (job att (Delete d) more ∷ js) js ss ss kind (tags_of k kind)
+  covered = λ kind.
+      carry_all gc es (record { call = deletion att d; reply = Fault }) (job att (Delete d) more ∷ js) js ss ss
+      kind (tags_of k kind)
       (λ t w. grind (arith, w, sole_drop kind d more, about_deletion kind t att d)) (v.covered kind);
   stale = let w = v.stale in grind (arith, w);
   well = v.well;
 }
 
-drop_gone : (gc : Gc) (h : Host) (es : List Made) (att : Att) (d : Kind) (more : List Step) (js : List Job) (ss : List Sweep) (k : Host)
+drop_gone : (gc : Gc) (h : Host) (es : List Made) (att : Att) (d : Kind) (more : List Step) (js : List Job)
+    (ss : List Sweep) (k : Host)
     → WorkKept gc h es (job att (Delete d) more ∷ js) ss k
     → Next gc h es (job att (Delete d) more ∷ js) ss k (deletion att d) (Gone true)
 drop_gone gc h es att d more js ss k v =
@@ -218,26 +255,39 @@ drop_gone gc h es att d more js ss k v =
     let del = deletes att d k v.stays.sound in
     record {
       stays = stays_deleted gc att d h k (grind (arith, w)) v.stays;
-      covered = λ kind. carry_all gc es (record { call = deletion att d; reply = Gone true }) (job att (Delete d) more ∷ js) (job att (Delete d) more ∷ js) ss ss kind (tags_of k' kind) (λ t w. grind (arith, w))
-          (list_all-drops (is_covered gc es (job att (Delete d) more ∷ js) ss kind) (λ t. true) (tags_of k kind) (tags_of k' kind) (tags_within k' k kind del.within) (v.covered kind));
+      covered = λ kind.
+          carry_all gc es (record { call = deletion att d; reply = Gone true }) (job att (Delete d) more ∷ js)
+          (job att (Delete d) more ∷ js) ss ss kind (tags_of k' kind) (λ t w. grind (arith, w))
+          (list_all-drops (is_covered gc es (job att (Delete d) more ∷ js) ss kind) (λ t. true) (tags_of k kind)
+          (tags_of k' kind) (tags_within k' k kind del.within) (v.covered kind));
       stale = v.stale;
       well = v.well;
     }
 
-empty_covered : (gc : Gc) (es : List Made) (e : Made) (att : Att) (d : Kind) (more : List Step) (js : List Job) (ss : List Sweep) (k : Host)
-    → list_any (is_own att) (tags_of k d) ≡ false → (kind : Kind) → list_all (is_covered gc es (job att (Delete d) more ∷ js) ss kind) (tags_of k kind) ≡ true
+empty_covered : (gc : Gc) (es : List Made) (e : Made) (att : Att) (d : Kind) (more : List Step) (js : List Job)
+    (ss : List Sweep) (k : Host)
+    → list_any (is_own att) (tags_of k d) ≡ false → (kind : Kind)
+    → list_all (is_covered gc es (job att (Delete d) more ∷ js) ss kind) (tags_of k kind) ≡ true
     → list_all (is_covered gc (es ++ e ∷ []) (after_step att more js) ss kind) (tags_of k kind) ≡ true
 empty_covered gc es e att d more js ss k none kind c =
     by_bool (kind_eq d kind)
     (λ same. let is : d ≡ kind = kind_same d kind same in
-    list_all-both (λ t. not (is_own att t)) (is_covered gc es (job att (Delete d) more ∷ js) ss kind) (is_covered gc (es ++ e ∷ []) (after_step att more js) ss kind)
-    (λ t free cov. carry gc es e (job att (Delete d) more ∷ js) (after_step att more js) ss ss kind t (λ w. grind (arith, w, free, done_more kind t att more js)) cov)
-    (tags_of k kind) (list_all-none (is_own att) (tags_of k kind) (subst (λ x. list_any (is_own att) (tags_of k x) ≡ false) is none)) c)
-    (λ other. carry_all gc es e (job att (Delete d) more ∷ js) (after_step att more js) ss ss kind (tags_of k kind) (λ t w. grind (arith, w, other, sole_drop kind d more, done_more kind t att more js)) c)
+    list_all-both (λ t. not (is_own att t)) (is_covered gc es (job att (Delete d) more ∷ js) ss kind)
+    (is_covered gc (es ++ e ∷ []) (after_step att more js) ss kind)
+    (λ t free cov.
+    carry gc es e (job att (Delete d) more ∷ js) (after_step att more js) ss ss kind t
+    (λ w. grind (arith, w, free, done_more kind t att more js)) cov)
+    (tags_of k kind)
+    (list_all-none (is_own att) (tags_of k kind) (subst (λ x. list_any (is_own att) (tags_of k x) ≡ false) is none))
+    c)
+    (λ other. carry_all gc es e (job att (Delete d) more ∷ js) (after_step att more js) ss ss kind (tags_of k kind)
+    (λ t w. grind (arith, w, other, sole_drop kind d more, done_more kind t att more js)) c)
 
-drop_empty : (gc : Gc) (h : Host) (es : List Made) (att : Att) (d : Kind) (more : List Step) (js : List Job) (ss : List Sweep) (k : Host)
+drop_empty : (gc : Gc) (h : Host) (es : List Made) (att : Att) (d : Kind) (more : List Step) (js : List Job)
+    (ss : List Sweep) (k : Host)
     → WorkKept gc h es (job att (Delete d) more ∷ js) ss k
-    → list_any (is_own att) (tags_of k d) ≡ false → Next gc h es (job att (Delete d) more ∷ js) ss k (deletion att d) (Gone false)
+    → list_any (is_own att) (tags_of k d) ≡ false
+    → Next gc h es (job att (Delete d) more ∷ js) ss k (deletion att d) (Gone false)
 drop_empty gc h es att d more js ss k v none =
     let w = v.stale in
     let e : Made = record { call = deletion att d; reply = Gone false } in
@@ -250,13 +300,16 @@ drop_empty gc h es att d more js ss k v none =
       well = v.well;
     })
 
-drop_by : (gc : Gc) (h : Host) (es : List Made) (att : Att) (d : Kind) (more : List Step) (js : List Job) (ss : List Sweep) (k : Host)
+drop_by : (gc : Gc) (h : Host) (es : List Made) (att : Att) (d : Kind) (more : List Step) (js : List Job)
+    (ss : List Sweep) (k : Host)
     → WorkKept gc h es (job att (Delete d) more ∷ js) ss k
-    → (b : Bool) → list_any (is_own att) (tags_of k d) ≡ b → Next gc h es (job att (Delete d) more ∷ js) ss k (deletion att d) (Gone b)
+    → (b : Bool) → list_any (is_own att) (tags_of k d) ≡ b
+    → Next gc h es (job att (Delete d) more ∷ js) ss k (deletion att d) (Gone b)
 drop_by gc h es att d more js ss k v true is = drop_gone gc h es att d more js ss k v
 drop_by gc h es att d more js ss k v false is = drop_empty gc h es att d more js ss k v is
 
-step_by : (gc : Gc) (h : Host) (es : List Made) (att : Att) (step : Step) (more : List Step) (js : List Job) (ss : List Sweep) (k : Host) (faulty : Bool)
+step_by : (gc : Gc) (h : Host) (es : List Made) (att : Att) (step : Step) (more : List Step) (js : List Job)
+    (ss : List Sweep) (k : Host) (faulty : Bool)
     → WorkKept gc h es (job att step more ∷ js) ss k
     → Next gc h es (job att step more ∷ js) ss k (step_call att step) (reply_to k (step_call att step) faulty)
 step_by gc h es att AskCached more js ss k true v = look_fault gc h es att more js ss k v
@@ -264,11 +317,13 @@ step_by gc h es att AskCached more js ss k false v = look_entry gc h es att more
 step_by gc h es att (Delete d) more js ss k true v = drop_fault gc h es att d more js ss k v
 step_by gc h es att (Delete d) more js ss k false v =
     let P : Reply → Type 0 = λ r. Next gc h es (job att (Delete d) more ∷ js) ss k (deletion att d) r in
-    subst P (sym (deletes att d k v.stays.sound).reply) (drop_by gc h es att d more js ss k v (list_any (is_own att) (tags_of k d)) refl)
+    subst P (sym (deletes att d k v.stays.sound).reply)
+    (drop_by gc h es att d more js ss k v (list_any (is_own att) (tags_of k d)) refl)
 
 -- ---- any call
 
-pub work_step : (gc : Gc) (h : Host) (es : List Made) (js : List Job) (ss : List Sweep) (k : Host) (call : Call) (faulty : Bool)
+pub work_step : (gc : Gc) (h : Host) (es : List Made) (js : List Job) (ss : List Sweep) (k : Host)
+    (call : Call) (faulty : Bool)
     → call_of_work gc.network js ss ≡ Some call → WorkKept gc h es js ss k
     → Next gc h es js ss k call (reply_to k call faulty)
 work_step gc h es [] [] k call faulty is v = absurd (none-some call is)
@@ -291,7 +346,9 @@ asked gc t Cached = grind arith
 
 covered_start : (gc : Gc) (h : Host) (kind : Kind)
     → list_all (is_covered gc [] [] (all_sweeps gc.kinds) kind) (tags_of h kind) ≡ true
-covered_start gc h kind = all_true (is_covered gc [] [] (all_sweeps gc.kinds) kind) (λ t. asked gc t kind) (tags_of h kind)
+covered_start gc h kind =
+    all_true (is_covered gc [] [] (all_sweeps gc.kinds) kind) (λ t. asked gc t kind) (tags_of h kind)
 
 pub work_start : (gc : Gc) (h : Host) → IsSound h → WorkKept gc h [] [] (all_sweeps gc.kinds) h
-work_start gc h sound = record { stays = stays_start gc h sound; covered = covered_start gc h; stale = refl; well = refl }
+work_start gc h sound =
+    record { stays = stays_start gc h sound; covered = covered_start gc h; stale = refl; well = refl }

@@ -70,23 +70,32 @@ leased_or_not _ = inr (λ a is. cc)
 set-inner : (att : Att) (key : LinkKey) (mac : Option Mac) (mtu tx_qlen : Option ℕ) (promisc allmulti : Bool) (l : Link)
     → not (is_host_ns (set_link att key mac mtu tx_qlen promisc allmulti l).ns) ≡ not (is_host_ns l.ns)
 set-inner att key mac mtu tx_qlen promisc allmulti l =
-    by_test (λ (m : Link). not (is_host_ns m.ns) ≡ not (is_host_ns l.ns)) (is_own_at att key l) (with_values mac mtu tx_qlen promisc allmulti l) l (λ _. refl) (λ _. refl)
+    by_test (λ (m : Link). not (is_host_ns m.ns) ≡ not (is_host_ns l.ns)) (is_own_at att key l)
+    (with_values mac mtu tx_qlen promisc allmulti l) l (λ _. refl) (λ _. refl)
 
 -- at most one object more, a pair of links as one
 after_call-more : (att : Att) (host : Host) (call : Call) (s : Share) → is_plugin_call_of att call ≡ true
     → IsAllowed host call → deletions_of (share_after_call s call) ≤ deletions_of s + 1
-after_call-more att host (VethAdd h i) s is allowed = let c = count-pair (λ l. not (is_host_ns l.ns)) s.links h i (not_from_true (is_host_ns h.ns) allowed.outer) in omega arith
-after_call-more att host (MacvlanAdd link) s is allowed = let c = count-push (λ l. not (is_host_ns l.ns)) s.links link in omega arith
+after_call-more att host (VethAdd h i) s is allowed =
+    let c = count-pair (λ l. not (is_host_ns l.ns)) s.links h i (not_from_true (is_host_ns h.ns) allowed.outer) in
+    omega arith
+after_call-more att host (MacvlanAdd link) s is allowed =
+    let c = count-push (λ l. not (is_host_ns l.ns)) s.links link in omega arith
 after_call-more att host (LinkSet own key mac mtu tx_qlen promisc allmulti) s is allowed =
-    let c = count-map (λ (l : Link). not (is_host_ns l.ns)) (set_link own key mac mtu tx_qlen promisc allmulti) (set-inner own key mac mtu tx_qlen promisc allmulti) s.links in omega arith
+    let c =
+    count-map (λ (l : Link). not (is_host_ns l.ns)) (set_link own key mac mtu tx_qlen promisc allmulti)
+    (set-inner own key mac mtu tx_qlen promisc allmulti) s.links in
+    omega arith
 after_call-more att host (BridgeEnsure name mtu promisc) s is allowed = omega arith
 after_call-more att host (GatewayEnsure bridge cidr) s is allowed = omega arith
 after_call-more att host (ForwardEnsure family) s is allowed = omega arith
 after_call-more att host (AddrAdd obj) s is allowed = omega arith
 after_call-more att host (RouteAdd obj) s is allowed = omega arith
 after_call-more att host (RuleAppend rule) s is allowed = let c = length-append s.rules (rule ∷ []) in omega arith
-after_call-more att host (SettingSet setting) s is allowed = let c = length-append s.settings (setting ∷ []) in omega arith
-after_call-more att host (CachePut own cached) s is allowed = let c = length-append s.cached (record { cached = cached; tag = tags.Own own } ∷ []) in omega arith
+after_call-more att host (SettingSet setting) s is allowed =
+    let c = length-append s.settings (setting ∷ []) in omega arith
+after_call-more att host (CachePut own cached) s is allowed =
+    let c = length-append s.cached (record { cached = cached; tag = tags.Own own } ∷ []) in omega arith
 after_call-more att host _ s is allowed = cc
 
 abbrev AtMostOneMore : Att → Host → Host → Type 0
@@ -98,7 +107,9 @@ same-more att old new is = subst (λ k. AtMostOneMore att old k) (sym is) (omega
 pub call-more : (att : Att) (host : Host) (call : Call) → is_plugin_call_of att call ≡ true → IsAllowed host call
     → AtMostOneMore att host (apply host call).0
 call-more att host call is allowed = elim (done_or_not (apply host call).1) [
-  | inl done ↦ subst (λ s. deletions_of s ≤ deletions_of (share_of att host) + 1) (sym (share-own att host call is done)) (after_call-more att host call (share_of att host) is allowed)
+  | inl done ↦
+      subst (λ s. deletions_of s ≤ deletions_of (share_of att host) + 1) (sym (share-own att host call is done))
+      (after_call-more att host call (share_of att host) is allowed)
   | inr refused ↦ same-more att host (apply host call).0 (refused-same att host call is refused)
 ]
 
@@ -107,8 +118,10 @@ pub lease-more : (att : Att) (host : Host) (number : ℕ) (set : RangeSet)
 lease-more att host number set = elim (leased_or_not (apply host (LeaseNext att number set)).1) [
   | inl leased ↦
       let s = share_of att host in
-      subst (λ t. deletions_of t ≤ deletions_of s + 1) (sym (share-lease att host number set leased.0 leased.1)) (let c = length-append s.leases (lease_of att leased.0 ∷ []) in omega arith)
-  | inr refused ↦ same-more att host (apply host (LeaseNext att number set)).0 (refused-lease host att number set refused)
+      subst (λ t. deletions_of t ≤ deletions_of s + 1) (sym (share-lease att host number set leased.0 leased.1))
+      (let c = length-append s.leases (lease_of att leased.0 ∷ []) in omega arith)
+  | inr refused ↦
+      same-more att host (apply host (LeaseNext att number set)).0 (refused-lease host att number set refused)
 ]
 
 -- an attachment whose Begin was done has nothing to take back
@@ -132,7 +145,8 @@ veth-of : (ns : List ℕ) (kind : LinkKind) → is_owned_kind ns kind ≡ true �
 veth-of ns link_kinds.Device fits outer = cc
 veth-of ns link_kinds.Bridge fits outer = cc
 veth-of ns link_kinds.Veth fits outer = refl
-veth-of ns (link_kinds.Macvlan mode) fits outer = absurd (both_ways (is_host_ns ns) (not-true (is_host_ns ns) fits) outer)
+veth-of ns (link_kinds.Macvlan mode) fits outer =
+    absurd (both_ways (is_host_ns ns) (not-true (is_host_ns ns) fits) outer)
 veth-of ns link_kinds.Dummy fits outer = absurd (both_ways (is_host_ns ns) (not-true (is_host_ns ns) fits) outer)
 veth-of ns (link_kinds.Vlan id) fits outer = absurd (both_ways (is_host_ns ns) (not-true (is_host_ns ns) fits) outer)
 
@@ -148,7 +162,8 @@ inner-peer att l m key own far back =
 other-end : (att : Att) (links : List Link) (l : Link) (o : Option LinkKey) → is_own att l.tag ≡ true
     → is_veth l.kind ≡ true → is_host_ns l.ns ≡ true → peer_fits links l o ≡ true
     → list_any (takes_inner att l) links ≡ true
-other-end att links l None own veth outer fits = absurd (both_ways (is_veth l.kind) (not-true (is_veth l.kind) fits) veth)
+other-end att links l None own veth outer fits =
+    absurd (both_ways (is_veth l.kind) (not-true (is_veth l.kind) fits) veth)
 other-end att links l (Some key) own veth outer fits =
     let there : list_any (peers_back l key) links ≡ true = grind (arith, fits) in
     let far : is_host_ns key.ns ≡ false = grind (arith, fits, outer) in
@@ -160,11 +175,17 @@ takes-inner att host l sound is =
     let own : is_own att l.tag ≡ true = passes-find (λ l. is_own att l.tag) host.links l is in
     elim (cases_Bool (is_host_ns l.ns)) [
       | inl outer ↦
-          let fits : link_fits_tag l l.tag ≡ true = passes-list_all (λ l. link_fits_tag l l.tag) (λ l. is_own att l.tag) host.links l sound.links.tags is in
-          let owned : is_owned_kind l.ns l.kind ≡ true = subst (λ t. link_fits_tag l t ≡ true) (is_own-one att l.tag own) fits in
-          let peer : peer_fits host.links l l.peer ≡ true = passes-list_all (λ m. peer_fits host.links m m.peer) (λ l. is_own att l.tag) host.links l sound.links.peers is in
+          let fits : link_fits_tag l l.tag ≡ true =
+          passes-list_all (λ l. link_fits_tag l l.tag) (λ l. is_own att l.tag) host.links l sound.links.tags is in
+          let owned : is_owned_kind l.ns l.kind ≡ true =
+          subst (λ t. link_fits_tag l t ≡ true) (is_own-one att l.tag own) fits in
+          let peer : peer_fits host.links l l.peer ≡ true =
+          passes-list_all (λ m. peer_fits host.links m m.peer) (λ l. is_own att l.tag) host.links l
+          sound.links.peers is in
           other-end att host.links l l.peer own (veth-of l.ns l.kind owned outer) outer peer
-      | inr inner ↦ any-found (λ l. is_own att l.tag) (takes_inner att l) host.links l is (let goes = goes_with-itself l in grind (arith, own, inner, goes))
+      | inr inner ↦
+          any-found (λ l. is_own att l.tag) (takes_inner att l) host.links l is
+          (let goes = goes_with-itself l in grind (arith, own, inner, goes))
     ]
 
 links-fall : (att : Att) (host : Host) (o : Option Link) → IsSound host → find (λ l. is_own att l.tag) host.links ≡ o
@@ -173,13 +194,33 @@ links-fall att host None sound is = record { gone = false; reply = refl; fewer =
 links-fall att host (Some l) sound is = record {
   gone = true;
   reply = refl;
-  fewer = let c = count-gone (λ m. not (is_host_ns m.ns)) (λ m. is_own att m.tag) (goes_with l.ns l.name) host.links (takes-inner att host l sound is) in omega arith;
+  fewer =
+      let c =
+      count-gone (λ m. not (is_host_ns m.ns)) (λ m. is_own att m.tag) (goes_with l.ns l.name) host.links
+      (takes-inner att host l sound is) in
+      omega arith;
 }
 
 pub deletion-falls : (att : Att) (kind : Kind) (host : Host) → IsSound host
     → Falls att host (apply host (deletion att kind))
 deletion-falls att kinds.Links host sound = links-fall att host (find (λ l. is_own att l.tag) host.links) sound refl
-deletion-falls att kinds.Rules host sound = record { gone = list_any (λ r. is_own att r.tag) host.rules; reply = refl; fewer = let c = count-without_first (λ r. is_own att r.tag) host.rules in omega arith }
-deletion-falls att kinds.Settings host sound = record { gone = list_any (λ s. is_own att s.tag) host.settings; reply = refl; fewer = let c = count-without_first (λ s. is_own att s.tag) host.settings in omega arith }
-deletion-falls att kinds.Leases host sound = record { gone = list_any (λ l. is_own att l.tag) host.leases; reply = refl; fewer = let c = count-without_first (λ l. is_own att l.tag) host.leases in omega arith }
-deletion-falls att kinds.Cached host sound = record { gone = list_any (λ c. is_own att c.tag) host.cached; reply = refl; fewer = let n = count-without_first (λ c. is_own att c.tag) host.cached in omega arith }
+deletion-falls att kinds.Rules host sound = record {
+  gone = list_any (λ r. is_own att r.tag) host.rules;
+  reply = refl;
+  fewer = let c = count-without_first (λ r. is_own att r.tag) host.rules in omega arith;
+}
+deletion-falls att kinds.Settings host sound = record {
+  gone = list_any (λ s. is_own att s.tag) host.settings;
+  reply = refl;
+  fewer = let c = count-without_first (λ s. is_own att s.tag) host.settings in omega arith;
+}
+deletion-falls att kinds.Leases host sound = record {
+  gone = list_any (λ l. is_own att l.tag) host.leases;
+  reply = refl;
+  fewer = let c = count-without_first (λ l. is_own att l.tag) host.leases in omega arith;
+}
+deletion-falls att kinds.Cached host sound = record {
+  gone = list_any (λ c. is_own att c.tag) host.cached;
+  reply = refl;
+  fewer = let n = count-without_first (λ c. is_own att c.tag) host.cached in omega arith;
+}

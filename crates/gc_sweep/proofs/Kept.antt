@@ -20,7 +20,17 @@ tags_within a b Cached p = drops-map (λ x. x.tag) b.cached a.cached p.removes.c
 
 abbrev host_with : List NsObj → List Link → List AddrObj → List RouteObj → List Rule → List Setting → List Lease
     → List CachedObj → List Last → Host
-host_with x1 x2 x3 x4 x5 x6 x7 x8 x9 = record { namespaces = x1; links = x2; addresses = x3; routes = x4; rules = x5; settings = x6; leases = x7; cached = x8; lasts = x9 }
+host_with x1 x2 x3 x4 x5 x6 x7 x8 x9 = record {
+  namespaces = x1;
+  links = x2;
+  addresses = x3;
+  routes = x4;
+  rules = x5;
+  settings = x6;
+  leases = x7;
+  cached = x8;
+  lasts = x9;
+}
 
 pub host_of_parts : (a b : Host) → a.namespaces ≡ b.namespaces → a.links ≡ b.links → a.addresses ≡ b.addresses
     → a.routes ≡ b.routes → a.rules ≡ b.rules → a.settings ≡ b.settings → a.leases ≡ b.leases → a.cached ≡ b.cached
@@ -40,9 +50,11 @@ host_of_parts a b e1 e2 e3 e4 e5 e6 e7 e8 e9 =
 keep_touched : (gc : Gc) (att : Att) (old new : Host) → is_stale gc.network gc.valid att ≡ true → TouchesOwn att old new
     → new.lasts ≡ old.lasts → keep gc.network gc.valid new ≡ keep gc.network gc.valid old
 keep_touched gc att old new stale touch lasts =
-    let apart : (t : Tag) → is_own att t ≡ true → stays gc.network gc.valid t ≡ false = λ t own. let gone = own_goes gc.network gc.valid att stale t own in grind (arith, gone) in
+    let apart : (t : Tag) → is_own att t ≡ true → stays gc.network gc.valid t ≡ false = λ t own.
+    let gone = own_goes gc.network gc.valid att stale t own in grind (arith, gone) in
     let same = KeepsWhere-TouchesOwn (stays gc.network gc.valid) att old new apart touch in
-    host_of_parts (keep gc.network gc.valid new) (keep gc.network gc.valid old) same.namespaces same.links same.addresses same.routes same.rules same.settings same.leases same.cached lasts
+    host_of_parts (keep gc.network gc.valid new) (keep gc.network gc.valid old) same.namespaces same.links
+    same.addresses same.routes same.rules same.settings same.leases same.cached lasts
 
 -- what holds of the host, from the one at the start
 pub record Stays (gc : Gc) (h k : Host) : Type 0 where

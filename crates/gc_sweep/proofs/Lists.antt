@@ -15,7 +15,10 @@ all_true p w (x ∷ xs) = grind (arith, w x, all_true p w xs)
 pub drops : {X : Type 0} (gone : X → Bool) (old new : List X) → DropsOnly gone old new → DropsOnly (λ x. true) old new
 drops gone [] new d = d
 drops gone (x ∷ old) [] d = (refl, drops gone old [] d.1)
-drops gone (x ∷ old) (y ∷ new) d = elim d [ inl same ↦ inl (same.0, drops gone old new same.1) | inr drop ↦ inr (refl, drops gone old (y ∷ new) drop.1) ]
+drops gone (x ∷ old) (y ∷ new) d = elim d [
+  | inl same ↦ inl (same.0, drops gone old new same.1)
+  | inr drop ↦ inr (refl, drops gone old (y ∷ new) drop.1)
+]
 
 pub drops-same : {X : Type 0} (old new : List X) → new ≡ old → DropsOnly (λ x. true) old new
 drops-same old new e = subst (DropsOnly (λ x. true) old) (sym e) (DropsOnly-nothing (λ x. true) old)
@@ -46,7 +49,10 @@ pub drops-map : {X Y : Type 0} (f : X → Y) (xs ys : List X) → DropsOnly (λ 
     → DropsOnly (λ y. true) (map f xs) (map f ys)
 drops-map f [] ys d = ap (map f) d
 drops-map f (x ∷ xs) [] d = (refl, drops-map f xs [] d.1)
-drops-map f (x ∷ xs) (y ∷ ys) d = elim d [ inl same ↦ inl (ap f same.0, drops-map f xs ys same.1) | inr drop ↦ inr (refl, drops-map f xs (y ∷ ys) drop.1) ]
+drops-map f (x ∷ xs) (y ∷ ys) d = elim d [
+  | inl same ↦ inl (ap f same.0, drops-map f xs ys same.1)
+  | inr drop ↦ inr (refl, drops-map f xs (y ∷ ys) drop.1)
+]
 
 pub list_all-drops : {X : Type 0} (p gone : X → Bool) (xs ys : List X) → DropsOnly gone xs ys → list_all p xs ≡ true
     → list_all p ys ≡ true
@@ -54,7 +60,9 @@ list_all-drops p gone [] ys d h = ap (list_all p) d
 list_all-drops p gone (x ∷ xs) [] d h = refl
 list_all-drops p gone (x ∷ xs) (y ∷ ys) d h =
     elim d [
-      | inl same ↦ let rest = list_all-drops p gone xs ys same.1 (grind (arith, h)) in let e = same.0 in grind (arith, h, rest, ap p e)
+      | inl same ↦
+          let rest = list_all-drops p gone xs ys same.1 (grind (arith, h)) in
+          let e = same.0 in grind (arith, h, rest, ap p e)
       | inr drop ↦ list_all-drops p gone xs (y ∷ ys) drop.1 (grind (arith, h))
     ]
 
@@ -69,7 +77,8 @@ count_drops p gone (x ∷ xs) [] d = omega arith
 count_drops p gone (x ∷ xs) (y ∷ ys) d =
     elim d [
       | inl same ↦ let rest = count_drops p gone xs ys same.1 in let e = same.0 in grind (arith, rest, ap p e)
-      | inr drop ↦ let rest = count_drops p gone xs (y ∷ ys) drop.1 in let more = count_step (p x) x (filter p xs) in omega arith
+      | inr drop ↦
+          let rest = count_drops p gone xs (y ∷ ys) drop.1 in let more = count_step (p x) x (filter p xs) in omega arith
     ]
 
 -- ---- filters
@@ -98,7 +107,8 @@ count_without_first own counts w (x ∷ xs) = grind (arith, w x, count_without_f
 
 pub length-without_first : {X : Type 0} (own : X → Bool) (xs : List X)
     → length (without_first own xs) + one_if (list_any own xs) ≤ length xs
-length-without_first own xs = rw (filter_every (without_first own xs), filter_every xs) at (count_without_first own (λ x. true) (λ x h. refl) xs)
+length-without_first own xs =
+    rw (filter_every (without_first own xs), filter_every xs) at (count_without_first own (λ x. true) (λ x h. refl) xs)
 
 -- the element that was found counts and goes, so fewer count
 pub count_found : {X : Type 0} (own gone counts : X → Bool) (xs : List X) (y : X) → find own xs ≡ Some y → gone y ≡ true
@@ -106,11 +116,15 @@ pub count_found : {X : Type 0} (own gone counts : X → Bool) (xs : List X) (y :
     → length (filter counts (filter (λ x. not (gone x)) xs)) + 1 ≤ length (filter counts xs)
 count_found own gone counts [] y f g w = cc
 count_found own gone counts (x ∷ xs) y f g w =
-    let rest = count_drops counts (λ z. true) xs (filter (λ z. not (gone z)) xs) (drops-filter (λ z. not (gone z)) xs) in grind (arith, f, g, w, rest, count_found own gone counts xs y)
+    let rest =
+    count_drops counts (λ z. true) xs (filter (λ z. not (gone z)) xs) (drops-filter (λ z. not (gone z)) xs) in
+    grind (arith, f, g, w, rest, count_found own gone counts xs y)
 
 pub length-found : {X : Type 0} (own gone : X → Bool) (xs : List X) (y : X) → find own xs ≡ Some y → gone y ≡ true
     → length (filter (λ x. not (gone x)) xs) + 1 ≤ length xs
-length-found own gone xs y f g = rw (filter_every (filter (λ x. not (gone x)) xs), filter_every xs) at (count_found own gone (λ x. true) xs y f g refl)
+length-found own gone xs y f g =
+    rw (filter_every (filter (λ x. not (gone x)) xs), filter_every xs) at
+    (count_found own gone (λ x. true) xs y f g refl)
 
 -- ---- some
 

@@ -27,4 +27,6 @@ point_from gc p (e ∷ es) = point_from gc (point_after gc p e.reply) es
 abbrev pub IsTrail : Gc → Point → Host → List Made → Type 0
 IsTrail gc p host [] = Unit {0}
 IsTrail gc p host (e ∷ es) =
-    (call_of_work gc.network p.work.jobs p.work.sweeps ≡ Some e.call) × ((faulty : Bool) × (e.reply ≡ reply_to host e.call faulty)) × IsTrail gc (point_after gc p e.reply) (host_on host e) es
+    (call_of_work gc.network p.work.jobs p.work.sweeps ≡ Some e.call)
+    × ((faulty : Bool) × (e.reply ≡ reply_to host e.call faulty))
+    × IsTrail gc (point_after gc p e.reply) (host_on host e) es

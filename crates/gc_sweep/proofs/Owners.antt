@@ -28,14 +28,18 @@ has_att atts t = list_any (λ a. is_own a t) atts
 more_owners : (x : Att) (xs : List Att) (network : List ℕ) (ts : List Tag)
     → list_all (λ t. not (is_some (owner_in network t)) || has_att xs t) ts ≡ true
     → list_all (λ t. not (is_some (owner_in network t)) || has_att (x ∷ xs) t) ts ≡ true
-more_owners x xs network ts h = list_all-weaker (λ t. not (is_some (owner_in network t)) || has_att xs t) (λ t. not (is_some (owner_in network t)) || has_att (x ∷ xs) t) (λ t g. grind (arith, g)) ts h
+more_owners x xs network ts h =
+    list_all-weaker (λ t. not (is_some (owner_in network t)) || has_att xs t)
+    (λ t. not (is_some (owner_in network t)) || has_att (x ∷ xs) t) (λ t g. grind (arith, g)) ts h
 
 abbrev owned_by : List Att → List ℕ → Tag → Bool
 owned_by xs network t = not (is_some (owner_in network t)) || has_att xs t
 
 own_case : (b : Bool) (a : Att) (network : List ℕ) (xs : List Att) (ts : List Tag)
     → list_all (owned_by xs network) ts ≡ true
-    → ((not (is_some (cond b (Some a) None)) || has_att (cons_option (cond b (Some a) None) xs) (Own a)) && list_all (owned_by (cons_option (cond b (Some a) None) xs) network) ts) ≡ true
+    → ((not (is_some (cond b (Some a) None)) || has_att (cons_option (cond b (Some a) None) xs) (Own a))
+    && list_all (owned_by (cons_option (cond b (Some a) None) xs) network) ts)
+    ≡ true
 own_case true a network xs ts h = grind (arith, att_eq-refl a, more_owners a xs network ts h)
 own_case false a network xs ts h = h
 
@@ -44,7 +48,8 @@ owners_all : (network : List ℕ) (ts : List Tag)
 owners_all network [] = refl
 owners_all network (Outside ∷ ts) = owners_all network ts
 owners_all network (Base ∷ ts) = owners_all network ts
-owners_all network (Own a ∷ ts) = own_case (bytes_eq a.network network) a network (filter_map (owner_in network) ts) ts (owners_all network ts)
+owners_all network (Own a ∷ ts) =
+    own_case (bytes_eq a.network network) a network (filter_map (owner_in network) ts) ts (owners_all network ts)
 
 unowned : (xs : List Att) → list_any (λ a. false) xs ≡ true → ⊥
 unowned [] h = cc
@@ -58,7 +63,12 @@ once_has xs (Own a) h = list_any-each_key_once att_eq att_eq-laws a xs ∙ h
 stale_has : (network : List ℕ) (valid : List ValidAtt) (xs : List Att) (t : Tag) → goes network valid t ≡ true
     → has_att xs t ≡ true → has_att (filter (λ a. not (is_valid valid a)) xs) t ≡ true
 stale_has network valid xs t stale h =
-    any-filter_same (λ a. is_own a t) (λ a. not (is_valid valid a)) true (λ a own. let here : goes network valid (Own a) ≡ true = rw (is_own-one a t own) at stale in grind (arith, here, goes_own network valid a)) xs ∙ h
+    any-filter_same (λ a. is_own a t) (λ a. not (is_valid valid a)) true
+    (λ a own.
+    let here : goes network valid (Own a) ≡ true = rw (is_own-one a t own) at stale in
+    grind (arith, here, goes_own network valid a))
+    xs
+    ∙ h
 
 goes_of : (network : List ℕ) (valid : List ValidAtt) (t : Tag) → goes network valid t ≡ true
     → is_some (owner_in network t) ≡ true
@@ -72,13 +82,16 @@ owned_or_stays : (network : List ℕ) (valid : List ValidAtt) (xs : List Att) (t
     → (not (goes network valid t) || has_att (filter (λ a. not (is_valid valid a)) (each_key_once att_eq xs)) t) ≡ true
 owned_or_stays network valid xs t h =
     by_bool (goes network valid t)
-    (λ yes. let there : has_att xs t ≡ true = grind (arith, h, goes_of network valid t yes) in grind (arith, stale_has network valid (each_key_once att_eq xs) t yes (once_has xs t there)))
+    (λ yes.
+    let there : has_att xs t ≡ true = grind (arith, h, goes_of network valid t yes) in
+    grind (arith, stale_has network valid (each_key_once att_eq xs) t yes (once_has xs t there)))
     (λ no. grind (arith, no))
 
 pub owners_cover : (network : List ℕ) (valid : List ValidAtt) (ts : List Tag)
     → list_all (λ t. not (goes network valid t) || has_att (stale_owners network valid ts) t) ts ≡ true
 owners_cover network valid ts =
-    list_all-weaker (owned_by (filter_map (owner_in network) ts) network) (λ t. not (goes network valid t) || has_att (stale_owners network valid ts) t)
+    list_all-weaker (owned_by (filter_map (owner_in network) ts) network)
+    (λ t. not (goes network valid t) || has_att (stale_owners network valid ts) t)
     (owned_or_stays network valid (filter_map (owner_in network) ts)) ts (owners_all network ts)
 
 -- ---- each of them is stale
@@ -94,11 +107,14 @@ owners_named : (network : List ℕ) (ts : List Tag)
 owners_named network [] = refl
 owners_named network (Outside ∷ ts) = owners_named network ts
 owners_named network (Base ∷ ts) = owners_named network ts
-owners_named network (Own a ∷ ts) = named_case (bytes_eq a.network network) a network (filter_map (owner_in network) ts) refl (owners_named network ts)
+owners_named network (Own a ∷ ts) =
+    named_case (bytes_eq a.network network) a network (filter_map (owner_in network) ts) refl (owners_named network ts)
 
 pub owners_stale : (network : List ℕ) (valid : List ValidAtt) (ts : List Tag)
     → list_all (is_stale network valid) (stale_owners network valid ts) ≡ true
 owners_stale network valid ts =
     list_all-kept (λ (a : Att). bytes_eq a.network network) (is_stale network valid) (λ a. not (is_valid valid a))
-    (λ a here stale. and_from (bytes_eq a.network network) (not (is_valid valid a)) here stale) (each_key_once att_eq (filter_map (owner_in network) ts))
-    (list_all-each_key_once (λ x. bytes_eq x.network network) att_eq (filter_map (owner_in network) ts) (owners_named network ts))
+    (λ a here stale. and_from (bytes_eq a.network network) (not (is_valid valid a)) here stale)
+    (each_key_once att_eq (filter_map (owner_in network) ts))
+    (list_all-each_key_once (λ x. bytes_eq x.network network) att_eq (filter_map (owner_in network) ts)
+    (owners_named network ts))

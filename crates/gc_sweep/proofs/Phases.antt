@@ -63,7 +63,8 @@ next_working c w faults = refl
 
 pub next_late : (list : NetList) (c : Command) (p : SweepPlace) (faults : List ℕ) (ks : List Kind) → ks ≡ kinds_of list
     → is_early list.version list.disable_gc ≡ false
-    → call_of_work c.network (jobs_left ks p) (sweeps_after ks p.stage) ≡ next_call c (collecting list.version list.disable_gc (work_of (kinds_of list) p) faults)
+    → call_of_work c.network (jobs_left ks p) (sweeps_after ks p.stage)
+    ≡ next_call c (collecting list.version list.disable_gc (work_of (kinds_of list) p) faults)
 next_late list c p faults ks same h =
     let w = work_of (kinds_of list) p in
     ap (λ k. call_of_work c.network (jobs_left k p) (sweeps_after k p.stage)) same
@@ -80,13 +81,15 @@ pub open_late : (version : Version) (disabled : Bool) (w : Work) (faults : List 
 open_late version disabled w faults h = open_not_ended (early_ending version disabled) (Collecting w faults) h
 
 advance_working : (list : NetList) (c : Command) (number : ℕ) (w : Work) (faults : List ℕ) (r : Reply)
-    → advance list c number (Collecting w faults) r ≡ Collecting (work_after (gc_of list c) w.jobs w.sweeps r) (faults_after number faults (is_fault r))
+    → advance list c number (Collecting w faults) r
+    ≡ Collecting (work_after (gc_of list c) w.jobs w.sweeps r) (faults_after number faults (is_fault r))
 unfolding advance
 advance_working list c number w faults r = refl
 
 -- the progress with another work and other faults
 abbrev pub progress_with : NetList → Command → ℕ → Work → List ℕ → Progress
-progress_with list c made w faults = record { list = Some list; command = c; made = made; state = collecting list.version list.disable_gc w faults }
+progress_with list c made w faults =
+    record { list = Some list; command = c; made = made; state = collecting list.version list.disable_gc w faults }
 
 pub advances : (list : NetList) (c : Command) (made : ℕ) (w v : Work) (faults more : List ℕ) (r : Reply)
     → IsOpen (collecting list.version list.disable_gc w faults) → v ≡ work_after (gc_of list c) w.jobs w.sweeps r
@@ -95,7 +98,8 @@ pub advances : (list : NetList) (c : Command) (made : ℕ) (w v : Work) (faults 
 advances list c made w v faults more r opened work note =
     let later = open_late list.version list.disable_gc w faults opened in
     let s : State → Progress = λ x. record { list = Some list; command = c; made = made + 1; state = x } in
-    let now : collecting list.version list.disable_gc v more ≡ advance list c (made + 1) (collecting list.version list.disable_gc w faults) r =
+    let now : collecting list.version list.disable_gc v more
+    ≡ advance list c (made + 1) (collecting list.version list.disable_gc w faults) r =
     late list.version list.disable_gc v more later
     ∙ ap (λ x. Collecting x more) work
     ∙ ap (Collecting (work_after (gc_of list c) w.jobs w.sweeps r)) note
@@ -104,12 +108,15 @@ advances list c made w v faults more r opened work note =
     ap s now
 
 -- the progress after a reply, by what its steps ensure
-pub taken : (list : NetList) (c : Command) (made : ℕ) (ks ls : List Kind) (p q : SweepPlace) (faults more : List ℕ) (r : Reply)
-    → IsOpen (collecting list.version list.disable_gc (work_of (kinds_of list) p) faults) → ks ≡ kinds_of list → ls ≡ ks → HasTaken ls c.valid r p q → more ≡ faults_after (made + 1) faults (is_fault r)
+pub taken : (list : NetList) (c : Command) (made : ℕ) (ks ls : List Kind) (p q : SweepPlace)
+    (faults more : List ℕ) (r : Reply)
+    → IsOpen (collecting list.version list.disable_gc (work_of (kinds_of list) p) faults) → ks ≡ kinds_of list → ls ≡ ks
+    → HasTaken ls c.valid r p q → more ≡ faults_after (made + 1) faults (is_fault r)
     → progress_of list c (made + 1) q more ≡ advanced (progress_of list c made p faults) r
 taken list c made ks ls p q faults more r opened ks_is ls_is work note =
     let goes : HasTaken (kinds_of list) c.valid r p q = subst (λ k. HasTaken k c.valid r p q) (ls_is ∙ ks_is) work in
-    advances list c made (work_of (kinds_of list) p) (work_of (kinds_of list) q) faults more r opened (goes c.network) note
+    advances list c made (work_of (kinds_of list) p) (work_of (kinds_of list) q) faults more r opened
+    (goes c.network) note
 
 -- ---- the answer
 
@@ -141,10 +148,13 @@ ends_working (j ∷ jobs) sweeps faults false h = refl
 -- it is over where no work is left
 pub ends_late : (list : NetList) (p : SweepPlace) (faults : List ℕ) (ks : List Kind) (b : Bool) → IsInRange list ks p
     → ((kinds : List Kind) → IsPlace kinds p → b ≡ has_no_work (jobs_left kinds p) (sweeps_after kinds p.stage))
-    → is_early list.version list.disable_gc ≡ false → then_some b (swept faults) ≡ ending_in (collecting list.version list.disable_gc (work_of (kinds_of list) p) faults)
+    → is_early list.version list.disable_gc ≡ false
+    → then_some b (swept faults)
+    ≡ ending_in (collecting list.version list.disable_gc (work_of (kinds_of list) p) faults)
 ends_late list p faults ks b range done h =
     let here : IsPlace (kinds_of list) p = subst (λ k. IsPlace k p) range.0 range.1 in
-    ends_working (jobs_left (kinds_of list) p) (sweeps_after (kinds_of list) p.stage) faults b (sym (done (kinds_of list) here))
+    ends_working (jobs_left (kinds_of list) p) (sweeps_after (kinds_of list) p.stage) faults b
+    (sym (done (kinds_of list) here))
     ∙ ap ending_in (sym (late list.version list.disable_gc (work_of (kinds_of list) p) faults h))
 
 no_length : (k : ℕ) (ks : List ℕ) → (length (k ∷ ks) == 0) ≡ true → ⊥
@@ -182,12 +192,14 @@ answers_skipped list c skip = refl
 answers_by : (list : NetList) (c : Command) (w : Work) (faults : List ℕ)
     → AnswersSo list c (collecting list.version list.disable_gc w faults)
 answers_by list c w faults =
-    early_ending-cases list.version list.disable_gc (λ early. AnswersSo list c (unless_ended early (Collecting w faults)))
+    early_ending-cases list.version list.disable_gc
+    (λ early. AnswersSo list c (unless_ended early (Collecting w faults)))
     (λ old. answers_refused list c (causes.TooOld list.version))
     (λ new disabled. answers_skipped list c skips.Gc)
     (λ new enabled. answers_working list c w.jobs w.sweeps faults)
 
 -- no ending of a GC has a result of its own
 pub answers : (list : NetList) (c : Command) (w : Work) (faults : List ℕ) (ending : Option Ending)
-    → (let s : State = collecting list.version list.disable_gc w faults in ending ≡ ending_in s → option_map (plain_answer list.version c) ending ≡ answer_in (Some list) c s)
+    → (let s : State = collecting list.version list.disable_gc w faults in
+    ending ≡ ending_in s → option_map (plain_answer list.version c) ending ≡ answer_in (Some list) c s)
 answers list c w faults ending is = ap (option_map (plain_answer list.version c)) is ∙ answers_by list c w faults

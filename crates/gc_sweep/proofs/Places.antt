@@ -22,7 +22,8 @@ kind_step (x ∷ ks) (suc i) k h = kind_step ks i k h
 later_step : (ks : List Kind) (step : ℕ) (s : Step) → 0 < step → slice_get (map Delete ks) (step - 1) ≡ Some s
     → slice_get (steps_of (first_sweep ks)) step ≡ Some s
 later_step ks zero s lt h = absurd (omega arith)
-later_step ks (suc n) s lt h = let e : suc n - 1 ≡ n = omega arith in subst (λ i. slice_get (map Delete ks) i ≡ Some s) e h
+later_step ks (suc n) s lt h =
+    let e : suc n - 1 ≡ n = omega arith in subst (λ i. slice_get (map Delete ks) i ≡ Some s) e h
 
 pub first_kind : (ks : List Kind) (step : ℕ) (k : Kind) → 0 < step → slice_get ks (step - 1) ≡ Some k
     → slice_get (steps_of (first_sweep ks)) step ≡ Some (Delete k)
@@ -40,28 +41,33 @@ fresh s (a ∷ more) = refl
 -- the jobs where an owner and a step are at hand
 jobs_here : (s : Sweep) (step : ℕ) (a : Att) (more : List Att) (x : Step)
     → drop step (steps_of s) ≡ x ∷ drop (step + 1) (steps_of s)
-    → jobs_at s step (a ∷ more) ≡ record { att = a; step = x; more = drop (step + 1) (steps_of s) } ∷ map (job_of s) more
+    → jobs_at s step (a ∷ more)
+    ≡ record { att = a; step = x; more = drop (step + 1) (steps_of s) } ∷ map (job_of s) more
 jobs_here s step a more x h = ap (λ l. after_step a l (map (job_of s) more)) h
 
 -- the work where an owner is at hand, after a step that leaves others of it, after its last step, and after a fault
 pub done_next : (gc : Gc) (s : Sweep) (step at : ℕ) (owners : List Att) (sweeps : List Sweep) → at < length owners
     → step < length (steps_of s)
-    → work (jobs_at s (step + 1) (drop at owners)) sweeps ≡ work_after gc (jobs_at s step (drop at owners)) sweeps (Gone false)
+    → work (jobs_at s (step + 1) (drop at owners)) sweeps
+    ≡ work_after gc (jobs_at s step (drop at owners)) sweeps (Gone false)
 done_next gc s step at owners sweeps here within =
     let o = left_of owners at here in
     let x = left_of (steps_of s) step within in
-    rw o.1.1 (sym (ap (λ jobs. work_after gc jobs sweeps (Gone false)) (jobs_here s step o.0 (drop (at + 1) owners) x.0 x.1.1)))
+    rw o.1.1 (sym
+    (ap (λ jobs. work_after gc jobs sweeps (Gone false)) (jobs_here s step o.0 (drop (at + 1) owners) x.0 x.1.1)))
 
 pub done_last : (gc : Gc) (s : Sweep) (step at : ℕ) (owners : List Att) (sweeps : List Sweep) → at < length owners
     → step < length (steps_of s) → length (steps_of s) ≤ step + 1
-    → work_after gc (jobs_at s step (drop at owners)) sweeps Fault ≡ work_after gc (jobs_at s step (drop at owners)) sweeps (Gone false)
+    → work_after gc (jobs_at s step (drop at owners)) sweeps Fault
+    ≡ work_after gc (jobs_at s step (drop at owners)) sweeps (Gone false)
 done_last gc s step at owners sweeps here within last =
     let o = left_of owners at here in
     let x = left_of (steps_of s) step within in
     let none : drop (step + 1) (steps_of s) ≡ [] = drop_of_length-le (steps_of s) last in
     let more = drop (at + 1) owners in
     let jobs : jobs_at s step (o.0 ∷ more) ≡ record { att = o.0; step = x.0; more = [] } ∷ map (job_of s) more =
-    jobs_here s step o.0 more x.0 x.1.1 ∙ ap (λ l. record { att = o.0; step = x.0; more = l } ∷ map (job_of s) more) none in
+    jobs_here s step o.0 more x.0 x.1.1
+    ∙ ap (λ l. record { att = o.0; step = x.0; more = l } ∷ map (job_of s) more) none in
     rw o.1.1 (ap (λ l. work_after gc l sweeps Fault) jobs ∙ sym (ap (λ l. work_after gc l sweeps (Gone false)) jobs))
 
 pub done_owner : (gc : Gc) (s : Sweep) (step at : ℕ) (owners : List Att) (sweeps : List Sweep) → at < length owners
@@ -70,10 +76,12 @@ pub done_owner : (gc : Gc) (s : Sweep) (step at : ℕ) (owners : List Att) (swee
 done_owner gc s step at owners sweeps here within =
     let o = left_of owners at here in
     let x = left_of (steps_of s) step within in
-    rw o.1.1 (ap (λ jobs. work jobs sweeps) (fresh s (drop (at + 1) owners)) ∙ sym (ap (λ jobs. work_after gc jobs sweeps Fault) (jobs_here s step o.0 (drop (at + 1) owners) x.0 x.1.1)))
+    rw o.1.1 (ap (λ jobs. work jobs sweeps) (fresh s (drop (at + 1) owners))
+    ∙ sym (ap (λ jobs. work_after gc jobs sweeps Fault) (jobs_here s step o.0 (drop (at + 1) owners) x.0 x.1.1)))
 
 -- the call of the owner and step at hand
-pub next_here : (network : List ℕ) (s : Sweep) (step at : ℕ) (owners : List Att) (sweeps : List Sweep) (a : Att) (x : Step)
+pub next_here : (network : List ℕ) (s : Sweep) (step at : ℕ) (owners : List Att) (sweeps : List Sweep)
+    (a : Att) (x : Step)
     → slice_get owners at ≡ Some a → slice_get (steps_of s) step ≡ Some x → at < length owners
     → step < length (steps_of s)
     → call_of_work network (jobs_at s step (drop at owners)) sweeps ≡ Some (step_call a x)
@@ -82,7 +90,8 @@ next_here network s step at owners sweeps a x is_a is_x here within =
     let y = left_of (steps_of s) step within in
     let same_a : o.0 ≡ a = same_Some o.0 a (sym o.1.0 ∙ is_a) in
     let same_x : y.0 ≡ x = same_Some y.0 x (sym y.1.0 ∙ is_x) in
-    rw o.1.1 (ap (λ l. call_of_work network l sweeps) (jobs_here s step o.0 (drop (at + 1) owners) y.0 y.1.1) ∙ ap Some (ap (λ z. step_call z y.0) same_a ∙ ap (step_call a) same_x))
+    rw o.1.1 (ap (λ l. call_of_work network l sweeps) (jobs_here s step o.0 (drop (at + 1) owners) y.0 y.1.1)
+    ∙ ap Some (ap (λ z. step_call z y.0) same_a ∙ ap (step_call a) same_x))
 
 -- ---- whether an owner is at hand
 
@@ -128,7 +137,9 @@ skip gc (s ∷ sweeps) = refl
 pub skipped : (gc : Gc) (jobs : List Job) (sweeps : List Sweep) (owners : List Att) (r : Reply) → jobs ≡ []
     → owners ≡ [] → r ≡ Fault → work_after gc jobs sweeps (Owners owners) ≡ work_after gc jobs sweeps r
 skipped gc jobs sweeps owners r none empty is =
-    ap (λ js. work_after gc js sweeps (Owners owners)) none ∙ ap (λ o. work_after gc [] sweeps (Owners o)) empty ∙ skip gc sweeps
+    ap (λ js. work_after gc js sweeps (Owners owners)) none
+    ∙ ap (λ o. work_after gc [] sweeps (Owners o)) empty
+    ∙ skip gc sweeps
     ∙ sym (ap (λ js. work_after gc js sweeps r) none ∙ ap (λ x. work_after gc [] sweeps x) is)
 
 -- ---- the replies about an owner

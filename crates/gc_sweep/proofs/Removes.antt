@@ -44,15 +44,16 @@ removes-unshared old new d = record {
 removes-namespace : (old new : Host) → AddsNamespace old new → OnlyRemoves old new
 removes-namespace old new adds = elim adds [
   | inl e ↦ subst (OnlyRemoves old) (sym e) (removes-nothing old)
-  | inr more ↦ let P : Host → Type 0 = λ h. OnlyRemoves old h in subst P (sym more.2) (let none = removes-nothing old in record {
-    links = none.links;
-    addresses = none.addresses;
-    routes = none.routes;
-    rules = none.rules;
-    settings = none.settings;
-    leases = none.leases;
-    cached = none.cached;
-  })
+  | inr more ↦
+      let P : Host → Type 0 = λ h. OnlyRemoves old h in subst P (sym more.2) (let none = removes-nothing old in record {
+        links = none.links;
+        addresses = none.addresses;
+        routes = none.routes;
+        rules = none.rules;
+        settings = none.settings;
+        leases = none.leases;
+        cached = none.cached;
+      })
 ]
 
 removes-trans : (a b c : Host) → OnlyRemoves c b → OnlyRemoves b a → OnlyRemoves c a
@@ -77,13 +78,18 @@ deletes-deletion att kinds.Cached = refl
 
 pub removes-deletion : (att : Att) (host : Host) (kind : Kind) → IsSound host
     → OnlyRemoves host (apply host (deletion att kind)).0
-removes-deletion att host kind sound = removes-own att host (apply host (deletion att kind)).0 (RemovesOwn-apply host (deletion att kind) att sound (deletes-deletion att kind))
+removes-deletion att host kind sound =
+    removes-own att host (apply host (deletion att kind)).0
+    (RemovesOwn-apply host (deletion att kind) att sound (deletes-deletion att kind))
 
 pub removes-outside : (host : Host) (call : Call) → IsSound host → IsAllowed host call → is_from_outside call ≡ true
     → OnlyRemoves host (apply host call).0
-removes-outside host (NsChange name true) sound allowed is = removes-namespace host (apply host (NsChange name true)).0 (Touches-apply host (NsChange name true) sound allowed)
-removes-outside host (NsChange name false) sound allowed is = removes-unshared host (apply host (NsChange name false)).0 (Touches-apply host (NsChange name false) sound allowed)
-removes-outside host (Outside change) sound allowed is = removes-unshared host (apply host (Outside change)).0 (Touches-apply host (Outside change) sound allowed)
+removes-outside host (NsChange name true) sound allowed is =
+    removes-namespace host (apply host (NsChange name true)).0 (Touches-apply host (NsChange name true) sound allowed)
+removes-outside host (NsChange name false) sound allowed is =
+    removes-unshared host (apply host (NsChange name false)).0 (Touches-apply host (NsChange name false) sound allowed)
+removes-outside host (Outside change) sound allowed is =
+    removes-unshared host (apply host (Outside change)).0 (Touches-apply host (Outside change) sound allowed)
 removes-outside host _ sound allowed is = cc
 
 -- ---- within

@@ -14,10 +14,12 @@ trail_of : (list : NetList) (c : Command) (p : Point) (host : Host) (es : List M
     → IsRunFrom list c p.made (Collecting p.work p.faults) host es → IsTrail (gc_of list c) p host es
 unfolding next_call advance
 trail_of list c p host [] run = tt
-trail_of list c p host (e ∷ es) run = (run.0, run.1, trail_of list c (point_after (gc_of list c) p e.reply) (host_on host e) es run.2)
+trail_of list c p host (e ∷ es) run =
+    (run.0, run.1, trail_of list c (point_after (gc_of list c) p e.reply) (host_on host e) es run.2)
 
 state_is : (list : NetList) (c : Command) (p : Point) (es : List Made)
-    → state_from list c p.made (Collecting p.work p.faults) (replies es) ≡ Collecting (point_from (gc_of list c) p es).work (point_from (gc_of list c) p es).faults
+    → state_from list c p.made (Collecting p.work p.faults) (replies es)
+    ≡ Collecting (point_from (gc_of list c) p es).work (point_from (gc_of list c) p es).faults
 unfolding advance
 state_is list c p [] = refl
 state_is list c p (e ∷ es) = state_is list c (point_after (gc_of list c) p e.reply) es
@@ -26,7 +28,8 @@ state_is list c p (e ∷ es) = state_is list c (point_after (gc_of list c) p e.r
 
 pub begins : (list : NetList) (c : Command) → is_gc c.verb ≡ true → IsCollected list
     → start_state list c ≡ Collecting (start_work (gc_of list c)) []
-begins list c gc collected = sym (starts list c gc) ∙ late list.version list.disable_gc (start_work (gc_of list c)) [] collected
+begins list c gc collected =
+    sym (starts list c gc) ∙ late list.version list.disable_gc (start_work (gc_of list c)) [] collected
 
 pub trail : (list : NetList) (c : Command) (host : Host) (es : List Made) → is_gc c.verb ≡ true → IsCollected list
     → IsRun list c host es → IsTrail (gc_of list c) (start_point (gc_of list c)) host es
@@ -35,9 +38,12 @@ trail list c host es gc collected run =
     trail_of list c (start_point (gc_of list c)) host es (subst P (begins list c gc collected) run)
 
 finish_is : (ending : Ending) (faults : List ℕ)
-    → ◌≡◌ {A = Option Finish} (Some (record { ending = swept faults; given = [] })) (Some (record { ending = ending; given = [] }))
+    → ◌≡◌ {A = Option Finish} (Some (record { ending = swept faults; given = [] }))
+    (Some (record { ending = ending; given = [] }))
     → swept faults ≡ ending
-finish_is ending faults e = ap (λ (f : Finish). f.ending) (same_Some (record { ending = swept faults; given = [] }) (record { ending = ending; given = [] }) e)
+finish_is ending faults e =
+    ap (λ (f : Finish). f.ending)
+    (same_Some (record { ending = swept faults; given = [] }) (record { ending = ending; given = [] }) e)
 
 over_work : (jobs : List Job) (sweeps : List Sweep) (faults : List ℕ) (ending : Ending)
     → finish_of_work jobs sweeps faults ≡ Some (record { ending = ending; given = [] })
@@ -57,8 +63,11 @@ pub done : (list : NetList) (c : Command) (es : List Made) (ending : Ending) →
 done list c es ending gc collected ends =
     let p = point_from (gc_of list c) (start_point (gc_of list c)) es in
     let state : state_from list c 0 (start_state list c) (replies es) ≡ Collecting p.work p.faults =
-    ap (λ s. state_from list c 0 s (replies es)) (begins list c gc collected) ∙ state_is list c (start_point (gc_of list c)) es in
-    let o = over_work p.work.jobs p.work.sweeps p.faults ending (sym (ap finish_of state ∙ finish_working p.work p.faults) ∙ ends) in
+    ap (λ s. state_from list c 0 s (replies es)) (begins list c gc collected)
+    ∙ state_is list c (start_point (gc_of list c)) es in
+    let o =
+    over_work p.work.jobs p.work.sweeps p.faults ending
+    (sym (ap finish_of state ∙ finish_working p.work p.faults) ∙ ends) in
     record { jobs = o.0; sweeps = o.1; tells = o.2 }
 
 -- ---- a list that ends a GC before its first call
@@ -70,7 +79,9 @@ pub record IsEarly (list : NetList) (c : Command) : Type 0 where
 
 pub early_or : (list : NetList) (c : Command) → is_gc c.verb ≡ true → IsCollected list ⊎ IsEarly list c
 early_or list c gc =
-    let P : Option Ending → Type 0 = λ early. start_state list c ≡ unless_ended early (Collecting (start_work (gc_of list c)) []) → is_early list.version list.disable_gc ≡ is_some early → IsCollected list ⊎ IsEarly list c in
+    let P : Option Ending → Type 0 = λ early.
+    start_state list c ≡ unless_ended early (Collecting (start_work (gc_of list c)) [])
+    → is_early list.version list.disable_gc ≡ is_some early → IsCollected list ⊎ IsEarly list c in
     early_ending-cases list.version list.disable_gc P
     (λ old state early. inr (record { ending = _; state = state; refuses = λ e. cc }))
     (λ new disabled state early. inr (record { ending = _; state = state; refuses = λ e. cc }))
@@ -104,4 +115,5 @@ pub early_not_yes : (list : NetList) (c : Command) (es : List Made) → IsEarly 
 early_not_yes list c es early ends =
     let over = ap (λ s. state_from list c 0 s (replies es)) early.state ∙ over_stays list c 0 early.ending es in
     let same = sym (ap finish_of over ∙ finish_over early.ending) ∙ ends in
-    early.refuses (ap (λ (f : Finish). f.ending) (same_Some (record { ending = early.ending; given = [] }) (record { ending = Yes; given = [] }) same))
+    early.refuses (ap (λ (f : Finish). f.ending)
+    (same_Some (record { ending = early.ending; given = [] }) (record { ending = Yes; given = [] }) same))

@@ -36,11 +36,13 @@ free-key eq key_of rows sought own none same key is =
 -- where no row has an object's key, none is the same object
 pub free-alias : {K T : Type 0} (eq : K → K → Bool) (same : T → T → Bool) (key_of : T → K)
     → ((a b : T) → same a b ≡ true → eq (key_of a) (key_of b) ≡ true)
-    → (rows : List T) (sought : K) (own : T) → list_any (has_key eq (λ x. Some (key_of x)) sought) rows ≡ false → key_of own ≡ sought
+    → (rows : List T) (sought : K) (own : T) → list_any (has_key eq (λ x. Some (key_of x)) sought) rows ≡ false
+    → key_of own ≡ sought
     → (alias : T) → Some own ≡ Some alias → list_any (has_key same (λ x. Some x) alias) rows ≡ false
 free-alias eq same key_of keyed rows sought own none at alias is =
     ap (λ a. list_any (has_key same (λ x. Some x) a) rows) (sym (same_Some own alias is))
-    ∙ list_any-none (λ x. same x own) (λ x. eq (key_of x) sought) (λ x h. ap (eq (key_of x)) (sym at) ∙ keyed x own h) rows none
+    ∙ list_any-none (λ x. same x own) (λ x. eq (key_of x) sought)
+    (λ x h. ap (eq (key_of x)) (sym at) ∙ keyed x own h) rows none
 
 -- an object that has the key is the same by it
 addr-at : (a b : AddrObj) → addr_key-value.it (addr_key a) (addr_key b) ≡ is_same_addr b a
@@ -97,7 +99,9 @@ later-none ns name tag x xs at none =
 
 link-found-step : (ns name : List ℕ) (tag : Tag) (x : Link) (xs : List Link) (l : Link) (b : Bool) → is_at ns name x ≡ b
     → distinct (λ a b. is_same_link b a) (x ∷ xs) ≡ true
-    → Some l ≡ find (is_at ns name) (x ∷ xs) → (Some l ≡ find (is_at ns name) xs → tag_eq l.tag tag ≡ has_link_in xs ns name tag) → tag_eq l.tag tag ≡ has_link_in (x ∷ xs) ns name tag
+    → Some l ≡ find (is_at ns name) (x ∷ xs)
+    → (Some l ≡ find (is_at ns name) xs → tag_eq l.tag tag ≡ has_link_in xs ns name tag)
+    → tag_eq l.tag tag ≡ has_link_in (x ∷ xs) ns name tag
 link-found-step ns name tag x xs l true at keys is later =
     let same : l ≡ x = grind (arith, is, at) in
     let none : list_any (is_link_of ns name tag) xs ≡ false = later-none ns name tag x xs at (grind (arith, keys)) in
@@ -108,12 +112,15 @@ pub link-found : (ns name : List ℕ) (tag : Tag) (links : List Link) (l : Link)
     → distinct (λ a b. is_same_link b a) links ≡ true → Some l ≡ find (is_at ns name) links
     → tag_eq l.tag tag ≡ has_link_in links ns name tag
 link-found ns name tag [] l keys is = grind (arith, is)
-link-found ns name tag (x ∷ xs) l keys is = link-found-step ns name tag x xs l (is_at ns name x) refl keys is (link-found ns name tag xs l (grind (arith, keys)))
+link-found ns name tag (x ∷ xs) l keys is =
+    link-found-step ns name tag x xs l (is_at ns name x) refl keys is
+    (link-found ns name tag xs l (grind (arith, keys)))
 
 pub link-missed : (ns name : List ℕ) (tag : Tag) (links : List Link) → find (is_at ns name) links ≡ None
     → false ≡ has_link_in links ns name tag
 link-missed ns name tag links none =
-    sym (list_any-none (is_link_of ns name tag) (is_at ns name) (λ b h. grind (arith, h)) links (list_any-find_none (is_at ns name) links none))
+    sym (list_any-none (is_link_of ns name tag) (is_at ns name) (λ b h. grind (arith, h)) links
+    (list_any-find_none (is_at ns name) links none))
 
 -- ---- a rule is its own key
 

@@ -23,27 +23,34 @@ use Rattle.kernel_tables.proofs.NewLease.{pushed-out}
 
 -- ---- at most one element passes
 
-module _ {X : Type 0} (same : X → X → Bool) (p q : X → Bool) (alike : (x y : X) → p x ≡ true → p y ≡ true → same x y ≡ true) where
+module _ {X : Type 0} (same : X → X → Bool) (p q : X → Bool)
+    (alike : (x y : X) → p x ≡ true → p y ≡ true → same x y ≡ true) where
   alone : (x : X) (xs : List X) → p x ≡ true → distinct same (x ∷ xs) ≡ true → list_any p xs ≡ false
   alone x xs e d = list_any-none p (same x) (λ y h. alike x y e h) xs (grind (arith, d))
 
   none : (xs : List X) → list_any p xs ≡ false → list_any (λ y. p y && q y) xs ≡ false
   none xs h = list_any-none (λ y. p y && q y) p (λ y g. grind (arith, g)) xs h
 
-  pub any-both : (xs : List X) → distinct same xs ≡ true → list_any (λ x. p x && q x) xs ≡ option_map_or q (find p xs) false
+  pub any-both : (xs : List X) → distinct same xs ≡ true
+      → list_any (λ x. p x && q x) xs ≡ option_map_or q (find p xs) false
   any-both [] d = refl
   any-both (x ∷ xs) d = by (p x) refl (any-both xs (grind (arith, d)))
     where
-      by : (b : Bool) → p x ≡ b → list_any (λ y. p y && q y) xs ≡ option_map_or q (find p xs) false → list_any (λ y. p y && q y) (x ∷ xs) ≡ option_map_or q (find p (x ∷ xs)) false
+      by : (b : Bool) → p x ≡ b → list_any (λ y. p y && q y) xs ≡ option_map_or q (find p xs) false
+          → list_any (λ y. p y && q y) (x ∷ xs) ≡ option_map_or q (find p (x ∷ xs)) false
       by true e more = let no = none xs (alone x xs e d) in rw e (ap (λ b. q x || b) no ∙ or-false (q x))
       by false e more = rw e more
 
-module _ {X : Type 0} (same : X → X → Bool) (p q : X → Bool) (alike : (x y : X) → p x ≡ true → p y ≡ true → same x y ≡ true) (f : X → X) where
-  pub map-both : (xs : List X) → distinct same xs ≡ true → list_any (λ x. p x && q x) xs ≡ true → map (λ x. if p x then f x else x) xs ≡ map (λ x. if p x && q x then f x else x) xs
+module _ {X : Type 0} (same : X → X → Bool) (p q : X → Bool)
+    (alike : (x y : X) → p x ≡ true → p y ≡ true → same x y ≡ true) (f : X → X) where
+  pub map-both : (xs : List X) → distinct same xs ≡ true → list_any (λ x. p x && q x) xs ≡ true
+      → map (λ x. if p x then f x else x) xs ≡ map (λ x. if p x && q x then f x else x) xs
   map-both [] d h = refl
   map-both (x ∷ xs) d h = by (p x) refl (λ e. map-both xs (grind (arith, d)) (grind (arith, h, e)))
     where
-      by : (b : Bool) → p x ≡ b → (p x ≡ false → map (λ y. if p y then f y else y) xs ≡ map (λ y. if p y && q y then f y else y) xs) → map (λ y. if p y then f y else y) (x ∷ xs) ≡ map (λ y. if p y && q y then f y else y) (x ∷ xs)
+      by : (b : Bool) → p x ≡ b
+          → (p x ≡ false → map (λ y. if p y then f y else y) xs ≡ map (λ y. if p y && q y then f y else y) xs)
+          → map (λ y. if p y then f y else y) (x ∷ xs) ≡ map (λ y. if p y && q y then f y else y) (x ∷ xs)
       by true e more =
           let one = alone same p q alike x xs e d in
           let no = none same p q alike xs one in
@@ -58,10 +65,13 @@ key-at : (key : LinkKey) (l : Link)
 key-at key l = grind arith
 
 module _ (key : LinkKey) (links : List Link) where
-  pub any-at : list_any (has_key link_key_eq-value.it (λ (l : Link). Some (record { ns = l.ns; name = l.name })) key) links ≡ list_any (is_at key.ns key.name) links
+  pub any-at : list_any (has_key link_key_eq-value.it (λ (l : Link). Some (record { ns = l.ns; name = l.name })) key)
+      links
+      ≡ list_any (is_at key.ns key.name) links
   any-at = λ i. list_any (λ l. key-at key l i) links
 
-  pub find-at : find (has_key link_key_eq-value.it (λ (l : Link). Some (record { ns = l.ns; name = l.name })) key) links ≡ find (is_at key.ns key.name) links
+  pub find-at : find (has_key link_key_eq-value.it (λ (l : Link). Some (record { ns = l.ns; name = l.name })) key) links
+      ≡ find (is_at key.ns key.name) links
   find-at = λ i. find (λ l. key-at key l i) links
 
 named-if : (b : Bool) (n name : List ℕ) → is_key bytes_eq (if b then Some n else None) name ≡ (b && bytes_eq n name)
@@ -97,7 +107,9 @@ pub place-alike : (ns name : List ℕ) (x y : Link) → is_at ns name x ≡ true
 place-alike ns name x y h g =
     let at : bytes_eq y.ns ns ≡ true = grind (arith, g) in
     let named : bytes_eq y.name name ≡ true = grind (arith, g) in
-    ap (λ n. is_at n y.name x) ((bytes_eq-Decides y.ns ns).0 at) ∙ ap (λ m. is_at ns m x) ((bytes_eq-Decides y.name name).0 named) ∙ h
+    ap (λ n. is_at n y.name x) ((bytes_eq-Decides y.ns ns).0 at)
+    ∙ ap (λ m. is_at ns m x) ((bytes_eq-Decides y.name name).0 named)
+    ∙ h
 
 named-free : (links : List Link) (b : Bool) (ns name alias : List ℕ) → is_host_ns ns ≡ b
     → (if b then Some name else None) ≡ Some alias
@@ -105,28 +117,39 @@ named-free : (links : List Link) (b : Bool) (ns name alias : List ℕ) → is_ho
 named-free links true ns name alias e h free =
     let is : name ≡ alias = cc in
     let host : ns ≡ [] = (bytes_eq-Decides ns []).0 (sym (host_ns-eq ns) ∙ e) in
-    any-named alias links ∙ ap (λ n. list_any (is_at n alias) links) (sym host) ∙ ap (λ m. list_any (is_at ns m) links) (sym is) ∙ free
+    any-named alias links
+    ∙ ap (λ n. list_any (is_at n alias) links) (sym host)
+    ∙ ap (λ m. list_any (is_at ns m) links) (sym is)
+    ∙ free
 named-free links false ns name alias e h free = cc
 
 module _ (links : List Link) (row : Link) (free : list_any (is_at row.ns row.name) links ≡ false) where
-  pub link-key_free : (key : LinkKey) → ◌≡◌ {A = Option LinkKey} (Some (record { ns = row.ns; name = row.name })) (Some key)
-      → list_any (has_key link_key_eq-value.it (λ (l : Link). Some (record { ns = l.ns; name = l.name })) key) links ≡ false
+  pub link-key_free : (key : LinkKey)
+      → ◌≡◌ {A = Option LinkKey} (Some (record { ns = row.ns; name = row.name })) (Some key)
+      → list_any (has_key link_key_eq-value.it (λ (l : Link). Some (record { ns = l.ns; name = l.name })) key) links
+      ≡ false
   link-key_free key h =
       let is : ◌≡◌ {A = LinkKey} (record { ns = row.ns; name = row.name }) key = cc in
       any-at key links ∙ ap (λ (k : LinkKey). list_any (is_at k.ns k.name) links) (sym is) ∙ free
 
-  pub link-alias_free : (alias : List ℕ) → host_name row ≡ Some alias → list_any (has_key bytes_eq host_name alias) links ≡ false
+  pub link-alias_free : (alias : List ℕ) → host_name row ≡ Some alias
+      → list_any (has_key bytes_eq host_name alias) links ≡ false
   link-alias_free alias h = named-free links (is_host_ns row.ns) row.ns row.name alias refl h free
 
 -- no link stands where none was found
-module _ (host : Host) (key : LinkKey) (link : Link) (tag : Option Tag) (key_is : key ≡ record { ns = link.ns; name = link.name })
+module _ (host : Host) (key : LinkKey) (link : Link) (tag : Option Tag)
+    (key_is : key ≡ record { ns = link.ns; name = link.name })
     (tag_is : tag ≡ option_map (λ l. l.tag) (link_at host key.ns key.name)) (none_is : tag ≡ None) where
   pub nothing-at : link_at host link.ns link.name ≡ None
-  nothing-at = ap (λ (k : LinkKey). link_at host k.ns k.name) (sym key_is) ∙ none-option_map (λ l. l.tag) (link_at host key.ns key.name) (sym tag_is ∙ none_is)
+  nothing-at =
+      ap (λ (k : LinkKey). link_at host k.ns k.name) (sym key_is)
+      ∙ none-option_map (λ l. l.tag) (link_at host key.ns key.name) (sym tag_is ∙ none_is)
 
-  pub place-free : (links : List Link) (row : Link) → links ≡ host.links → row ≡ link → list_any (is_at row.ns row.name) links ≡ false
+  pub place-free : (links : List Link) (row : Link) → links ≡ host.links → row ≡ link
+      → list_any (is_at row.ns row.name) links ≡ false
   place-free links row links_is row_is =
-      ap (λ (r : Link). list_any (is_at r.ns r.name) links) row_is ∙ ap (λ ls. list_any (is_at link.ns link.name) ls) links_is
+      ap (λ (r : Link). list_any (is_at r.ns r.name) links) row_is
+      ∙ ap (λ ls. list_any (is_at link.ns link.name) ls) links_is
       ∙ list_any-find_none (is_at link.ns link.name) host.links nothing-at
 
 pub second-free : (links new : List Link) (first second : Link) → new ≡ links ++ first ∷ [] → is_host_ns first.ns ≡ true
@@ -134,41 +157,66 @@ pub second-free : (links new : List Link) (first second : Link) → new ≡ link
     → list_any (is_at second.ns second.name) links ≡ false → list_any (is_at second.ns second.name) new ≡ false
 second-free links new first second is outer inner free =
     let other = other_host first.ns second.ns outer inner in
-    ap (λ ls. list_any (is_at second.ns second.name) ls) is ∙ list_any-append_none (is_at second.ns second.name) links (first ∷ []) free (grind (arith, other))
+    ap (λ ls. list_any (is_at second.ns second.name) ls) is
+    ∙ list_any-append_none (is_at second.ns second.name) links (first ∷ []) free (grind (arith, other))
 
 pub first-back : (key : LinkKey) (links pushed later rest : List Link) (row link : Link) → pushed ≡ links ++ row ∷ []
     → later ≡ pushed
-    → rest ≡ filter (λ l. not (has_key link_key_eq-value.it (λ (l : Link). Some (record { ns = l.ns; name = l.name })) key l)) later
-    → key ≡ record { ns = link.ns; name = link.name } → row ≡ link → list_any (is_at row.ns row.name) links ≡ false → rest ≡ links
+    → rest
+    ≡ filter
+    (λ l. not (has_key link_key_eq-value.it (λ (l : Link). Some (record { ns = l.ns; name = l.name })) key l))
+    later
+    → key ≡ record { ns = link.ns; name = link.name } → row ≡ link → list_any (is_at row.ns row.name) links ≡ false
+    → rest ≡ links
 first-back key links pushed later rest row link pushed_is later_is rest_is key_is row_is free =
-    let own : key ≡ record { ns = row.ns; name = row.name } = key_is ∙ ap (λ (l : Link). record { ns = l.ns; name = l.name }) (sym row_is) in
+    let own : key ≡ record { ns = row.ns; name = row.name } =
+    key_is ∙ ap (λ (l : Link). record { ns = l.ns; name = l.name }) (sym row_is) in
     let here : is_at key.ns key.name row ≡ true = ap (λ (k : LinkKey). is_at k.ns k.name row) own ∙ is_at-itself row in
-    let gone : list_any (is_at key.ns key.name) links ≡ false = ap (λ (k : LinkKey). list_any (is_at k.ns k.name) links) own ∙ free in
-    rest_is ∙ (λ i. filter (λ (l : Link). not (key-at key l i)) later) ∙ ap (filter (λ l. not (is_at key.ns key.name l))) (later_is ∙ pushed_is)
+    let gone : list_any (is_at key.ns key.name) links ≡ false =
+    ap (λ (k : LinkKey). list_any (is_at k.ns k.name) links) own ∙ free in
+    rest_is
+    ∙ (λ i. filter (λ (l : Link). not (key-at key l i)) later)
+    ∙ ap (filter (λ l. not (is_at key.ns key.name l))) (later_is ∙ pushed_is)
     ∙ pushed-out (is_at key.ns key.name) links row gone here
 
 -- ---- the host after a call
 
 pub veth-added : (old host : Host) (links pushed : List Link) (a b first second : Link) → old ≡ host
     → pushed ≡ old.links ++ a ∷ [] → links ≡ pushed ++ b ∷ [] → a ≡ first → b ≡ second
-    → has_named_ns host second.ns ≡ true → master_is_bridge_or_none host first.master ≡ true → link_at host second.ns second.name ≡ None → link_at host first.ns first.name ≡ None
+    → has_named_ns host second.ns ≡ true → master_is_bridge_or_none host first.master ≡ true
+    → link_at host second.ns second.name ≡ None → link_at host first.ns first.name ≡ None
     → ◌≡◌ {A = Host × Reply} (record old { links = links }, Done) (veth_add_of host first second)
 veth-added old host links pushed a b first second old_is pushed_is links_is a_is b_is named over inner outer =
     let both : links ≡ host.links ++ first ∷ second ∷ [] =
-    links_is ∙ ap (λ ls. ls ++ b ∷ []) pushed_is ∙ append_assoc old.links (a ∷ []) (b ∷ []) ∙ ap (λ (h : Host). h.links ++ a ∷ b ∷ []) old_is
+    links_is
+    ∙ ap (λ ls. ls ++ b ∷ []) pushed_is
+    ∙ append_assoc old.links (a ∷ []) (b ∷ [])
+    ∙ ap (λ (h : Host). h.links ++ a ∷ b ∷ []) old_is
     ∙ ap (λ l. host.links ++ l ∷ b ∷ []) a_is ∙ ap (λ l. host.links ++ first ∷ l ∷ []) b_is in
     rw (both, old_is, named, over, inner, outer) refl
 
-pub values-set : (att : Att) (key : LinkKey) (mac : Option Mac) (mtu tx_qlen : Option ℕ) (promisc allmulti : Bool) (old host : Host) (links : List Link)
+pub values-set : (att : Att) (key : LinkKey) (mac : Option Mac) (mtu tx_qlen : Option ℕ) (promisc allmulti : Bool)
+    (old host : Host) (links : List Link)
     → old ≡ host
     → distinct (λ a b. is_same_link b a) host.links ≡ true → list_any (is_own_at att key) host.links ≡ true
-    → links ≡ map (λ (l : Link). if has_key link_key_eq-value.it (λ (l : Link). Some (record { ns = l.ns; name = l.name })) key l then with_values mac mtu tx_qlen promisc allmulti l else l) old.links
-    → ◌≡◌ {A = Host × Reply} (record old { links = links }, Done) (link_set_of host att key mac mtu tx_qlen promisc allmulti)
+    → links
+    ≡ map (λ (l : Link).
+    if has_key link_key_eq-value.it (λ (l : Link). Some (record { ns = l.ns; name = l.name })) key l
+    then with_values mac mtu tx_qlen promisc allmulti l
+    else l)
+    old.links
+    → ◌≡◌ {A = Host × Reply} (record old { links = links }, Done)
+    (link_set_of host att key mac mtu tx_qlen promisc allmulti)
 values-set att key mac mtu tx_qlen promisc allmulti old host links old_is keys own links_is =
     let set : links ≡ map (set_link att key mac mtu tx_qlen promisc allmulti) host.links =
-    links_is ∙ (λ i. map (λ (l : Link). if key-at key l i then with_values mac mtu tx_qlen promisc allmulti l else l) old.links)
-    ∙ ap (λ (h : Host). map (λ (l : Link). if is_at key.ns key.name l then with_values mac mtu tx_qlen promisc allmulti l else l) h.links) old_is
-    ∙ map-both (λ a b. is_same_link b a) (is_at key.ns key.name) (λ (l : Link). is_own att l.tag) (place-alike key.ns key.name) (with_values mac mtu tx_qlen promisc allmulti) host.links keys own in
+    links_is
+    ∙ (λ i. map (λ (l : Link). if key-at key l i then with_values mac mtu tx_qlen promisc allmulti l else l) old.links)
+    ∙ ap (λ (h : Host).
+    map (λ (l : Link). if is_at key.ns key.name l then with_values mac mtu tx_qlen promisc allmulti l else l)
+    h.links)
+    old_is
+    ∙ map-both (λ a b. is_same_link b a) (is_at key.ns key.name) (λ (l : Link). is_own att l.tag)
+    (place-alike key.ns key.name) (with_values mac mtu tx_qlen promisc allmulti) host.links keys own in
     rw (set, old_is, own) refl
 
 -- ---- addresses and settings
@@ -179,7 +227,9 @@ addr-at : (key : AddrKey) (a : AddrObj)
 addr-at key a = grind arith
 
 pub any-addr : (key : AddrKey) (addresses : List AddrObj)
-    → list_any (has_key addr_key_eq-value.it (λ (a : AddrObj). Some (record { ns = a.ns; link = a.link; addr = a.cidr.addr })) key) addresses
+    → list_any (has_key addr_key_eq-value.it
+    (λ (a : AddrObj). Some (record { ns = a.ns; link = a.link; addr = a.cidr.addr })) key)
+    addresses
     ≡ list_any (λ a. bytes_eq a.ns key.ns && bytes_eq a.link key.link && addr_eq a.cidr.addr key.addr) addresses
 any-addr key addresses = λ i. list_any (λ a. addr-at key a i) addresses
 
@@ -191,14 +241,16 @@ pub addr-alias_free : (addresses : List AddrObj) (row alias : AddrObj) → list_
     → list_any (has_key addr_obj_eq-value.it (λ (a : AddrObj). Some a) alias) addresses ≡ false
 addr-alias_free addresses row alias free h =
     let is : row ≡ alias = cc in
-    ap (λ r. list_any (λ a. addr_obj_eq-value.it a r) addresses) (sym is) ∙ list_any-none (λ a. addr_obj_eq-value.it a row) (is_same_addr row) (λ a g. addr-whole row a g) addresses free
+    ap (λ r. list_any (λ a. addr_obj_eq-value.it a r) addresses) (sym is)
+    ∙ list_any-none (λ a. addr_obj_eq-value.it a row) (is_same_addr row) (λ a g. addr-whole row a g) addresses free
 
 setting-at : (key : SettingKey) (s : Setting)
     → setting_key_eq-value.it (record { ns = s.ns; key = s.key }) key ≡ (bytes_eq s.ns key.ns && bytes_eq s.key key.key)
 setting-at key s = grind arith
 
 pub any-setting : (key : SettingKey) (settings : List Setting)
-    → list_any (has_key setting_key_eq-value.it (λ (s : Setting). Some (record { ns = s.ns; key = s.key })) key) settings
+    → list_any (has_key setting_key_eq-value.it (λ (s : Setting). Some (record { ns = s.ns; key = s.key })) key)
+    settings
     ≡ list_any (λ s. bytes_eq s.ns key.ns && bytes_eq s.key key.key) settings
 any-setting key settings = λ i. list_any (λ s. setting-at key s i) settings
 
@@ -210,4 +262,5 @@ pub setting-alias_free : (settings : List Setting) (row alias : Setting)
     → list_any (has_key setting_eq-value.it (λ (s : Setting). Some s) alias) settings ≡ false
 setting-alias_free settings row alias free h =
     let is : row ≡ alias = cc in
-    ap (λ r. list_any (λ s. setting_eq-value.it s r) settings) (sym is) ∙ list_any-none (λ s. setting_eq-value.it s row) (is_same_setting row) (λ s g. setting-whole row s g) settings free
+    ap (λ r. list_any (λ s. setting_eq-value.it s r) settings) (sym is)
+    ∙ list_any-none (λ s. setting_eq-value.it s row) (is_same_setting row) (λ s g. setting-whole row s g) settings free

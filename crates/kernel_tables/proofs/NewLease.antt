@@ -16,7 +16,8 @@ pub absent-lease : (lease : Lease) (leases : List Lease)
 absent-lease lease leases none key e =
     let is : lease ≡ key = cc in
     subst (λ k. list_any (has_key lease_eq-value.it (λ l. Some l) k) leases ≡ false) is
-    (list_any-none (λ row. lease_eq-value.it row lease) (is_lease_at lease.network lease.addr) (λ row h. grind (arith, h)) leases none)
+    (list_any-none (λ row. lease_eq-value.it row lease) (is_lease_at lease.network lease.addr)
+    (λ row h. grind (arith, h)) leases none)
 
 -- what `==` computes of a pool
 pub same-pool : (pool : PoolKey) (last : Last)
@@ -24,7 +25,8 @@ pub same-pool : (pool : PoolKey) (last : Last)
 same-pool pool last = grind arith
 
 pub any-pool : (pool : PoolKey) (lasts : List Last)
-    → list_any (λ l. pool_eq-value.it (record { network = l.network; set = l.set }) pool) lasts ≡ list_any (is_of_pool pool.network pool.set) lasts
+    → list_any (λ l. pool_eq-value.it (record { network = l.network; set = l.set }) pool) lasts
+    ≡ list_any (is_of_pool pool.network pool.set) lasts
 any-pool pool lasts = λ i. list_any (λ l. same-pool pool l i) lasts
 
 -- the one that came goes again

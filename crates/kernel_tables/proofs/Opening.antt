@@ -45,7 +45,8 @@ pool_key l = record { network = l.network; set = l.set }
 once-if : {K T : Type 0} (eq : K → K → Bool) (key_of : T → Option K) (is_same : T → T → Bool)
     → ((new row : T) → has_same_key eq key_of new row ≡ true → is_same new row ≡ true)
     → (rows : List T) → HasDistinctKeys is_same rows → HasEachKeyOnce eq key_of rows
-once-if eq key_of is_same h rows once = distinct-finer (λ a b. is_same b a) (λ a b. has_same_key eq key_of b a) (λ x y. h y x) rows once
+once-if eq key_of is_same h rows once =
+    distinct-finer (λ a b. is_same b a) (λ a b. has_same_key eq key_of b a) (λ x y. h y x) rows once
 
 none-any : {T : Type 0} (rows : List T) → list_any (λ (row : T). false) rows ≡ false
 none-any [] = refl
@@ -56,7 +57,8 @@ pub once-none : {K T : Type 0} (eq : K → K → Bool) (rows : List T) → HasEa
 once-none eq [] = refl
 once-none {K} {T} eq (row ∷ rows) =
     let none : T → Option K = λ row. None in
-    ap (λ b. not b && distinct (λ older newer. has_same_key eq none newer older) rows) (none-any rows) ∙ once-none eq rows
+    ap (λ b. not b && distinct (λ older newer. has_same_key eq none newer older) rows) (none-any rows)
+    ∙ once-none eq rows
 
 module _ (namespaces : List NsObj) (once : HasDistinctKeys is_same_namespace namespaces) where
   pub namespace-keys : HasEachKeyOnce bytes_eq (λ (n : NsObj). Some n.name) namespaces
@@ -68,7 +70,8 @@ link-same new row h = grind (arith, h)
 named-same : (b : Bool) (new row : Link) → is_host_ns new.ns ≡ b
     → option_map_or (λ name. is_key bytes_eq (host_name row) name) (if b then Some new.name else None) false ≡ true
     → is_same_link new row ≡ true
-named-same true new row e h = host-alike new.name row new (sym (host-named new.name row) ∙ h) (grind (arith, e, nat_list_eq_equiv.refl new.name))
+named-same true new row e h =
+    host-alike new.name row new (sym (host-named new.name row) ∙ h) (grind (arith, e, nat_list_eq_equiv.refl new.name))
 named-same false new row e h = absurd (true≢false (sym h))
 
 module _ (links : List Link) (once : HasDistinctKeys is_same_link links) where
@@ -76,7 +79,8 @@ module _ (links : List Link) (once : HasDistinctKeys is_same_link links) where
   link-keys = once-if link_key-value.it link_key is_same_link link-same links once
 
   pub link-aliases : HasEachKeyOnce bytes_eq host_name links
-  link-aliases = once-if bytes_eq host_name is_same_link (λ new row h. named-same (is_host_ns new.ns) new row refl h) links once
+  link-aliases =
+      once-if bytes_eq host_name is_same_link (λ new row h. named-same (is_host_ns new.ns) new row refl h) links once
 
 addr-same : (new row : AddrObj) → addr_key-value.it (addr_key row) (addr_key new) ≡ true → is_same_addr new row ≡ true
 addr-same new row h = grind (arith, h)
@@ -86,7 +90,9 @@ module _ (addresses : List AddrObj) (once : HasDistinctKeys is_same_addr address
   addr-keys = once-if addr_key-value.it (λ a. Some (addr_key a)) is_same_addr addr-same addresses once
 
   pub addr-aliases : HasEachKeyOnce addr_obj-value.it (λ a. Some a) addresses
-  addr-aliases = once-if addr_obj-value.it (λ a. Some a) is_same_addr (λ new row h. addr-same new row (addr-keyed row new h)) addresses once
+  addr-aliases =
+      once-if addr_obj-value.it (λ a. Some a) is_same_addr
+      (λ new row h. addr-same new row (addr-keyed row new h)) addresses once
 
 route-same : (new row : RouteObj) → route_key-value.it (route_key row) (route_key new) ≡ true
     → is_same_route new row ≡ true
@@ -97,11 +103,14 @@ module _ (routes : List RouteObj) (once : HasDistinctKeys is_same_route routes) 
   route-keys = once-if route_key-value.it (λ r. Some (route_key r)) is_same_route route-same routes once
 
   pub route-aliases : HasEachKeyOnce route-value.it (λ r. Some r) routes
-  route-aliases = once-if route-value.it (λ r. Some r) is_same_route (λ new row h. route-same new row (route-keyed row new h)) routes once
+  route-aliases =
+      once-if route-value.it (λ r. Some r) is_same_route
+      (λ new row h. route-same new row (route-keyed row new h)) routes once
 
 pub rule-keys : (rules : List Rule) → HasDistinctKeys is_same_rule rules
     → HasEachKeyOnce rule-value.it (λ r. Some r) rules
-rule-keys rules once = once-if rule-value.it (λ r. Some r) is_same_rule (λ new row h. sym (rule-same row new) ∙ h) rules once
+rule-keys rules once =
+    once-if rule-value.it (λ r. Some r) is_same_rule (λ new row h. sym (rule-same row new) ∙ h) rules once
 
 setting-same : (new row : Setting) → setting_key-value.it (setting_key row) (setting_key new) ≡ true
     → is_same_setting new row ≡ true
@@ -112,7 +121,9 @@ module _ (settings : List Setting) (once : HasDistinctKeys is_same_setting setti
   setting-keys = once-if setting_key-value.it (λ s. Some (setting_key s)) is_same_setting setting-same settings once
 
   pub setting-aliases : HasEachKeyOnce setting-value.it (λ s. Some s) settings
-  setting-aliases = once-if setting-value.it (λ s. Some s) is_same_setting (λ new row h. setting-same new row (setting-keyed row new h)) settings once
+  setting-aliases =
+      once-if setting-value.it (λ s. Some s) is_same_setting
+      (λ new row h. setting-same new row (setting-keyed row new h)) settings once
 
 lease-same : (new row : Lease) → lease-value.it row new ≡ true → is_same_lease new row ≡ true
 lease-same new row h = grind (arith, h)
@@ -132,8 +143,12 @@ owner-same (Own att) (Own own) h = sym (att-same own att) ∙ h
 
 pub cached-keys : (cached : List CachedObj) → HasDistinctKeys is_same_cached cached
     → HasEachKeyOnce att-value.it (λ (c : CachedObj). owner_named c.tag) cached
-cached-keys cached once = once-if att-value.it (λ (c : CachedObj). owner_named c.tag) is_same_cached (λ new row h. owner-same new.tag row.tag h) cached once
+cached-keys cached once =
+    once-if att-value.it (λ (c : CachedObj). owner_named c.tag) is_same_cached
+    (λ new row h. owner-same new.tag row.tag h) cached once
 
 pub last-keys : (lasts : List Last) → HasDistinctKeys is_same_last lasts
     → HasEachKeyOnce pool-value.it (λ l. Some (pool_key l)) lasts
-last-keys lasts once = once-if pool-value.it (λ l. Some (pool_key l)) is_same_last (λ new row h. sym (same-pool (pool_key new) row) ∙ h) lasts once
+last-keys lasts once =
+    once-if pool-value.it (λ l. Some (pool_key l)) is_same_last
+    (λ new row h. sym (same-pool (pool_key new) row) ∙ h) lasts once

@@ -19,13 +19,16 @@ own-is eq same att Base = refl
 own-is eq same att (Own own) = same own att
 
 module _ {T : Type 0} (tag_of : T → Tag) (att : Att) (xs : List T) where
-  pub any-own : list_any (λ x. is_key att_eq-value.it (owner_named (tag_of x)) att) xs ≡ list_any (λ x. is_own att (tag_of x)) xs
+  pub any-own : list_any (λ x. is_key att_eq-value.it (owner_named (tag_of x)) att) xs
+      ≡ list_any (λ x. is_own att (tag_of x)) xs
   any-own = λ i. list_any (λ x. own-is att_eq-value.it att-same att (tag_of x) i) xs
 
-  pub first-own : without_first (λ x. is_key att_eq-value.it (owner_named (tag_of x)) att) xs ≡ without_first (λ x. is_own att (tag_of x)) xs
+  pub first-own : without_first (λ x. is_key att_eq-value.it (owner_named (tag_of x)) att) xs
+      ≡ without_first (λ x. is_own att (tag_of x)) xs
   first-own = λ i. without_first (λ x. own-is att_eq-value.it att-same att (tag_of x) i) xs
 
-  pub find-own : find (λ x. is_key att_eq-value.it (owner_named (tag_of x)) att) xs ≡ find (λ x. is_own att (tag_of x)) xs
+  pub find-own : find (λ x. is_key att_eq-value.it (owner_named (tag_of x)) att) xs
+      ≡ find (λ x. is_own att (tag_of x)) xs
   find-own = λ i. find (λ x. own-is att_eq-value.it att-same att (tag_of x) i) xs
 
 pub some-copied : {T : Type 0} (o : Option (Bor T)) → is_some o ≡ is_some (option_copied o)

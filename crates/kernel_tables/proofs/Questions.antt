@@ -41,25 +41,40 @@ module _ {T : Type 0} (tag_of : T → Tag) (network : List ℕ) where
   abbrev within : T → Bool
   within x = is_key bytes_eq (network_named (tag_of x)) network
 
-  owners-step : (x : T) (ys : List T) (ts : List Tag) → filter_map named ys ≡ filter_map (owner_in network) ts → (t : Tag) → tag_of x ≡ t
+  owners-step : (x : T) (ys : List T) (ts : List Tag) → filter_map named ys ≡ filter_map (owner_in network) ts
+      → (t : Tag) → tag_of x ≡ t
       → filter_map named (if within x then x ∷ ys else ys) ≡ filter_map (owner_in network) (tag_of x ∷ ts)
   owners-step x ys ts rest Outside e =
-      (λ i. filter_map named (if is_key bytes_eq (network_named (e i)) network then x ∷ ys else ys)) ∙ rest ∙ ap (λ t. filter_map (owner_in network) (t ∷ ts)) (sym e)
+      (λ i. filter_map named (if is_key bytes_eq (network_named (e i)) network then x ∷ ys else ys))
+      ∙ rest
+      ∙ ap (λ t. filter_map (owner_in network) (t ∷ ts)) (sym e)
   owners-step x ys ts rest Base e =
-      (λ i. filter_map named (if is_key bytes_eq (network_named (e i)) network then x ∷ ys else ys)) ∙ rest ∙ ap (λ t. filter_map (owner_in network) (t ∷ ts)) (sym e)
+      (λ i. filter_map named (if is_key bytes_eq (network_named (e i)) network then x ∷ ys else ys))
+      ∙ rest
+      ∙ ap (λ t. filter_map (owner_in network) (t ∷ ts)) (sym e)
   owners-step x ys ts rest (Own att) e =
-      (λ i. filter_map named (if is_key bytes_eq (network_named (e i)) network then x ∷ ys else ys)) ∙ own (bytes_eq att.network network)
+      (λ i. filter_map named (if is_key bytes_eq (network_named (e i)) network then x ∷ ys else ys))
+      ∙ own (bytes_eq att.network network)
       ∙ sym (filter_map-cons (owner_in network) (Own att) ts) ∙ ap (λ t. filter_map (owner_in network) (t ∷ ts)) (sym e)
     where
-      own : (b : Bool) → filter_map named (if b then x ∷ ys else ys) ≡ option_to_list (if b then Some att else None) ++ filter_map (owner_in network) ts
-      own true = filter_map-cons named x ys ∙ ap (λ t. option_to_list (owner_named t) ++ filter_map named ys) e ∙ ap (λ l. att ∷ l) rest
+      own : (b : Bool)
+          → filter_map named (if b then x ∷ ys else ys)
+          ≡ option_to_list (if b then Some att else None) ++ filter_map (owner_in network) ts
+      own true =
+          filter_map-cons named x ys
+          ∙ ap (λ t. option_to_list (owner_named t) ++ filter_map named ys) e
+          ∙ ap (λ l. att ∷ l) rest
       own false = rest
 
-  owners-in : (xs : List T) → filter_map named (filter within xs) ≡ filter_map (owner_in network) (map (λ x. tag_of x) xs)
+  owners-in : (xs : List T)
+      → filter_map named (filter within xs) ≡ filter_map (owner_in network) (map (λ x. tag_of x) xs)
   owners-in [] = refl
   owners-in (x ∷ xs) = owners-step x (filter within xs) (map (λ x. tag_of x) xs) (owners-in xs) (tag_of x) refl
 
-  pub owners-once : (xs : List T) → each_key_once att_eq-value.it (filter_map (λ x. owner_named (tag_of x)) (filter (λ x. is_key bytes_eq (network_named (tag_of x)) network) xs))
+  pub owners-once : (xs : List T)
+      → each_key_once att_eq-value.it
+      (filter_map (λ x. owner_named (tag_of x))
+      (filter (λ x. is_key bytes_eq (network_named (tag_of x)) network) xs))
       ≡ each_key_once att_eq (filter_map (owner_in network) (map (λ x. tag_of x) xs))
   owners-once xs = (λ i. each_key_once (λ a b. att-same a b i) (owners-in xs i))
 
@@ -81,7 +96,8 @@ one-found p t u same is one [] d = refl
 one-found p t u same is one (x ∷ xs) d =
     let parts = and_parts (not (list_any (same x) xs)) (distinct same xs) d in
     one-named-step p t u x xs (p x) refl (is x)
-    (λ h. list_any-none t (same x) (λ y g. one x y h (and_parts (p y) (u y) (sym (is y) ∙ g)).0) xs (grind (arith, parts.0)))
+    (λ h. list_any-none t (same x) (λ y g. one x y h (and_parts (p y) (u y) (sym (is y) ∙ g)).0) xs
+    (grind (arith, parts.0)))
     (one-found p t u same is one xs parts.1)
 
 -- in a sound host one link of the host has the name: what is asked of all is asked of it
@@ -89,7 +105,8 @@ pub one-named : (name : List ℕ) (t u : Link → Bool) → ((l : Link) → t l 
     → (links : List Link) → HasDistinctKeys is_same_link links
     → list_any t links ≡ option_map_or u (find (λ l. is_key bytes_eq (host_name l) name) links) false
 one-named name t u is links d =
-    one-found (is_host_link name) t u (λ a b. is_same_link b a) is (λ x y h g. one_place [] name x y (host_link-at name x h) (host_link-at name y g)) links d
+    one-found (is_host_link name) t u (λ a b. is_same_link b a) is
+    (λ x y h g. one_place [] name x y (host_link-at name x h) (host_link-at name y g)) links d
     ∙ (λ i. option_map_or u (find (λ l. sym (host-named name l) i) links) false)
 
 absorbs : (a b : Bool) → (b ≡ true → a ≡ true) → b ≡ (a && b)
@@ -115,22 +132,30 @@ last_test a b c d e f g h i j k l all = grind (arith, all)
 
 equal-tag : (l link : Link) → link_eq l link ≡ true → tag_eq l.tag link.tag ≡ true
 equal-tag l link h =
-    last_test (bytes_eq l.ns link.ns) (bytes_eq l.name link.name) (link_kind_eq l.kind link.kind) (option_eq bytes_eq l.master link.master) (option_eq key_eq l.peer link.peer) (mac_eq l.mac link.mac)
-    (l.mtu == link.mtu) (beq l.hairpin link.hairpin) (beq l.promisc link.promisc) (beq l.allmulti link.allmulti) (l.tx_qlen == link.tx_qlen) (tag_eq l.tag link.tag) h
+    last_test (bytes_eq l.ns link.ns) (bytes_eq l.name link.name) (link_kind_eq l.kind link.kind)
+    (option_eq bytes_eq l.master link.master) (option_eq key_eq l.peer link.peer) (mac_eq l.mac link.mac)
+    (l.mtu == link.mtu) (beq l.hairpin link.hairpin) (beq l.promisc link.promisc) (beq l.allmulti link.allmulti)
+    (l.tx_qlen == link.tx_qlen) (tag_eq l.tag link.tag) h
 
 -- a link that is equal to the attachment's is its own too
 pub equal-owned : (att : Att) (link : Link) → link.tag ≡ Own att → (l : Link)
     → link_eq l link ≡ (is_key att_eq-value.it (owner_named l.tag) att && link_eq l link)
 equal-owned att link tag l =
     absorbs (is_key att_eq-value.it (owner_named l.tag) att) (link_eq l link)
-    (λ h. own-is att_eq-value.it att-same att l.tag ∙ sym (tag_eq-own att l.tag) ∙ ap (tag_eq l.tag) (sym tag) ∙ equal-tag l link h)
+    (λ h.
+    own-is att_eq-value.it att-same att l.tag
+    ∙ sym (tag_eq-own att l.tag)
+    ∙ ap (tag_eq l.tag) (sym tag)
+    ∙ equal-tag l link h)
 
 -- a link that is equal to one elsewhere is in its namespace
 pub equal-sited : (link : Link) → is_host_ns link.ns ≡ false → (l : Link)
     → link_eq l link ≡ (is_key bytes_eq (inner_ns l.ns) link.ns && link_eq l link)
 equal-sited link inner l =
     absorbs (is_key bytes_eq (inner_ns l.ns) link.ns) (link_eq l link)
-    (λ h. inner-is link.ns inner l.ns ∙ (and_parts (bytes_eq l.ns link.ns) (bytes_eq l.name link.name) (equal-place l link h)).0)
+    (λ h.
+    inner-is link.ns inner l.ns
+    ∙ (and_parts (bytes_eq l.ns link.ns) (bytes_eq l.name link.name) (equal-place l link h)).0)
 
 pub bridge-named : (name : List ℕ) (mac : Mac) (l : Link)
     → is_bridge_with name mac l ≡ (is_host_link name l && (is_bridge l.kind && mac_eq l.mac mac))
@@ -147,8 +172,14 @@ five_tests a b c d e = grind arith
 
 pub route-same : (a b : RouteObj) → route_eq-value.it a b ≡ route_eq a b
 route-same a b =
-    let right : route_eq-value.it a b ≡ (bytes_eq a.ns b.ns && (cidr_eq a.dst b.dst && (bytes_eq a.link b.link && (option_eq addr_eq a.gw b.gw && tag_eq a.tag b.tag)))) = search rules in
-    right ∙ five_tests (bytes_eq a.ns b.ns) (cidr_eq a.dst b.dst) (bytes_eq a.link b.link) (option_eq addr_eq a.gw b.gw) (tag_eq a.tag b.tag)
+    let right : route_eq-value.it a b
+    ≡ (bytes_eq a.ns b.ns
+    && (cidr_eq a.dst b.dst
+    && (bytes_eq a.link b.link && (option_eq addr_eq a.gw b.gw && tag_eq a.tag b.tag)))) =
+    search rules in
+    right
+    ∙ five_tests (bytes_eq a.ns b.ns) (cidr_eq a.dst b.dst) (bytes_eq a.link b.link) (option_eq addr_eq a.gw b.gw)
+    (tag_eq a.tag b.tag)
 
 tag-same : (t u : Tag) → tag_eq-value.it t u ≡ tag_eq t u
 tag-same Outside Outside = refl
@@ -173,8 +204,15 @@ target-same (targets.Dnat a p) targets.Masquerade = refl
 target-same (targets.Dnat a p) (targets.Dnat b q) = refl
 
 pub rule-same : (a b : Rule) → rule_eq-value.it a b ≡ rule_eq a b
-rule-same a b = (λ i. table_eq a.table b.table && (chain_eq a.chain b.chain && (option_eq cidr_eq a.src b.src && (option_eq cidr_eq a.dst b.dst && (beq a.not_dst b.not_dst
-    && (option_eq proto_eq a.protocol b.protocol && (option_eq (λ p q. p == q) a.dport b.dport && (beq a.established b.established && (target-same a.target b.target i && tag-same a.tag b.tag i)))))))))
+rule-same a b =
+    (λ i.
+    table_eq a.table b.table
+    && (chain_eq a.chain b.chain
+    && (option_eq cidr_eq a.src b.src && (option_eq cidr_eq a.dst b.dst && (beq a.not_dst b.not_dst
+    && (option_eq proto_eq a.protocol b.protocol
+    && (option_eq (λ p q. p == q) a.dport b.dport
+    && (beq a.established b.established
+    && (target-same a.target b.target i && tag-same a.tag b.tag i)))))))))
 
 pub setting-same : (a b : Setting) → setting_eq-value.it a b ≡ setting_eq a b
 setting-same a b = grind arith

@@ -58,7 +58,9 @@ none-along t (c ∷ cs) xs h =
     let fails = emptied-fails t (row_at xs c) in
     let z : 0 + c ≡ c = omega arith in
     none-along t cs (set xs c o)
-    (passing-set t xs c o fails cs ∙ sym (filter-gone c (passes t (row_at xs c)) (passing t xs cs)) ∙ ap (filter (λ q. not (q == c))) h
+    (passing-set t xs c o fails cs
+    ∙ sym (filter-gone c (passes t (row_at xs c)) (passing t xs cs))
+    ∙ ap (filter (λ q. not (q == c))) h
     ∙ ap (λ m. filter (λ q. not (q == m)) (places_where t xs)) (sym z) ∙ sym (places_from-set t 0 c o fails xs))
 
 emptied-twice : {T : Type 0} (t : T → Bool) (o : Option T) → emptied t (emptied t o) ≡ emptied t o
@@ -84,7 +86,8 @@ emptied-none-step : {T : Type 0} (t : T → Bool) (n : ℕ) (x : T) (xs : List (
     → (if b then n ∷ places_from t (n + 1) xs else places_from t (n + 1) xs) ≡ []
     → (places_from t (n + 1) xs ≡ [] → map (emptied t) xs ≡ xs) → map (emptied t) (Some x ∷ xs) ≡ Some x ∷ xs
 emptied-none-step t n x xs true e h rest = grind (arith, h)
-emptied-none-step t n x xs false e h rest = ap (λ b. (if b then None else Some x) ∷ map (emptied t) xs) e ∙ ap (λ l. Some x ∷ l) (rest h)
+emptied-none-step t n x xs false e h rest =
+    ap (λ b. (if b then None else Some x) ∷ map (emptied t) xs) e ∙ ap (λ l. Some x ∷ l) (rest h)
 
 map-emptied-none : {T : Type 0} (t : T → Bool) (n : ℕ) (xs : List (Option T)) → places_from t n xs ≡ []
     → map (emptied t) xs ≡ xs
@@ -122,7 +125,8 @@ places_from-both t u before (x ∷ xs) n count =
 
 pub both-along : {T : Type 0} (t u : T → Bool) (xs : List (Option T)) (cs : List ℕ)
     → passing t xs cs ≡ places_where t xs → passing (λ x. t x && u x) xs cs ≡ places_where (λ x. t x && u x) xs
-both-along t u xs cs h = passing-both t u xs cs ∙ ap (filter (λ p. passes u (row_at xs p))) h ∙ sym (places_from-both t u [] xs 0 refl)
+both-along t u xs cs h =
+    passing-both t u xs cs ∙ ap (filter (λ p. passes u (row_at xs p))) h ∙ sym (places_from-both t u [] xs 0 refl)
 
 pub emptied_at-more : {T : Type 0} (t : T → Bool) (cs : List ℕ) (c : ℕ) (xs : List (Option T))
     → emptied_at t xs (cs ++ c ∷ []) ≡ set (emptied_at t xs cs) c (emptied t (row_at (emptied_at t xs cs) c))

@@ -16,32 +16,45 @@ is_key-same eq laws own q is (Some m) = laws.symm m q ∙ sym (laws.congr own q 
 
 absent-keys : {K T : Type 0} (eq : K → K → Bool) → IsEquivalence eq
     → (key_of : T → Option K) (rows : List T) (key : Option K)
-    → ((own : K) → key ≡ Some own → list_any (has_key eq key_of own) rows ≡ false) → (q : K) → is_key eq key q ≡ true → list_any (has_key eq key_of q) rows ≡ false
+    → ((own : K) → key ≡ Some own → list_any (has_key eq key_of own) rows ≡ false) → (q : K) → is_key eq key q ≡ true
+    → list_any (has_key eq key_of q) rows ≡ false
 absent-keys eq laws key_of rows None absent q is = absurd (true≢false (sym is))
 absent-keys eq laws key_of rows (Some own) absent q is =
-    list_any-same_test (has_key eq key_of q) (has_key eq key_of own) (λ row. is_key-same eq laws own q is (key_of row)) rows ∙ absent own refl
+    list_any-same_test (has_key eq key_of q) (has_key eq key_of own)
+    (λ row. is_key-same eq laws own q is (key_of row)) rows
+    ∙ absent own refl
 
 pub no_row : {K T : Type 0} (eq : K → K → Bool) (key_of : T → Option K) (row : T) (q : K)
     → passes (has_key eq key_of q) None ≡ true → is_key eq (key_of row) q ≡ true
 no_row eq key_of row q h = absurd (true≢false (sym h))
 
 pub index-noted : {K T S : Type 0} (eq : K → K → Bool) → IsEquivalence eq
-    → (key_of : T → Option K) (places : List (Option T)) (index new : IndexMap K ℕ S) (row : T) (key : Option K) (n : ℕ) (o : Option T)
+    → (key_of : T → Option K) (places : List (Option T)) (index new : IndexMap K ℕ S) (row : T) (key : Option K)
+    (n : ℕ) (o : Option T)
     → IsIndex eq key_of places index → key ≡ key_of row → n ≡ length places
     → ((q : K) → place_of eq new q ≡ (if is_key eq key q then n ∷ [] else place_of eq index q))
     → ((own : K) → key_of row ≡ Some own → list_any (has_key eq key_of own) (rows_of places) ≡ false)
-    → ((q : K) → passes (has_key eq key_of q) o ≡ true → is_key eq (key_of row) q ≡ true) → IsIndex eq key_of (places ++ o ∷ []) new
+    → ((q : K) → passes (has_key eq key_of q) o ≡ true → is_key eq (key_of row) q ≡ true)
+    → IsIndex eq key_of (places ++ o ∷ []) new
 index-noted eq laws key_of places index new row key n o f is end says absent fits =
-    Finds-keyed o f (is_key eq (key_of row)) (λ q. says q ∙ ap (λ k. if is_key eq k q then n ∷ [] else place_of eq index q) is ∙ ap (λ m. if is_key eq (key_of row) q then m ∷ [] else place_of eq index q) end)
+    Finds-keyed o f (is_key eq (key_of row)) (λ q.
+    says q
+    ∙ ap (λ k. if is_key eq k q then n ∷ [] else place_of eq index q) is
+    ∙ ap (λ m. if is_key eq (key_of row) q then m ∷ [] else place_of eq index q) end)
     (absent-keys eq laws key_of (rows_of places) (key_of row) absent) fits
 
-pub trails-noted : {O T S Z : Type 0} (eq : O → O → Bool) (owner_of : T → Option O) (places : List (Option T)) (trails new : IndexMap O (VecDeque ℕ Z) S) (row : T) (owner : Option O) (n : ℕ) (o : Option T)
+pub trails-noted : {O T S Z : Type 0} (eq : O → O → Bool) (owner_of : T → Option O) (places : List (Option T))
+    (trails new : IndexMap O (VecDeque ℕ Z) S) (row : T) (owner : Option O) (n : ℕ) (o : Option T)
     → AreTrails eq owner_of places trails → owner ≡ owner_of row → n ≡ length places
-    → ((q : O) → trail_of eq new q ≡ (if is_key eq owner q then trail_of eq trails q ++ n ∷ [] else trail_of eq trails q))
-    → ((q : O) → passes (has_key eq owner_of q) o ≡ true → is_key eq (owner_of row) q ≡ true) → AreTrails eq owner_of (places ++ o ∷ []) new
+    → ((q : O)
+    → trail_of eq new q ≡ (if is_key eq owner q then trail_of eq trails q ++ n ∷ [] else trail_of eq trails q))
+    → ((q : O) → passes (has_key eq owner_of q) o ≡ true → is_key eq (owner_of row) q ≡ true)
+    → AreTrails eq owner_of (places ++ o ∷ []) new
 trails-noted eq owner_of places trails new row owner n o f is end says fits =
-    Finds-trailed o f (is_key eq (owner_of row)) (λ q. says q ∙ ap (λ k. if is_key eq k q then trail_of eq trails q ++ n ∷ [] else trail_of eq trails q) is
-    ∙ ap (λ m. if is_key eq (owner_of row) q then trail_of eq trails q ++ m ∷ [] else trail_of eq trails q) end) fits
+    Finds-trailed o f (is_key eq (owner_of row))
+    (λ q. says q ∙ ap (λ k. if is_key eq k q then trail_of eq trails q ++ n ∷ [] else trail_of eq trails q) is
+    ∙ ap (λ m. if is_key eq (owner_of row) q then trail_of eq trails q ++ m ∷ [] else trail_of eq trails q) end)
+    fits
 
 -- ---- where nothing is noted, and no row stands
 
@@ -52,7 +65,8 @@ index-empty eq key_of index none = record {
   exact = (λ k. ap (λ es. passing (has_key eq key_of k) [] (option_to_list (lookup (eq k) es))) none);
 }
 
-pub trails-empty : {O T Z S : Type 0} (eq : O → O → Bool) (owner_of : T → Option O) (trails : IndexMap O (VecDeque ℕ Z) S)
+pub trails-empty : {O T Z S : Type 0} (eq : O → O → Bool) (owner_of : T → Option O)
+    (trails : IndexMap O (VecDeque ℕ Z) S)
     → trails.entries ≡ [] → AreTrails eq owner_of [] trails
 trails-empty eq owner_of trails none = record {
   inside = (λ q. ap (λ es. list_all (λ p. nat_lt p 0) (option_map_or deque_items (lookup (eq q) es) [])) none);
@@ -73,29 +87,44 @@ passing-same t u same places cs = filter_agree _ _ (λ p. by (row_at places p)) 
     by None = refl
     by (Some x) = same x
 
-module _ {O T Z S : Type 0} (eq : O → O → Bool) (laws : IsEquivalence eq) (owner_of : T → Option O) (places : List (Option T)) (old new : IndexMap O (VecDeque ℕ Z) S) (owner : O) (before after : VecDeque ℕ Z)
+module _ {O T Z S : Type 0} (eq : O → O → Bool) (laws : IsEquivalence eq) (owner_of : T → Option O)
+    (places : List (Option T)) (old new : IndexMap O (VecDeque ℕ Z) S) (owner : O) (before after : VecDeque ℕ Z)
     (was : get eq old owner ≡ Some before) (is : (q : O) → get eq new q ≡ cond (eq owner q) (Some after) (get eq old q))
     (fewer : (n : ℕ) → list_all (λ p. nat_lt p n) before.items ≡ true → list_all (λ p. nat_lt p n) after.items ≡ true)
-    (as_good : passing (has_key eq owner_of owner) places after.items ≡ passing (has_key eq owner_of owner) places before.items) where
+    (as_good : passing (has_key eq owner_of owner) places after.items
+    ≡ passing (has_key eq owner_of owner) places before.items) where
   earlier : (q : O) → eq owner q ≡ true → trail_of eq old q ≡ before.items
-  earlier q e = ap (λ o. option_map_or deque_items o []) (lookup-same (eq q) (eq owner) (λ z. sym (laws.congr owner q z e)) old.entries ∙ was)
+  earlier q e =
+      ap (λ o. option_map_or deque_items o [])
+      (lookup-same (eq q) (eq owner) (λ z. sym (laws.congr owner q z e)) old.entries ∙ was)
 
   now : (q : O) → eq owner q ≡ true → trail_of eq new q ≡ after.items
   now q e = ap (λ o. option_map_or deque_items o []) (is q ∙ ap (λ b. cond b (Some after) (get eq old q)) e)
 
-  fewer-at : (q : O) → eq owner q ≡ true → (n : ℕ) → list_all (λ p. nat_lt p n) (trail_of eq old q) ≡ true → list_all (λ p. nat_lt p n) (trail_of eq new q) ≡ true
-  fewer-at q e n h = ap (list_all (λ p. nat_lt p n)) (now q e) ∙ fewer n (sym (ap (list_all (λ p. nat_lt p n)) (earlier q e)) ∙ h)
+  fewer-at : (q : O) → eq owner q ≡ true → (n : ℕ) → list_all (λ p. nat_lt p n) (trail_of eq old q) ≡ true
+      → list_all (λ p. nat_lt p n) (trail_of eq new q) ≡ true
+  fewer-at q e n h =
+      ap (list_all (λ p. nat_lt p n)) (now q e) ∙ fewer n (sym (ap (list_all (λ p. nat_lt p n)) (earlier q e)) ∙ h)
 
-  good-at : (q : O) → eq owner q ≡ true → passing (has_key eq owner_of q) places (trail_of eq new q) ≡ passing (has_key eq owner_of q) places (trail_of eq old q)
+  good-at : (q : O) → eq owner q ≡ true
+      → passing (has_key eq owner_of q) places (trail_of eq new q)
+      ≡ passing (has_key eq owner_of q) places (trail_of eq old q)
   good-at q e =
-      let same : (cs : List ℕ) → passing (has_key eq owner_of q) places cs ≡ passing (has_key eq owner_of owner) places cs =
-      passing-same (has_key eq owner_of q) (has_key eq owner_of owner) (λ row. is_key-same eq laws owner q e (owner_of row)) places in
-      ap (passing (has_key eq owner_of q) places) (now q e) ∙ same after.items ∙ as_good ∙ sym (same before.items) ∙ ap (passing (has_key eq owner_of q) places) (sym (earlier q e))
+      let same : (cs : List ℕ)
+      → passing (has_key eq owner_of q) places cs ≡ passing (has_key eq owner_of owner) places cs =
+      passing-same (has_key eq owner_of q) (has_key eq owner_of owner)
+      (λ row. is_key-same eq laws owner q e (owner_of row)) places in
+      ap (passing (has_key eq owner_of q) places) (now q e)
+      ∙ same after.items
+      ∙ as_good
+      ∙ sym (same before.items)
+      ∙ ap (passing (has_key eq owner_of q) places) (sym (earlier q e))
 
   other : (q : O) → eq owner q ≡ false → trail_of eq new q ≡ trail_of eq old q
   other q e = ap (λ o. option_map_or deque_items o []) (is q ∙ ap (λ b. cond b (Some after) (get eq old q)) e)
 
-  trimmed-by : (q : O) (b : Bool) → eq owner q ≡ b → Trims (has_key eq owner_of q) places (trail_of eq old q) (trail_of eq new q)
+  trimmed-by : (q : O) (b : Bool) → eq owner q ≡ b
+      → Trims (has_key eq owner_of q) places (trail_of eq old q) (trail_of eq new q)
   trimmed-by q true e = inr (fewer-at q e, good-at q e)
   trimmed-by q false e = inl (other q e)
 

@@ -145,22 +145,27 @@ module _ {T : Type 0} (t : T → Bool) (xs : List (Option T)) (p : ℕ) (ps : Li
   find-found = ap (find t) rows-split ∙ find-here t (rows_of s.before) s.row (rows_of s.after) before-none s.is
 
   pub any-found : list_any t (rows_of xs) ≡ true
-  any-found = ap (list_any t) rows-split ∙ grind (arith, list_any-append t (rows_of s.before) (s.row ∷ rows_of s.after), s.is)
+  any-found =
+      ap (list_any t) rows-split ∙ grind (arith, list_any-append t (rows_of s.before) (s.row ∷ rows_of s.after), s.is)
 
   pub clear-found : rows_of (set xs p None) ≡ without_first t (rows_of xs)
   clear-found =
       ap rows_of (set-split None) ∙ rows_of-append s.before (None ∷ s.after)
-      ∙ sym (ap (without_first t) rows-split ∙ without_first-here t (rows_of s.before) s.row (rows_of s.after) before-none s.is)
+      ∙ sym (ap (without_first t) rows-split
+      ∙ without_first-here t (rows_of s.before) s.row (rows_of s.after) before-none s.is)
 
   pub clear-one : ps ≡ [] → rows_of (set xs p None) ≡ filter (λ x. not (t x)) (rows_of xs)
   clear-one one =
       ap rows_of (set-split None) ∙ rows_of-append s.before (None ∷ s.after)
-      ∙ sym (ap (filter (λ x. not (t x))) rows-split ∙ filter-here t (rows_of s.before) s.row (rows_of s.after) before-none s.is (after-none one))
+      ∙ sym (ap (filter (λ x. not (t x))) rows-split
+      ∙ filter-here t (rows_of s.before) s.row (rows_of s.after) before-none s.is (after-none one))
 
-  pub map-one : ps ≡ [] → (f : T → T) → rows_of (set xs p (Some (f s.row))) ≡ map (λ x. if t x then f x else x) (rows_of xs)
+  pub map-one : ps ≡ [] → (f : T → T)
+      → rows_of (set xs p (Some (f s.row))) ≡ map (λ x. if t x then f x else x) (rows_of xs)
   map-one one f =
       ap rows_of (set-split (Some (f s.row))) ∙ rows_of-append s.before (Some (f s.row) ∷ s.after)
-      ∙ sym (ap (map (λ x. if t x then f x else x)) rows-split ∙ map-here t f (rows_of s.before) s.row (rows_of s.after) before-none s.is (after-none one))
+      ∙ sym (ap (map (λ x. if t x then f x else x)) rows-split
+      ∙ map-here t f (rows_of s.before) s.row (rows_of s.after) before-none s.is (after-none one))
 
 -- ---- changes at a place, as the candidates see them
 
@@ -212,7 +217,8 @@ pub Finds-clear : {K T : Type 0} {test : K → T → Bool} {candidates : K → L
 Finds-clear {test = test} {candidates = candidates} {places = places} i f = let z : 0 + i ≡ i = omega arith in record {
   inside = (λ k. ap (λ n. list_all (λ p. nat_lt p n) (candidates k)) (length-set places i None) ∙ f.inside k);
   exact = (λ k. passing-clear (test k) places i (candidates k) ∙ ap (filter (λ q. not (q == i))) (f.exact k)
-      ∙ ap (λ j. filter (λ q. not (q == j)) (places_where (test k) places)) (sym z) ∙ sym (places_from-clear (test k) 0 i places));
+      ∙ ap (λ j. filter (λ q. not (q == j)) (places_where (test k) places)) (sym z)
+      ∙ sym (places_from-clear (test k) 0 i places));
 }
 
 -- ---- a place at the end
@@ -238,7 +244,8 @@ inside-push n (c ∷ cs) h =
 abbrev pub Notes : {T : Type 0} → (T → Bool) → List ℕ → List ℕ → List (Option T) → Option T → Type 0
 Notes t cs new places o =
     ((new ≡ cs) × (passes t o ≡ false))
-    ⊎ ((before : List ℕ) × (new ≡ before ++ length places ∷ []) × (list_all (λ p. nat_lt p (length places)) before ≡ true) × (passing t places before ≡ places_where t places))
+    ⊎ ((before : List ℕ) × (new ≡ before ++ length places ∷ [])
+    × (list_all (λ p. nat_lt p (length places)) before ≡ true) × (passing t places before ≡ places_where t places))
 
 inside-here : (n : ℕ) (cs : List ℕ) → list_all (λ p. nat_lt p n) cs ≡ true
     → list_all (λ p. nat_lt p (n + 1)) (cs ++ n ∷ []) ≡ true
@@ -249,7 +256,8 @@ inside-here n (c ∷ cs) h =
     grind (arith, inside-here n cs, more)
 
 module _ {T : Type 0} (t : T → Bool) (places : List (Option T)) (o : Option T) (cs new : List ℕ)
-    (inside : list_all (λ p. nat_lt p (length places)) cs ≡ true) (exact : passing t places cs ≡ places_where t places) where
+    (inside : list_all (λ p. nat_lt p (length places)) cs ≡ true)
+    (exact : passing t places cs ≡ places_where t places) where
   noted-inside : Notes t cs new places o → list_all (λ p. nat_lt p (length (places ++ o ∷ []))) new ≡ true
   noted-inside (inl n) =
       let long : length (places ++ o ∷ []) ≡ length places + 1 = length-append places (o ∷ []) in
@@ -258,17 +266,23 @@ module _ {T : Type 0} (t : T → Bool) (places : List (Option T)) (o : Option T)
       let long : length (places ++ o ∷ []) ≡ length places + 1 = length-append places (o ∷ []) in
       rw (long, n.1) (inside-here (length places) n.0 n.2)
 
-  last-place : places_where t (places ++ o ∷ []) ≡ places_where t places ++ (if passes t o then length places ∷ [] else [])
-  last-place = let z : 0 + length places ≡ length places = omega arith in places_from-append t 0 places (o ∷ []) ∙ rw z refl
+  last-place : places_where t (places ++ o ∷ [])
+      ≡ places_where t places ++ (if passes t o then length places ∷ [] else [])
+  last-place =
+      let z : 0 + length places ≡ length places = omega arith in places_from-append t 0 places (o ∷ []) ∙ rw z refl
 
   noted-exact : Notes t cs new places o → passing t (places ++ o ∷ []) new ≡ places_where t (places ++ o ∷ [])
-  noted-exact (inl n) = rw (n.0, last-place, n.1) (passing-push t places o cs inside ∙ exact ∙ sym (append-nil (places_where t places)))
+  noted-exact (inl n) =
+      rw (n.0, last-place, n.1) (passing-push t places o cs inside ∙ exact ∙ sym (append-nil (places_where t places)))
   noted-exact (inr n) =
       let here : row_at (places ++ o ∷ []) (length places) ≡ o = get_or_at places o [] None (length places) refl in
       rw (n.1, last-place) (filter-append (λ p. passes t (row_at (places ++ o ∷ []) p)) n.0 (length places ∷ [])
-      ∙ ap (λ l. l ++ filter (λ p. passes t (row_at (places ++ o ∷ []) p)) (length places ∷ [])) (passing-push t places o n.0 n.2 ∙ n.3) ∙ rw here refl)
+      ∙ ap (λ l. l ++ filter (λ p. passes t (row_at (places ++ o ∷ []) p)) (length places ∷ []))
+      (passing-push t places o n.0 n.2 ∙ n.3)
+      ∙ rw here refl)
 
-pub Finds-noted : {K T : Type 0} {test : K → T → Bool} {candidates new : K → List ℕ} {places : List (Option T)} (o : Option T)
+pub Finds-noted : {K T : Type 0} {test : K → T → Bool} {candidates new : K → List ℕ} {places : List (Option T)}
+    (o : Option T)
     → Finds test candidates places
     → ((k : K) → Notes (test k) (candidates k) (new k) places o) → Finds test new (places ++ o ∷ [])
 Finds-noted {test = test} {candidates = candidates} {new = new} {places = places} o f notes = record {
@@ -299,7 +313,8 @@ passing-retain : {T : Type 0} (u t : T → Bool) (xs : List (Option T)) (cs : Li
     → passing u (map (emptied t) xs) cs ≡ filter (λ q. not (passes t (row_at xs q))) (passing u xs cs)
 passing-retain u t xs [] = refl
 passing-retain u t xs (c ∷ cs) =
-    let here : passes u (row_at (map (emptied t) xs) c) ≡ (passes u (row_at xs c) && not (passes t (row_at xs c))) = ap (passes u) (row_at-retain t xs c) ∙ passes-emptied u t (row_at xs c) in
+    let here : passes u (row_at (map (emptied t) xs) c) ≡ (passes u (row_at xs c) && not (passes t (row_at xs c))) =
+    ap (passes u) (row_at-retain t xs c) ∙ passes-emptied u t (row_at xs c) in
     grind (arith, passing-retain u t xs cs, here)
 
 retain-step : {T : Type 0} (u t : T → Bool) (x : Option T) (n : ℕ) (g : ℕ → Bool) (new old : List ℕ)
@@ -315,11 +330,15 @@ places_from-retain u t before (x ∷ xs) n count =
     (places_from-retain u t (before ++ x ∷ []) xs (n + 1) (length-append before (x ∷ []) ∙ ap (λ m. m + 1) count)
     ∙ ap (λ l. filter (λ q. not (passes t (row_at l q))) (places_from u (n + 1) xs)) (append_assoc before (x ∷ []) xs))
 
-pub Finds-retain : {K T : Type 0} {test : K → T → Bool} {candidates : K → List ℕ} {places : List (Option T)} (t : T → Bool)
+pub Finds-retain : {K T : Type 0} {test : K → T → Bool} {candidates : K → List ℕ} {places : List (Option T)}
+    (t : T → Bool)
     → Finds test candidates places → Finds test candidates (map (emptied t) places)
 Finds-retain {test = test} {candidates = candidates} {places = places} t f = record {
   inside = (λ k. ap (λ n. list_all (λ p. nat_lt p n) (candidates k)) (length-map places (emptied t)) ∙ f.inside k);
-  exact = (λ k. passing-retain (test k) t places (candidates k) ∙ ap (filter (λ q. not (passes t (row_at places q)))) (f.exact k)
+  exact =
+      (λ k.
+      passing-retain (test k) t places (candidates k)
+      ∙ ap (filter (λ q. not (passes t (row_at places q)))) (f.exact k)
       ∙ sym (places_from-retain (test k) t [] places 0 refl));
 }
 
@@ -336,15 +355,22 @@ passes-replace t (o ∷ xs) (suc i) x y at e (suc q) = passes-replace t xs i x y
 places_from-replace : {T : Type 0} (t : T → Bool) (n i : ℕ) (x y : T) (xs : List (Option T)) → row_at xs i ≡ Some x
     → t y ≡ t x → places_from t n (set xs i (Some y)) ≡ places_from t n xs
 places_from-replace t n i x y [] at e = refl
-places_from-replace t n zero x y (o ∷ xs) at e = ap (λ b. if b then n ∷ places_from t (n + 1) xs else places_from t (n + 1) xs) (e ∙ sym (ap (passes t) at))
-places_from-replace t n (suc i) x y (o ∷ xs) at e = ap (λ l. if passes t o then n ∷ l else l) (places_from-replace t (n + 1) i x y xs at e)
+places_from-replace t n zero x y (o ∷ xs) at e =
+    ap (λ b. if b then n ∷ places_from t (n + 1) xs else places_from t (n + 1) xs) (e ∙ sym (ap (passes t) at))
+places_from-replace t n (suc i) x y (o ∷ xs) at e =
+    ap (λ l. if passes t o then n ∷ l else l) (places_from-replace t (n + 1) i x y xs at e)
 
-pub Finds-replace : {K T : Type 0} {test : K → T → Bool} {candidates : K → List ℕ} {places : List (Option T)} (i : ℕ) (x y : T)
+pub Finds-replace : {K T : Type 0} {test : K → T → Bool} {candidates : K → List ℕ} {places : List (Option T)} (i : ℕ)
+    (x y : T)
     → row_at places i ≡ Some x
     → ((k : K) → test k y ≡ test k x) → Finds test candidates places → Finds test candidates (set places i (Some y))
 Finds-replace {test = test} {candidates = candidates} {places = places} i x y at same f = record {
   inside = (λ k. ap (λ n. list_all (λ p. nat_lt p n) (candidates k)) (length-set places i (Some y)) ∙ f.inside k);
-  exact = (λ k. filter_agree _ _ (passes-replace (test k) places i x y at (same k)) (candidates k) ∙ f.exact k ∙ sym (places_from-replace (test k) 0 i x y places at (same k)));
+  exact =
+      (λ k.
+      filter_agree _ _ (passes-replace (test k) places i x y at (same k)) (candidates k)
+      ∙ f.exact k
+      ∙ sym (places_from-replace (test k) 0 i x y places at (same k)));
 }
 
 -- ---- how an index takes a new place in
@@ -364,26 +390,36 @@ pub not_passing : (p b : Bool) → (p ≡ true → b ≡ true) → b ≡ false �
 not_passing true b h e = absurd (true≢false (sym (h refl) ∙ e))
 not_passing false b h e = refl
 
-module _ {K T : Type 0} {test : K → T → Bool} {candidates new : K → List ℕ} {places : List (Option T)} (o : Option T) (f : Finds test candidates places) where
+module _ {K T : Type 0} {test : K → T → Bool} {candidates new : K → List ℕ} {places : List (Option T)} (o : Option T)
+    (f : Finds test candidates places) where
   -- nothing is noted, and the place stays empty
-  pub Finds-kept : ((q : K) → new q ≡ candidates q) → ((q : K) → passes (test q) o ≡ false) → Finds test new (places ++ o ∷ [])
+  pub Finds-kept : ((q : K) → new q ≡ candidates q) → ((q : K) → passes (test q) o ≡ false)
+      → Finds test new (places ++ o ∷ [])
   Finds-kept same none = Finds-noted o f (λ q. inl (same q, none q))
 
   -- the place is noted alone for the keys of what stands there, which no row had
-  pub Finds-keyed : (is : K → Bool) → ((q : K) → new q ≡ (if is q then length places ∷ [] else candidates q)) → ((q : K) → is q ≡ true → list_any (test q) (rows_of places) ≡ false)
+  pub Finds-keyed : (is : K → Bool) → ((q : K) → new q ≡ (if is q then length places ∷ [] else candidates q))
+      → ((q : K) → is q ≡ true → list_any (test q) (rows_of places) ≡ false)
       → ((q : K) → passes (test q) o ≡ true → is q ≡ true) → Finds test new (places ++ o ∷ [])
-  Finds-keyed is says absent fits = Finds-noted o f (λ q. note q (by_test (is q) (length places ∷ []) (candidates q) (new q) (says q)))
+  Finds-keyed is says absent fits =
+      Finds-noted o f (λ q. note q (by_test (is q) (length places ∷ []) (candidates q) (new q) (says q)))
     where
-      note : (q : K) → ((is q ≡ true) × (new q ≡ length places ∷ [])) ⊎ ((is q ≡ false) × (new q ≡ candidates q)) → Notes (test q) (candidates q) (new q) places o
+      note : (q : K) → ((is q ≡ true) × (new q ≡ length places ∷ [])) ⊎ ((is q ≡ false) × (new q ≡ candidates q))
+          → Notes (test q) (candidates q) (new q) places o
       note q (inl h) = inr ([], h.1, refl, sym (places_from-absent (test q) 0 places (absent q h.0)))
       note q (inr h) = inl (h.1, not_passing (passes (test q) o) (is q) (fits q) h.0)
 
   -- the place is noted behind those of the owners of what stands there
-  pub Finds-trailed : (is : K → Bool) → ((q : K) → new q ≡ (if is q then candidates q ++ length places ∷ [] else candidates q))
+  pub Finds-trailed : (is : K → Bool)
+      → ((q : K) → new q ≡ (if is q then candidates q ++ length places ∷ [] else candidates q))
       → ((q : K) → passes (test q) o ≡ true → is q ≡ true) → Finds test new (places ++ o ∷ [])
-  Finds-trailed is says fits = Finds-noted o f (λ q. note q (by_test (is q) (candidates q ++ length places ∷ []) (candidates q) (new q) (says q)))
+  Finds-trailed is says fits =
+      Finds-noted o f
+      (λ q. note q (by_test (is q) (candidates q ++ length places ∷ []) (candidates q) (new q) (says q)))
     where
-      note : (q : K) → ((is q ≡ true) × (new q ≡ candidates q ++ length places ∷ [])) ⊎ ((is q ≡ false) × (new q ≡ candidates q)) → Notes (test q) (candidates q) (new q) places o
+      note : (q : K)
+          → ((is q ≡ true) × (new q ≡ candidates q ++ length places ∷ [])) ⊎ ((is q ≡ false) × (new q ≡ candidates q))
+          → Notes (test q) (candidates q) (new q) places o
       note q (inl h) = inr (candidates q, h.1, f.inside q, f.exact q)
       note q (inr h) = inl (h.1, not_passing (passes (test q) o) (is q) (fits q) h.0)
 
@@ -424,12 +460,14 @@ find-noted t xs (Some p) h = find-first t xs (passing t xs (p ∷ [])) (sym h) �
 pub found-noted : {T : Type 0} (t : T → Bool) (xs : List (Option T)) (noted : Option ℕ) (row : T)
     → passing t xs (option_to_list noted) ≡ places_where t xs → at_first xs (option_to_list noted) ≡ Some row
     → t row ≡ true → Some row ≡ find t (rows_of xs)
-found-noted t xs noted row exact at is = sym (find-noted t xs noted exact ∙ ap (filtered t) at ∙ ap (λ b. if b then Some row else None) is)
+found-noted t xs noted row exact at is =
+    sym (find-noted t xs noted exact ∙ ap (filtered t) at ∙ ap (λ b. if b then Some row else None) is)
 
 pub passed-noted : {T : Type 0} (t : T → Bool) (xs : List (Option T)) (noted : Option ℕ) (row : T)
     → passing t xs (option_to_list noted) ≡ places_where t xs → at_first xs (option_to_list noted) ≡ Some row
     → t row ≡ false → None ≡ find t (rows_of xs)
-passed-noted t xs noted row exact at is = sym (find-noted t xs noted exact ∙ ap (filtered t) at ∙ ap (λ b. if b then Some row else None) is)
+passed-noted t xs noted row exact at is =
+    sym (find-noted t xs noted exact ∙ ap (filtered t) at ∙ ap (λ b. if b then Some row else None) is)
 
 pub empty-noted : {T : Type 0} (t : T → Bool) (xs : List (Option T)) (noted : Option ℕ)
     → passing t xs (option_to_list noted) ≡ places_where t xs → at_first xs (option_to_list noted) ≡ None
@@ -471,7 +509,11 @@ pub goes-first : {T : Type 0} (t : T → Bool) (xs : List (Option T)) (p : ℕ) 
 goes-first t xs p h =
     let c = first-cons p (places_where t xs) h in
     let s = split-from t 0 p c.0 xs c.1 in
-    record { within = place-found t xs p c.0 s; row = row-found t xs p c.0 s ∙ sym (find-found t xs p c.0 s); rest = clear-found t xs p c.0 s }
+    record {
+      within = place-found t xs p c.0 s;
+      row = row-found t xs p c.0 s ∙ sym (find-found t xs p c.0 s);
+      rest = clear-found t xs p c.0 s;
+    }
 
 pub none-goes : {T : Type 0} (t : T → Bool) (xs : List (Option T)) → None ≡ first_of (places_where t xs)
     → (None ≡ find t (rows_of xs)) × (rows_of xs ≡ without_first t (rows_of xs))
@@ -493,7 +535,11 @@ pub goes-alone : {T : Type 0} (t : T → Bool) (xs : List (Option T)) (p : ℕ) 
     → passes t (row_at xs p) ≡ true → GoesAlone t xs p
 goes-alone t xs p exact h =
     let s = split-from t 0 p [] xs (sym exact ∙ alone t xs p h) in
-    record { within = place-found t xs p [] s; row = row-found t xs p [] s ∙ sym (find-found t xs p [] s); rest = clear-one t xs p [] s refl }
+    record {
+      within = place-found t xs p [] s;
+      row = row-found t xs p [] s ∙ sym (find-found t xs p [] s);
+      rest = clear-one t xs p [] s refl;
+    }
 
 pub none-alone : {T : Type 0} (t : T → Bool) (xs : List (Option T)) (noted : Option ℕ)
     → passing t xs (option_to_list noted) ≡ places_where t xs → passing t xs (option_to_list noted) ≡ []
@@ -519,25 +565,34 @@ pub passing-twice : {T : Type 0} (t : T → Bool) (places : List (Option T)) (cs
 passing-twice t places [] = refl
 passing-twice t places (c ∷ cs) = by (passes t (row_at places c)) refl (passing-twice t places cs)
   where
-    by : (b : Bool) → passes t (row_at places c) ≡ b → passing t places (passing t places cs) ≡ passing t places cs → passing t places (if b then c ∷ passing t places cs else passing t places cs) ≡ (if b then c ∷ passing t places cs else passing t places cs)
-    by true e rest = ap (λ b. if b then c ∷ passing t places (passing t places cs) else passing t places (passing t places cs)) e ∙ ap (λ l. c ∷ l) rest
+    by : (b : Bool) → passes t (row_at places c) ≡ b → passing t places (passing t places cs) ≡ passing t places cs
+        → passing t places (if b then c ∷ passing t places cs else passing t places cs)
+        ≡ (if b then c ∷ passing t places cs else passing t places cs)
+    by true e rest =
+        ap (λ b. if b then c ∷ passing t places (passing t places cs) else passing t places (passing t places cs)) e
+        ∙ ap (λ l. c ∷ l) rest
     by false e rest = rest
 
 -- the candidates of a key are as before, or fewer that are as good
 abbrev pub Trims : {T : Type 0} → (T → Bool) → List (Option T) → List ℕ → List ℕ → Type 0
 Trims t places cs new =
-    (new ≡ cs) ⊎ (((n : ℕ) → list_all (λ p. nat_lt p n) cs ≡ true → list_all (λ p. nat_lt p n) new ≡ true) × (passing t places new ≡ passing t places cs))
+    (new ≡ cs)
+    ⊎ (((n : ℕ) → list_all (λ p. nat_lt p n) cs ≡ true → list_all (λ p. nat_lt p n) new ≡ true)
+    × (passing t places new ≡ passing t places cs))
 
 pub Finds-trimmed : {K T : Type 0} {test : K → T → Bool} {candidates new : K → List ℕ} {places : List (Option T)}
     → Finds test candidates places
     → ((k : K) → Trims (test k) places (candidates k) (new k)) → Finds test new places
-Finds-trimmed {test = test} {candidates = candidates} {new = new} {places = places} f says = record { inside = (λ k. inside k (says k)); exact = (λ k. exact k (says k)) }
+Finds-trimmed {test = test} {candidates = candidates} {new = new} {places = places} f says =
+    record { inside = (λ k. inside k (says k)); exact = (λ k. exact k (says k)) }
   where
-    inside : (k : _) → Trims (test k) places (candidates k) (new k) → list_all (λ p. nat_lt p (length places)) (new k) ≡ true
+    inside : (k : _) → Trims (test k) places (candidates k) (new k)
+        → list_all (λ p. nat_lt p (length places)) (new k) ≡ true
     inside k (inl h) = ap (list_all (λ p. nat_lt p (length places))) h ∙ f.inside k
     inside k (inr h) = h.0 (length places) (f.inside k)
 
-    exact : (k : _) → Trims (test k) places (candidates k) (new k) → passing (test k) places (new k) ≡ places_where (test k) places
+    exact : (k : _) → Trims (test k) places (candidates k) (new k)
+        → passing (test k) places (new k) ≡ places_where (test k) places
     exact k (inl h) = ap (passing (test k) places) h ∙ f.exact k
     exact k (inr h) = h.1 ∙ f.exact k
 
@@ -546,30 +601,41 @@ Finds-trimmed {test = test} {candidates = candidates} {new = new} {places = plac
 kept-at : {T : Type 0} (xs : List (Option T)) (p : ℕ) (o : Option T) → row_at xs p ≡ o → set xs p o ≡ xs
 kept-at xs p o at = ap (set xs p) (sym at) ∙ set-get_or xs p None
 
-module _ {T : Type 0} (t : T → Bool) (f : T → T) (xs : List (Option T)) (p : ℕ) (exact : passing t xs (p ∷ []) ≡ places_where t xs) where
+module _ {T : Type 0} (t : T → Bool) (f : T → T) (xs : List (Option T)) (p : ℕ)
+    (exact : passing t xs (p ∷ []) ≡ places_where t xs) where
   changed : T → T
   changed x = if t x then f x else x
 
   none-changes : passing t xs (p ∷ []) ≡ [] → rows_of xs ≡ map (λ x. if t x then f x else x) (rows_of xs)
   none-changes h = sym (map-none t f (rows_of xs) (places_from-none t 0 xs (sym exact ∙ h)))
 
-  changed-at : (o : Option T) → row_at xs p ≡ o → rows_of (set xs p (option_map (λ x. if t x then f x else x) o)) ≡ map (λ x. if t x then f x else x) (rows_of xs)
+  changed-at : (o : Option T) → row_at xs p ≡ o
+      → rows_of (set xs p (option_map (λ x. if t x then f x else x) o)) ≡ map (λ x. if t x then f x else x) (rows_of xs)
   changed-at None at = ap rows_of (kept-at xs p None at) ∙ none-changes (not-passing t xs p (ap (passes t) at))
   changed-at (Some x) at = by (t x) refl
     where
-      by : (b : Bool) → t x ≡ b → rows_of (set xs p (Some (if t x then f x else x))) ≡ map (λ x. if t x then f x else x) (rows_of xs)
-      by false is = ap (λ b. rows_of (set xs p (Some (if b then f x else x)))) is ∙ ap rows_of (kept-at xs p (Some x) at) ∙ none-changes (not-passing t xs p (ap (passes t) at ∙ is))
-      by true is = ap (λ b. rows_of (set xs p (Some (if b then f x else x)))) is ∙ changes (split-from t 0 p [] xs (sym exact ∙ alone t xs p (ap (passes t) at ∙ is)))
+      by : (b : Bool) → t x ≡ b
+          → rows_of (set xs p (Some (if t x then f x else x))) ≡ map (λ x. if t x then f x else x) (rows_of xs)
+      by false is =
+          ap (λ b. rows_of (set xs p (Some (if b then f x else x)))) is
+          ∙ ap rows_of (kept-at xs p (Some x) at)
+          ∙ none-changes (not-passing t xs p (ap (passes t) at ∙ is))
+      by true is =
+          ap (λ b. rows_of (set xs p (Some (if b then f x else x)))) is
+          ∙ changes (split-from t 0 p [] xs (sym exact ∙ alone t xs p (ap (passes t) at ∙ is)))
         where
-          changes : SplitsAt t 0 xs p [] → rows_of (set xs p (Some (f x))) ≡ map (λ x. if t x then f x else x) (rows_of xs)
+          changes : SplitsAt t 0 xs p []
+              → rows_of (set xs p (Some (f x))) ≡ map (λ x. if t x then f x else x) (rows_of xs)
           changes s =
               let same : Some x ≡ Some s.row = sym at ∙ row-found t xs p [] s in
               ap (λ o. rows_of (set xs p (option_map f o))) same ∙ map-one t xs p [] s refl f
 
-  pub rows_of-changed : rows_of (set xs p (option_map (λ x. if t x then f x else x) (row_at xs p))) ≡ map (λ x. if t x then f x else x) (rows_of xs)
+  pub rows_of-changed : rows_of (set xs p (option_map (λ x. if t x then f x else x) (row_at xs p)))
+      ≡ map (λ x. if t x then f x else x) (rows_of xs)
   rows_of-changed = changed-at (row_at xs p) refl
 
-pub Finds-changed : {K T : Type 0} {test : K → T → Bool} {candidates : K → List ℕ} {places : List (Option T)} (f : T → T) (p : ℕ)
+pub Finds-changed : {K T : Type 0} {test : K → T → Bool} {candidates : K → List ℕ} {places : List (Option T)}
+    (f : T → T) (p : ℕ)
     → ((k : K) (x : T) → test k (f x) ≡ test k x)
     → Finds test candidates places → Finds test candidates (set places p (option_map f (row_at places p)))
 Finds-changed {test = test} {candidates = candidates} {places = places} f p same finds = by (row_at places p) refl
@@ -589,7 +655,8 @@ unless-test get t f same x = by (t x)
 pub noted-within : (n p : ℕ) (noted : Option ℕ) → noted ≡ Some p
     → list_all (λ q. nat_lt q n) (option_to_list noted) ≡ true → p < n
 noted-within n p noted is h =
-    let here : list_all (λ q. nat_lt q n) (p ∷ []) ≡ true = ap (λ o. list_all (λ q. nat_lt q n) (option_to_list o)) (sym is) ∙ h in
+    let here : list_all (λ q. nat_lt q n) (p ∷ []) ≡ true =
+    ap (λ o. list_all (λ q. nat_lt q n) (option_to_list o)) (sym is) ∙ h in
     grind (arith, nat_tests, here)
 
 pub none-changed : {T : Type 0} (t : T → Bool) (f : T → T) (xs : List (Option T)) → [] ≡ places_where t xs
@@ -604,7 +671,9 @@ row-alone (Some x) = refl
 pub rows_of-more : {T : Type 0} (xs : List (Option T)) (i : ℕ) (o : Option T) → i < length xs → o ≡ get_or xs i o
     → rows_of (take (i + 1) xs) ≡ rows_of (take i xs) ++ option_to_list o
 rows_of-more xs i o below is =
-    ap rows_of (take_more xs i o below) ∙ rows_of-append (take i xs) (get_or xs i o ∷ []) ∙ ap (λ p. rows_of (take i xs) ++ p) (row-alone (get_or xs i o) ∙ ap option_to_list (sym is))
+    ap rows_of (take_more xs i o below)
+    ∙ rows_of-append (take i xs) (get_or xs i o ∷ [])
+    ∙ ap (λ p. rows_of (take i xs) ++ p) (row-alone (get_or xs i o) ∙ ap option_to_list (sym is))
 
 -- ---- rows that go one by one
 
@@ -613,16 +682,26 @@ pub one-gone : {T : Type 0} (t : T → Bool) (xs : List T)
 one-gone t [] = refl
 one-gone t (x ∷ xs) = by (t x) refl (one-gone t xs)
   where
-    by : (b : Bool) → t x ≡ b → filter (λ y. not (t y)) (without_first t xs) ≡ filter (λ y. not (t y)) xs → filter (λ y. not (t y)) (if b then xs else x ∷ without_first t xs) ≡ (if not b then x ∷ filter (λ y. not (t y)) xs else filter (λ y. not (t y)) xs)
+    by : (b : Bool) → t x ≡ b → filter (λ y. not (t y)) (without_first t xs) ≡ filter (λ y. not (t y)) xs
+        → filter (λ y. not (t y)) (if b then xs else x ∷ without_first t xs)
+        ≡ (if not b then x ∷ filter (λ y. not (t y)) xs else filter (λ y. not (t y)) xs)
     by true e rest = refl
-    by false e rest = ap (λ b. if not b then x ∷ filter (λ y. not (t y)) (without_first t xs) else filter (λ y. not (t y)) (without_first t xs)) e ∙ ap (λ l. x ∷ l) rest
+    by false e rest =
+        ap (λ b.
+        if not b
+        then x ∷ filter (λ y. not (t y)) (without_first t xs)
+        else filter (λ y. not (t y)) (without_first t xs))
+        e
+        ∙ ap (λ l. x ∷ l) rest
 
 pub one-fewer : {T : Type 0} (t : T → Bool) (xs : List T) (y : T) → find t xs ≡ Some y
     → length (without_first t xs) < length xs
 one-fewer t [] y h = absurd (cc h)
 one-fewer t (x ∷ xs) y h = by (t x) h (one-fewer t xs y)
   where
-    by : (b : Bool) → (if b then Some x else find t xs) ≡ Some y → (find t xs ≡ Some y → length (without_first t xs) < length xs) → length (if b then xs else x ∷ without_first t xs) < suc (length xs)
+    by : (b : Bool) → (if b then Some x else find t xs) ≡ Some y
+        → (find t xs ≡ Some y → length (without_first t xs) < length xs)
+        → length (if b then xs else x ∷ without_first t xs) < suc (length xs)
     by true e less = omega arith
     by false e less = omega (arith, less e)
 

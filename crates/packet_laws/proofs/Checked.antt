@@ -19,7 +19,8 @@ two-of_six false b c d e f h = cc
 held-both : (host : Host) (s : Share) → has_objects_of host s ≡ true
     → (are_in rule_eq s.rules host.rules ≡ true) × (are_in lease_eq s.leases host.leases ≡ true)
 held-both host s h =
-    two-of_six (are_in link_eq s.links host.links) (are_in addr_obj_eq s.addresses host.addresses) (are_in route_eq s.routes host.routes) (are_in rule_eq s.rules host.rules)
+    two-of_six (are_in link_eq s.links host.links) (are_in addr_obj_eq s.addresses host.addresses)
+    (are_in route_eq s.routes host.routes) (are_in rule_eq s.rules host.rules)
     (are_in setting_eq s.settings host.settings) (are_in lease_eq s.leases host.leases) h
 
 -- the host holds all that the cached result wants
@@ -32,6 +33,8 @@ held p host checked att list cached attached =
 pub checked_hosts_are_complete : CheckedHostsAreComplete
 checked_hosts_are_complete p host checked = record {
   cached = checked.cached;
-  rules = λ att list cached attached. (held-both host (wanted_of list att cached) (held p host checked att list cached attached)).0;
-  leases = λ att list cached attached. (held-both host (wanted_of list att cached) (held p host checked att list cached attached)).1;
+  rules = λ att list cached attached.
+      (held-both host (wanted_of list att cached) (held p host checked att list cached attached)).0;
+  leases = λ att list cached attached.
+      (held-both host (wanted_of list att cached) (held p host checked att list cached attached)).1;
 }

@@ -137,7 +137,8 @@ rules_once = each_key_once-first_of_each rule_eq (partial_equiv_from_equiv rule_
 -- ---- leases
 
 lease_of_parts : (n m : List ℕ) (a b : Addr) (t u : Tag) → n ≡ m → a ≡ b → t ≡ u
-    → let x : Lease = record { network = n; addr = a; tag = t } in let y : Lease = record { network = m; addr = b; tag = u } in x ≡ y
+    → let x : Lease = record { network = n; addr = a; tag = t } in
+    let y : Lease = record { network = m; addr = b; tag = u } in x ≡ y
 lease_of_parts n m a b t u en ea et = cc
 
 pub lease-equal : (a b : Lease) → lease_eq a b ≡ true → a ≡ b

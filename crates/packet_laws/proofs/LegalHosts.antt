@@ -44,8 +44,12 @@ wanted-rules : (list : NetList) (att : Att) (cached : Cached)
     → (wanted_of list att cached).rules ≡ rules_for list att cached
 wanted-rules list att cached entry =
     let addrs = addresses_of_result cached.result in
-    let ips : (first_plugin_result list att cached.netns addrs).ips ≡ cached.result.ips = sym (ap (λ (x : Cached). x.result.ips) entry ∙ added-ips list att cached.netns addrs) in
-    ap (λ rules. rules ++ chained_rules att cached.mappings (first_plugin_result list att cached.netns addrs).ips list.chained) (first-rules list.first att (given_by_list list addrs))
+    let ips : (first_plugin_result list att cached.netns addrs).ips ≡ cached.result.ips =
+    sym (ap (λ (x : Cached). x.result.ips) entry ∙ added-ips list att cached.netns addrs) in
+    ap (λ rules.
+    rules
+    ++ chained_rules att cached.mappings (first_plugin_result list att cached.netns addrs).ips list.chained)
+    (first-rules list.first att (given_by_list list addrs))
     ∙ ap (λ i. rules_by (has_ip_masq list.first) att (given_by_list list addrs) cached.mappings i list.chained) ips
 
 -- mappings are handed to a list that takes them alone
@@ -61,7 +65,9 @@ takes-handed list c m at = handed (list_any takes_mappings list.chained) _ m at
 -- the list of the ADD is that of the attachment's network
 add-listed : (p : Plan) (h : List Entry) (att : Att) (cached : Cached) (r : IsResultOfItsAdd p h att cached)
     → list_named p.lists att.network ≡ Some r.add.list
-add-listed p h att cached r = ap (λ (a : Att). list_named p.lists a.network) (sym r.add.attachment) ∙ list_named-listed p r.add.by.command r.add.list r.add.listed
+add-listed p h att cached r =
+    ap (λ (a : Att). list_named p.lists a.network) (sym r.add.attachment)
+    ∙ list_named-listed p r.add.by.command r.add.list r.add.listed
 
 same-cached : (l m : NetList) (att : Att) (n o : List ℕ) (ms ns : List PortMapping) (g h : List Addr) → l ≡ m → n ≡ o
     → ms ≡ ns → g ≡ h → cached_of l att n ms g ≡ cached_of m att o ns h
@@ -85,21 +91,42 @@ settled-by p h att list cached complete attached r =
     let netns : c.netns ≡ cached.netns = sym (ap (λ (x : Cached). x.netns) r.entry) in
     let mappings : mappings_of r.add.list c ≡ cached.mappings = sym (ap (λ (x : Cached). x.mappings) r.entry) in
     let addresses : given ≡ addresses_of_result cached.result = sym r.addresses in
-    let entry : cached ≡ cached_of list att cached.netns cached.mappings (addresses_of_result cached.result) = r.entry ∙ same-cached r.add.list list att c.netns cached.netns (mappings_of r.add.list c) cached.mappings given (addresses_of_result cached.result) lists netns mappings addresses in
-    let all : wanted r.add.list (att_of c) c.netns (mappings_of r.add.list c) given ≡ wanted_of list att cached = same-wanted r.add.list list (att_of c) att c.netns cached.netns (mappings_of r.add.list c) cached.mappings given (addresses_of_result cached.result) lists r.add.attachment netns mappings addresses in
-    let rules : (wanted r.add.list (att_of c) c.netns (mappings_of r.add.list c) given).rules ≡ rules_for list att cached = ap (λ s. s.rules) all ∙ wanted-rules list att cached entry in
+    let entry : cached ≡ cached_of list att cached.netns cached.mappings (addresses_of_result cached.result) =
+    r.entry
+    ∙ same-cached r.add.list list att c.netns cached.netns (mappings_of r.add.list c) cached.mappings given
+    (addresses_of_result cached.result) lists netns mappings addresses in
+    let all : wanted r.add.list (att_of c) c.netns (mappings_of r.add.list c) given ≡ wanted_of list att cached =
+    same-wanted r.add.list list (att_of c) att c.netns cached.netns (mappings_of r.add.list c) cached.mappings given
+    (addresses_of_result cached.result) lists r.add.attachment netns mappings addresses in
+    let rules : (wanted r.add.list (att_of c) c.netns (mappings_of r.add.list c) given).rules
+    ≡ rules_for list att cached =
+    ap (λ s. s.rules) all ∙ wanted-rules list att cached entry in
     record {
-      leased = subst (λ l. AreCandidates (sets_of l) (addresses_of_result cached.result)) lists (subst (AreCandidates (sets_of r.add.list)) addresses r.leased);
-      takes = λ m at. subst (λ (l : NetList). list_any takes_mappings l.chained ≡ true) lists (takes-handed r.add.list c m (subst (IsAmong m) (sym mappings) at));
+      leased =
+          subst (λ l. AreCandidates (sets_of l) (addresses_of_result cached.result)) lists
+          (subst (AreCandidates (sets_of r.add.list)) addresses r.leased);
+      takes = λ m at.
+          subst (λ (l : NetList). list_any takes_mappings l.chained ≡ true) lists
+          (takes-handed r.add.list c m (subst (IsAmong m) (sym mappings) at));
       rules = subst (IsPart (share_of att host).rules) rules r.add.objects.rules;
-      rules_there = λ x at. are_in-among rule_eq rule-equal (wanted_of list att cached).rules host.rules (complete.rules att list cached attached) x (subst (IsAmong x) (sym (wanted-rules list att cached entry)) at);
+      rules_there = λ x at.
+          are_in-among rule_eq rule-equal (wanted_of list att cached).rules host.rules
+          (complete.rules att list cached attached) x
+          (subst (IsAmong x) (sym (wanted-rules list att cached entry)) at);
       leases = subst (IsPart (share_of att host).leases) (ap (λ s. s.leases) all) r.add.objects.leases;
-      leases_there = are_in-among lease_eq lease-equal (wanted_of list att cached).leases host.leases (complete.leases att list cached attached);
+      leases_there =
+          are_in-among lease_eq lease-equal (wanted_of list att cached).leases host.leases
+          (complete.leases att list cached attached);
       only = λ o at tag.
           let mine = filter-among (λ (x : CachedObj). is_own att x.tag) o host.cached at (own-own att o.tag tag) in
-          let kept : CachedObj = record { cached = cached_of r.add.list (att_of c) c.netns (mappings_of r.add.list c) given; tag = Own (att_of c) } in
-          ap (λ (x : CachedObj). x.cached) (one-object o kept (among-part o (share_of att host).cached (kept ∷ []) r.add.objects.cached mine))
-          ∙ ap (λ (a : Att). cached_of r.add.list a c.netns (mappings_of r.add.list c) given) r.add.attachment ∙ sym r.entry;
+          let kept : CachedObj = record {
+            cached = cached_of r.add.list (att_of c) c.netns (mappings_of r.add.list c) given;
+            tag = Own (att_of c);
+          } in
+          ap (λ (x : CachedObj). x.cached)
+          (one-object o kept (among-part o (share_of att host).cached (kept ∷ []) r.add.objects.cached mine))
+          ∙ ap (λ (a : Att). cached_of r.add.list a c.netns (mappings_of r.add.list c) given) r.add.attachment
+          ∙ sym r.entry;
     }
 
 some-of : (o : Option Cached) → is_some o ≡ true → (cached : Cached) × (o ≡ Some cached)
@@ -117,6 +144,11 @@ settled law w legal complete =
       attached = λ att has.
           let kept = some-of (cached_in (host_of w) att) (complete.cached att has) in
           let r = now.results att kept.0 kept.1 in
-          record { list = r.add.list; cached = kept.0; is = record { listed = add-listed w.plan w.history att kept.0 r; kept = kept.1 } };
-      settled = λ att list cached attached. settled-by w.plan w.history att list cached complete attached (now.results att cached attached.kept);
+          record {
+            list = r.add.list;
+            cached = kept.0;
+            is = record { listed = add-listed w.plan w.history att kept.0 r; kept = kept.1 };
+          };
+      settled = λ att list cached attached.
+          settled-by w.plan w.history att list cached complete attached (now.results att cached attached.kept);
     }

@@ -32,11 +32,23 @@ pub record IsFirst {X : Type 0} (p : X → Bool) (xs : List X) (x : X) : Type 0 
   pub passes : p x ≡ true
 
 first-here : {X : Type 0} (p : X → Bool) (y x : X) (ys : List X) → p y ≡ true → Some y ≡ Some x → IsFirst p (y ∷ ys) x
-first-here p y x ys is e = record { before = []; after = ys; are = ap (λ z. z ∷ ys) (same_Some y x e); none_before = refl; passes = subst (λ z. p z ≡ true) (same_Some y x e) is }
+first-here p y x ys is e = record {
+  before = [];
+  after = ys;
+  are = ap (λ z. z ∷ ys) (same_Some y x e);
+  none_before = refl;
+  passes = subst (λ z. p z ≡ true) (same_Some y x e) is;
+}
 
 first-later : {X : Type 0} (p : X → Bool) (y x : X) (ys : List X) → p y ≡ false → IsFirst p ys x → IsFirst p (y ∷ ys) x
 first-later p y x ys not f =
-    record { before = y ∷ f.before; after = f.after; are = ap (λ l. y ∷ l) f.are; none_before = (let none = f.none_before in grind (arith, not, none)); passes = f.passes }
+    record {
+      before = y ∷ f.before;
+      after = f.after;
+      are = ap (λ l. y ∷ l) f.are;
+      none_before = (let none = f.none_before in grind (arith, not, none));
+      passes = f.passes;
+    }
 
 find-some : {X : Type 0} (b : Bool) (y x : X) (o : Option X) → (if b then Some y else o) ≡ Some x
     → ((b ≡ true) × (Some y ≡ Some x)) ⊎ ((b ≡ false) × (o ≡ Some x))
@@ -162,7 +174,8 @@ find-kept p keep false false y ys w rest is = rest
 pub find-filter : {X : Type 0} (p keep : X → Bool) (xs : List X) → ((x : X) → IsAmong x xs → p x ≡ true → keep x ≡ true)
     → find p (filter keep xs) ≡ find p xs
 find-filter p keep [] w = refl
-find-filter p keep (y ∷ ys) w = find-kept p keep (p y) (keep y) y ys (w y (inl refl)) (find-filter p keep ys (λ x at. w x (inr at))) refl
+find-filter p keep (y ∷ ys) w =
+    find-kept p keep (p y) (keep y) y ys (w y (inl refl)) (find-filter p keep ys (λ x at. w x (inr at))) refl
 
 -- ---- elements that are the same by a test only where they are equal
 
@@ -172,7 +185,8 @@ pub record IsSame {X : Type 0} (same : X → X → Bool) : Type 0 where
 
 pub any-same : {X : Type 0} (same : X → X → Bool) → IsSame same → (x : X) (xs : List X) → list_any (same x) xs ≡ true
     → IsAmong x xs
-any-same same s x xs is = let found = any-among (same x) xs is in subst (λ y. IsAmong y xs) (sym (s.equal x found.0 found.2)) found.1
+any-same same s x xs is =
+    let found = any-among (same x) xs is in subst (λ y. IsAmong y xs) (sym (s.equal x found.0 found.2)) found.1
 
 pub same-any : {X : Type 0} (same : X → X → Bool) → IsSame same → (x : X) (xs : List X) → IsAmong x xs
     → list_any (same x) xs ≡ true
@@ -183,7 +197,9 @@ part-rest : {X : Type 0} (same : X → X → Bool) → IsSame same → (x y : X)
     → distinct same (x ∷ xs) ≡ true → ((z : X) → IsAmong z (x ∷ xs) → IsAmong z (y ∷ ys)) → (z : X) → IsAmong z xs
     → IsAmong z ys
 part-rest same s x y xs ys e apart w z at = elim (w z (inr at)) [
-  | inl here ↦ (let there = same-any same s x xs (subst (λ v. IsAmong v xs) (here ∙ sym e) at) in absurd (both_ways (list_any (same x) xs) (grind (arith, apart)) there))
+  | inl here ↦
+      (let there = same-any same s x xs (subst (λ v. IsAmong v xs) (here ∙ sym e) at) in
+      absurd (both_ways (list_any (same x) xs) (grind (arith, apart)) there))
   | inr later ↦ later
 ]
 
@@ -195,7 +211,9 @@ part-whole same s (y ∷ ys) (x ∷ xs) d apart w = elim d [
   | inl e ↦
       let rest = part-whole same s ys xs e.1 (grind (arith, apart)) (part-rest same s x y xs ys e.0 apart w) in
       ap (λ z. z ∷ ys) (sym e.0) ∙ ap (λ l. x ∷ l) rest
-  | inr drop ↦ (let there = same-any same s x xs (among-part x (y ∷ ys) xs drop.1 (w x (inl refl))) in absurd (both_ways (list_any (same x) xs) (grind (arith, apart)) there))
+  | inr drop ↦
+      (let there = same-any same s x xs (among-part x (y ∷ ys) xs drop.1 (w x (inl refl))) in
+      absurd (both_ways (list_any (same x) xs) (grind (arith, apart)) there))
 ]
 
 -- ---- the first that passes, where each key stands once
@@ -225,7 +243,8 @@ once-there p false kept x w = sym (or-none (find p kept))
 once-step : {X : Type 0} (p : X → Bool) (same : X → X → Bool) → IsSame same → (b : Bool) (kept : List X) (x : X)
     → list_any (same x) kept ≡ b
     → find p (if b then kept else kept ++ x ∷ []) ≡ option_or (find p kept) (if p x then Some x else None)
-once-step p same s true kept x there = once-there p (p x) kept x (λ is. any-found p kept (among-any p x kept (any-same same s x kept there) is))
+once-step p same s true kept x there =
+    once-there p (p x) kept x (λ is. any-found p kept (among-any p x kept (any-same same s x kept there) is))
 once-step p same s false kept x none = find-append p kept (x ∷ [])
 
 once-kept : {X : Type 0} (p : X → Bool) (same : X → X → Bool) → IsSame same → (kept xs : List X)

@@ -13,11 +13,16 @@ use Rattle.packet_laws.proofs.Matching.{outer-matches}
 
 pub inner-from : (att : Att) (g : Given) (q : Packet) → IsPacket q
     → matches_in chains.Masq q (no_masquerade_in_subnet att g) ≡ true → g.address.addr ≡ q.src
-inner-from att g q one h = addr-same g.address.addr q.src (and_parts (addr_eq g.address.addr q.src) (contains g.subnet q.dst) (sym (inner-matches att g q one) ∙ h)).0
+inner-from att g q one h =
+    addr-same g.address.addr q.src
+    (and_parts (addr_eq g.address.addr q.src) (contains g.subnet q.dst) (sym (inner-matches att g q one) ∙ h)).0
 
 pub outer-from : (att : Att) (g : Given) (q : Packet) → IsPacket q
     → matches_in chains.Masq q (masquerade_out att g) ≡ true → g.address.addr ≡ q.src
-outer-from att g q one h = addr-same g.address.addr q.src (and_parts (addr_eq g.address.addr q.src) (not (contains (multicast g.address.addr.family) q.dst)) (sym (outer-matches att g q one) ∙ h)).0
+outer-from att g q one h =
+    addr-same g.address.addr q.src
+    (and_parts (addr_eq g.address.addr q.src) (not (contains (multicast g.address.addr.family) q.dst))
+    (sym (outer-matches att g q one) ∙ h)).0
 
 -- ---- the rules of all addresses
 
@@ -29,7 +34,8 @@ abbrev found_in : Att → Packet → List Given → Option Rule
 found_in att q gs = find (matches_in chains.Masq q) (flat_map (masquerade_of att) gs)
 
 says-two : (b c : Bool) (att : Att) (g : Given) (o : Option Rule)
-    → says (if b then Some (no_masquerade_in_subnet att g) else (if c then Some (masquerade_out att g) else o)) ≡ (if b then false else (if c then true else says o))
+    → says (if b then Some (no_masquerade_in_subnet att g) else (if c then Some (masquerade_out att g) else o))
+    ≡ (if b then false else (if c then true else says o))
 says-two true c att g o = refl
 says-two false true att g o = refl
 says-two false false att g o = refl
@@ -39,10 +45,14 @@ abbrev said_by : Bool → Bool → Bool → Bool → Bool
 said_by same inside many rest = if same && inside then false else (if same && not many then true else rest)
 
 says-more : (att : Att) (q : Packet) (g : Given) (gs : List Given) → IsPacket q
-    → says (found_in att q (g ∷ gs)) ≡ said_by (addr_eq g.address.addr q.src) (contains g.subnet q.dst) (contains (multicast g.address.addr.family) q.dst) (says (found_in att q gs))
+    → says (found_in att q (g ∷ gs))
+    ≡ said_by (addr_eq g.address.addr q.src) (contains g.subnet q.dst)
+    (contains (multicast g.address.addr.family) q.dst) (says (found_in att q gs))
 says-more att q g gs one =
-    says-two (matches_in chains.Masq q (no_masquerade_in_subnet att g)) (matches_in chains.Masq q (masquerade_out att g)) att g (found_in att q gs)
-    ∙ ap₂ (λ b c. if b then false else (if c then true else says (found_in att q gs))) (inner-matches att g q one) (outer-matches att g q one)
+    says-two (matches_in chains.Masq q (no_masquerade_in_subnet att g))
+    (matches_in chains.Masq q (masquerade_out att g)) att g (found_in att q gs)
+    ∙ ap₂ (λ b c. if b then false else (if c then true else says (found_in att q gs))) (inner-matches att g q one)
+    (outer-matches att g q one)
 
 -- none masquerades what goes to many
 no-more : (same inside many rest : Bool) → (same ≡ true → many ≡ true) → rest ≡ false
@@ -57,8 +67,10 @@ many-says : (att : Att) (q : Packet) (gs : List Given) → IsPacket q → contai
 many-says att q [] one many = refl
 many-says att q (g ∷ gs) one many =
     says-more att q g gs one
-    ∙ no-more (addr_eq g.address.addr q.src) (contains g.subnet q.dst) (contains (multicast g.address.addr.family) q.dst) (says (found_in att q gs))
-    (λ same. ap (λ (a : Addr). contains (multicast a.family) q.dst) (addr-same g.address.addr q.src same) ∙ many) (many-says att q gs one many)
+    ∙ no-more (addr_eq g.address.addr q.src) (contains g.subnet q.dst)
+    (contains (multicast g.address.addr.family) q.dst) (says (found_in att q gs))
+    (λ same. ap (λ (a : Addr). contains (multicast a.family) q.dst) (addr-same g.address.addr q.src same) ∙ many)
+    (many-says att q gs one many)
 
 -- so where the packet comes from this address the rest says nothing more
 decided : (same inside many rest : Bool) → (same ≡ true → many ≡ true → rest ≡ false)
@@ -86,8 +98,10 @@ says-source att q [] one = refl
 says-source att q (g ∷ gs) one =
     let same = addr_eq g.address.addr q.src in
     says-more att q g gs one
-    ∙ decided same (contains g.subnet q.dst) (contains (multicast g.address.addr.family) q.dst) (says (found_in att q gs))
-    (λ is many. many-says att q gs one (ap (λ (a : Addr). contains (multicast a.family) q.dst) (sym (addr-same g.address.addr q.src is)) ∙ many))
+    ∙ decided same (contains g.subnet q.dst) (contains (multicast g.address.addr.family) q.dst)
+    (says (found_in att q gs))
+    (λ is many. many-says att q gs one
+    (ap (λ (a : Addr). contains (multicast a.family) q.dst) (sym (addr-same g.address.addr q.src is)) ∙ many))
     ∙ ap (λ rest. if same then is_outward g q.dst else rest) (says-source att q gs one)
     ∙ sym (source-by q same g (source_in q gs))
 
@@ -96,5 +110,7 @@ pub says-masq : (ip_masq : Bool) (att : Att) (q : Packet) (gs : List Given) (g :
     → source_in q gs ≡ Some g
     → says (find (matches_in chains.Masq q) (masquerade_rules ip_masq att gs)) ≡ (ip_masq && is_outward g q.dst)
 says-masq true att q gs g one is =
-    ap says (find-each_key_once (matches_in chains.Masq q) rule_eq rule-same (flat_map (masquerade_of att) gs)) ∙ says-source att q gs one ∙ ap (outward_by q) is
+    ap says (find-each_key_once (matches_in chains.Masq q) rule_eq rule-same (flat_map (masquerade_of att) gs))
+    ∙ says-source att q gs one
+    ∙ ap (outward_by q) is
 says-masq false att q gs g one is = refl

@@ -18,13 +18,15 @@ use Rattle.std.specs.Cmp.Derive.{one_truth}
 network-part : (c : Cidr) (a : Addr) (f : Family) → a.family ≡ f → (is_of_family f c && contains c a) ≡ contains c a
 network-part c a f same =
     one_truth (is_of_family f c && contains c a) (contains c a) (λ h. (and_parts (is_of_family f c) (contains c a) h).1)
-    (λ inside. and_from (is_of_family f c) (contains c a) (ap (λ g. family_eq g f) (((contains_between c a).0 inside).0 ∙ same) ∙ family-itself f) inside)
+    (λ inside. and_from (is_of_family f c) (contains c a)
+    (ap (λ g. family_eq g f) (((contains_between c a).0 inside).0 ∙ same) ∙ family-itself f) inside)
 
 -- that of one address has no other
 whole-part : (a b : Addr) (f : Family) → b.family ≡ f → (is_of_family f (whole a) && contains (whole a) b) ≡ addr_eq a b
 whole-part a b f same =
     network-part (whole a) b f same
-    ∙ one_truth (contains (whole a) b) (addr_eq a b) (λ inside. equal-addr a b ((contains_whole a b).0 inside)) (λ is. (contains_whole a b).1 (addr-same a b is))
+    ∙ one_truth (contains (whole a) b) (addr_eq a b) (λ inside. equal-addr a b ((contains_whole a b).0 inside))
+    (λ is. (contains_whole a b).1 (addr-same a b is))
 
 -- ---- published ports
 
@@ -39,15 +41,19 @@ published_alone false true c p n = refl
 published_alone false false c p n = refl
 
 to-host : (q : Packet) (o : Option Addr) (l p n : Bool)
-    → ((asks (is_of_family q.dst.family) (option_map whole o) && l) && (asks (is_to false q.dst) (option_map whole o) && (p && (n && true)))) ≡ (l && (asks (λ ip. addr_eq ip q.dst) o && (p && n)))
+    → ((asks (is_of_family q.dst.family) (option_map whole o) && l)
+    && (asks (is_to false q.dst) (option_map whole o) && (p && (n && true))))
+    ≡ (l && (asks (λ ip. addr_eq ip q.dst) o && (p && n)))
 to-host q None l p n = published_alone true l true p n
 to-host q (Some ip) l p n =
-    published_alone (is_of_family q.dst.family (whole ip)) l (contains (whole ip) q.dst) p n ∙ ap (λ b. l && (b && (p && n))) (whole-part ip q.dst q.dst.family refl)
+    published_alone (is_of_family q.dst.family (whole ip)) l (contains (whole ip) q.dst) p n
+    ∙ ap (λ b. l && (b && (p && n))) (whole-part ip q.dst q.dst.family refl)
 
 -- the packets of the mapping, in the family of the address that it leads to
 pub dnat-matches : (att : Att) (m : PortMapping) (a : Addr) (q : Packet)
     → matches_in chains.Dnat q (dnat_of att m a) ≡ (family_eq a.family q.dst.family && is_for q m)
-dnat-matches att m a q = to-host q m.host_ip (family_eq a.family q.dst.family) (proto_eq q.protocol m.protocol) (nat_eq q.dport m.host_port)
+dnat-matches att m a q =
+    to-host q m.host_ip (family_eq a.family q.dst.family) (proto_eq q.protocol m.protocol) (nat_eq q.dport m.host_port)
 
 -- ---- what is let through
 
@@ -59,7 +65,9 @@ from_alone false c = refl
 -- what comes from the address
 pub from-matches : (att : Att) (a : Addr) (q : Packet) → IsPacket q
     → matches_in chains.Forward q (accept_from att a) ≡ addr_eq a q.src
-from-matches att a q one = from_alone (is_of_family q.dst.family (whole a)) (contains (whole a) q.src) ∙ whole-part a q.src q.dst.family one.family
+from-matches att a q one =
+    from_alone (is_of_family q.dst.family (whole a)) (contains (whole a) q.src)
+    ∙ whole-part a q.src q.dst.family one.family
 
 replies_alone : (f c e : Bool) → ((f && true) && (c && e)) ≡ ((f && c) && e)
 replies_alone true c e = refl
@@ -69,7 +77,8 @@ replies_alone false c e = refl
 pub replies-matches : (att : Att) (a : Addr) (q : Packet)
     → matches_in chains.Forward q (accept_replies_to att a) ≡ (addr_eq a q.dst && q.established)
 replies-matches att a q =
-    replies_alone (is_of_family q.dst.family (whole a)) (contains (whole a) q.dst) q.established ∙ ap (λ b. b && q.established) (whole-part a q.dst q.dst.family refl)
+    replies_alone (is_of_family q.dst.family (whole a)) (contains (whole a) q.dst) q.established
+    ∙ ap (λ b. b && q.established) (whole-part a q.dst q.dst.family refl)
 
 -- ---- what leaves a container
 
@@ -83,10 +92,13 @@ both_alone false g c d = refl
 
 -- what comes from the address and goes into its subnet
 pub inner-matches : (att : Att) (g : Given) (q : Packet) → IsPacket q
-    → matches_in chains.Masq q (no_masquerade_in_subnet att g) ≡ (addr_eq g.address.addr q.src && contains g.subnet q.dst)
+    → matches_in chains.Masq q (no_masquerade_in_subnet att g)
+    ≡ (addr_eq g.address.addr q.src && contains g.subnet q.dst)
 inner-matches att g q one =
-    both_alone (is_of_family q.dst.family (whole g.address.addr)) (is_of_family q.dst.family g.subnet) (contains (whole g.address.addr) q.src) (contains g.subnet q.dst)
-    ∙ ap₂ (λ b c. b && c) (whole-part g.address.addr q.src q.dst.family one.family) (network-part g.subnet q.dst q.dst.family refl)
+    both_alone (is_of_family q.dst.family (whole g.address.addr)) (is_of_family q.dst.family g.subnet)
+    (contains (whole g.address.addr) q.src) (contains g.subnet q.dst)
+    ∙ ap₂ (λ b c. b && c) (whole-part g.address.addr q.src q.dst.family one.family)
+    (network-part g.subnet q.dst q.dst.family refl)
 
 multicast-family : (f : Family) → (multicast f).addr.family ≡ f
 multicast-family V4 = refl
@@ -98,12 +110,18 @@ of_source true f d w = ap (λ b. b && d) (w refl)
 of_source false f d w = refl
 
 pub outer-matches : (att : Att) (g : Given) (q : Packet) → IsPacket q
-    → matches_in chains.Masq q (masquerade_out att g) ≡ (addr_eq g.address.addr q.src && not (contains (multicast g.address.addr.family) q.dst))
+    → matches_in chains.Masq q (masquerade_out att g)
+    ≡ (addr_eq g.address.addr q.src && not (contains (multicast g.address.addr.family) q.dst))
 outer-matches att g q one =
     let many = multicast g.address.addr.family in
-    both_alone (is_of_family q.dst.family (whole g.address.addr)) (is_of_family q.dst.family many) (contains (whole g.address.addr) q.src) (not (contains many q.dst))
-    ∙ ap (λ b. b && (is_of_family q.dst.family many && not (contains many q.dst))) (whole-part g.address.addr q.src q.dst.family one.family)
+    both_alone (is_of_family q.dst.family (whole g.address.addr)) (is_of_family q.dst.family many)
+    (contains (whole g.address.addr) q.src) (not (contains many q.dst))
+    ∙ ap (λ b. b && (is_of_family q.dst.family many && not (contains many q.dst)))
+    (whole-part g.address.addr q.src q.dst.family one.family)
     ∙ of_source (addr_eq g.address.addr q.src) (is_of_family q.dst.family many) (not (contains many q.dst))
     (λ same.
-    let family = multicast-family g.address.addr.family ∙ ap (λ (a : Addr). a.family) (addr-same g.address.addr q.src same) ∙ one.family in
+    let family =
+    multicast-family g.address.addr.family
+    ∙ ap (λ (a : Addr). a.family) (addr-same g.address.addr q.src same)
+    ∙ one.family in
     ap (λ f. family_eq f q.dst.family) family ∙ family-itself q.dst.family)

@@ -14,4 +14,5 @@ goes law p host s packet one = record {
 }
 
 pub every_packet_goes_as_cached : EveryLegalHistoryIsGuaranteed → CandidatesAreGiven → EveryPacketGoesAsCached
-every_packet_goes_as_cached history law w legal complete packet one = goes law w.plan (host_of w) (settled history w legal complete) packet one
+every_packet_goes_as_cached history law w legal complete packet one =
+    goes law w.plan (host_of w) (settled history w legal complete) packet one

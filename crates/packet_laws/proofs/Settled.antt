@@ -14,7 +14,9 @@ use Rattle.kernel_types.proofs.Isolation.{is_own-one}
 
 -- the rules that the cached result wants, plugin by plugin
 abbrev pub rules_for : NetList → Att → Cached → List Rule
-rules_for list att cached = rules_by (has_ip_masq list.first) att (given_by_list list (addresses_of_result cached.result)) cached.mappings cached.result.ips list.chained
+rules_for list att cached =
+    rules_by (has_ip_masq list.first) att (given_by_list list (addresses_of_result cached.result)) cached.mappings
+    cached.result.ips list.chained
 
 -- the host has of the attachment what its cached result wants: these rules and leases, in order, and no other result
 pub record IsSettledFor (host : Host) (att : Att) (list : NetList) (cached : Cached) : Type 0 where
@@ -35,7 +37,8 @@ pub record Attached (p : Plan) (host : Host) (att : Att) : Type 0 where
 pub record IsSettled (p : Plan) (host : Host) : Type 0 where
   pub sound : IsSound host
   pub attached : (att : Att) → has_objects host att ≡ true → Attached p host att
-  pub settled : (att : Att) (list : NetList) (cached : Cached) → IsAttached p host att list cached → IsSettledFor host att list cached
+  pub settled : (att : Att) (list : NetList) (cached : Cached) → IsAttached p host att list cached
+      → IsSettledFor host att list cached
 
 -- ---- who owns an object
 
@@ -67,21 +70,30 @@ pub rule-of : (p : Plan) (host : Host) → IsSettled p host → (r : Rule) → I
 rule-of p host s r at =
     let own = owner r.tag (all-among (λ (x : Rule). is_owned x.tag) r host.rules s.sound.rules.tags at) in
     let mine = own-own own.0 r.tag own.1 in
-    let a = s.attached own.0 (some_rule-objects host own.0 (among-any (λ (x : Rule). is_own own.0 x.tag) r host.rules at mine)) in
+    let a =
+    s.attached own.0
+    (some_rule-objects host own.0 (among-any (λ (x : Rule). is_own own.0 x.tag) r host.rules at mine)) in
     record {
       att = own.0;
       tag = own.1;
       attached = a;
-      wanted = among-part r (share_of own.0 host).rules (rules_for a.list own.0 a.cached) (s.settled own.0 a.list a.cached a.is).rules (filter-among (λ (x : Rule). is_own own.0 x.tag) r host.rules at mine);
+      wanted =
+          among-part r (share_of own.0 host).rules (rules_for a.list own.0 a.cached)
+          (s.settled own.0 a.list a.cached a.is).rules
+          (filter-among (λ (x : Rule). is_own own.0 x.tag) r host.rules at mine);
     }
 
 pub lessee : (p : Plan) (host : Host) → IsSettled p host → (att : Att) (l : Lease) → IsAmong l host.leases
     → l.tag ≡ Own att → Attached p host att
-lessee p host s att l at tag = s.attached att (some_lease-objects host att (among-any (λ (x : Lease). is_own att x.tag) l host.leases at (own-own att l.tag tag)))
+lessee p host s att l at tag =
+    s.attached att (some_lease-objects host att
+    (among-any (λ (x : Lease). is_own att x.tag) l host.leases at (own-own att l.tag tag)))
 
 pub keeper : (p : Plan) (host : Host) → IsSettled p host → (att : Att) (c : CachedObj) → IsAmong c host.cached
     → c.tag ≡ Own att → Attached p host att
-keeper p host s att c at tag = s.attached att (some_cached-objects host att (among-any (λ (x : CachedObj). is_own att x.tag) c host.cached at (own-own att c.tag tag)))
+keeper p host s att c at tag =
+    s.attached att (some_cached-objects host att
+    (among-any (λ (x : CachedObj). is_own att x.tag) c host.cached at (own-own att c.tag tag)))
 
 -- the cached object of an attachment
 found-object : (cs : List CachedObj) (p : CachedObj → Bool) (cached : Cached)
@@ -90,11 +102,16 @@ found-object : (cs : List CachedObj) (p : CachedObj → Bool) (cached : Cached)
 found-object [] p cached is = absurd (none-some cached is)
 found-object (c ∷ cs) p cached is = found-step (p c) c cs p cached refl is (λ later. found-object cs p cached later)
   where
-    found-step : (b : Bool) (c : CachedObj) (cs : List CachedObj) (p : CachedObj → Bool) (cached : Cached) → p c ≡ b → option_map (λ (c : CachedObj). c.cached) (if b then Some c else find p cs) ≡ Some cached
-        → (option_map (λ (c : CachedObj). c.cached) (find p cs) ≡ Some cached → (d : CachedObj) × IsAmong d cs × (p d ≡ true) × (d.cached ≡ cached)) → (d : CachedObj) × IsAmong d (c ∷ cs) × (p d ≡ true) × (d.cached ≡ cached)
+    found-step : (b : Bool) (c : CachedObj) (cs : List CachedObj) (p : CachedObj → Bool) (cached : Cached) → p c ≡ b
+        → option_map (λ (c : CachedObj). c.cached) (if b then Some c else find p cs) ≡ Some cached
+        → (option_map (λ (c : CachedObj). c.cached) (find p cs) ≡ Some cached
+        → (d : CachedObj) × IsAmong d cs × (p d ≡ true) × (d.cached ≡ cached))
+        → (d : CachedObj) × IsAmong d (c ∷ cs) × (p d ≡ true) × (d.cached ≡ cached)
     found-step true c cs p cached test is rest = (c, inl refl, test, same_Some c.cached cached is)
     found-step false c cs p cached test is rest = let r = rest is in (r.0, inr r.1, r.2, r.3)
 
 pub cached-object : (host : Host) (att : Att) (cached : Cached) → cached_in host att ≡ Some cached
     → (c : CachedObj) × IsAmong c host.cached × (c.tag ≡ Own att) × (c.cached ≡ cached)
-cached-object host att cached is = let found = found-object host.cached (λ c. is_own att c.tag) cached is in (found.0, found.1, is_own-one att found.0.tag found.2, found.3)
+cached-object host att cached is =
+    let found = found-object host.cached (λ c. is_own att c.tag) cached is in
+    (found.0, found.1, is_own-one att found.0.tag found.2, found.3)

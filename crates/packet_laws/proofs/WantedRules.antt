@@ -24,7 +24,8 @@ chained_rules att mappings ips chained = flat_map (λ c. rules_of c att mappings
 
 -- those of the first plugin, and those of the chained ones
 abbrev pub rules_by : Bool → Att → List Given → List PortMapping → List IpEntry → List Chained → List Rule
-rules_by ip_masq att given mappings ips chained = masquerade_rules ip_masq att given ++ chained_rules att mappings ips chained
+rules_by ip_masq att given mappings ips chained =
+    masquerade_rules ip_masq att given ++ chained_rules att mappings ips chained
 
 pub first-rules : (first : First) (att : Att) (given : List Given)
     → (plugin_of first).rules att given ≡ masquerade_rules (has_ip_masq first) att given
@@ -44,33 +45,47 @@ dnat-of : (c : Chained) (att : Att) (mappings : List PortMapping) (ips : List Ip
 unfolding chained_plugin_of
 dnat-of (Portmap conf) att mappings ips r at chain = dnat-rule conf att mappings ips r at chain
 dnat-of (Firewall conf) att mappings ips r at chain =
-    absurd (both_ways (is_in chains.Forward r) (apart chains.Dnat chains.Forward r chain refl) (all-among (is_in chains.Forward) r (firewall_rules att ips) (firewall-chains att ips) at))
+    absurd (both_ways (is_in chains.Forward r) (apart chains.Dnat chains.Forward r chain refl)
+    (all-among (is_in chains.Forward) r (firewall_rules att ips) (firewall-chains att ips) at))
 dnat-of (Tuning conf) att mappings ips r at chain = absurd at
 
-pub dnat-wanted : (ip_masq : Bool) (att : Att) (given : List Given) (mappings : List PortMapping) (ips : List IpEntry) (chained : List Chained) (r : Rule)
+pub dnat-wanted : (ip_masq : Bool) (att : Att) (given : List Given) (mappings : List PortMapping) (ips : List IpEntry)
+    (chained : List Chained) (r : Rule)
     → IsAmong r (rules_by ip_masq att given mappings ips chained) → r.chain ≡ chains.Dnat
     → IsDnatRule att mappings ips r
-dnat-wanted ip_masq att given mappings ips chained r at chain = elim (among-either r (masquerade_rules ip_masq att given) (chained_rules att mappings ips chained) at) [
-  | inl first ↦
-      absurd (both_ways (is_in chains.Masq r) (apart chains.Dnat chains.Masq r chain refl) (all-among (is_in chains.Masq) r (masquerade_rules ip_masq att given) (masquerade-chains ip_masq att given) first))
-  | inr later ↦ (let of = among-flat (λ c. rules_of c att mappings ips) r chained later in dnat-of of.0 att mappings ips r of.2 chain)
-]
+dnat-wanted ip_masq att given mappings ips chained r at chain =
+    elim (among-either r (masquerade_rules ip_masq att given) (chained_rules att mappings ips chained) at) [
+      | inl first ↦
+          absurd (both_ways (is_in chains.Masq r) (apart chains.Dnat chains.Masq r chain refl)
+          (all-among (is_in chains.Masq) r (masquerade_rules ip_masq att given)
+          (masquerade-chains ip_masq att given) first))
+      | inr later ↦
+          (let of = among-flat (λ c. rules_of c att mappings ips) r chained later in
+          dnat-of of.0 att mappings ips r of.2 chain)
+    ]
 
-portmap-there : (c : Chained) (att : Att) (mappings : List PortMapping) (ips : List IpEntry) (m : PortMapping) (f : Family) (ip : IpEntry)
+portmap-there : (c : Chained) (att : Att) (mappings : List PortMapping) (ips : List IpEntry) (m : PortMapping)
+    (f : Family) (ip : IpEntry)
     → takes_mappings c ≡ true → IsAmong m mappings → first_of_family f ips ≡ Some ip
-    → host_ip_allows m.host_ip ip.address.addr ≡ true → IsAmong (dnat_of att m ip.address.addr) (rules_of c att mappings ips)
+    → host_ip_allows m.host_ip ip.address.addr ≡ true
+    → IsAmong (dnat_of att m ip.address.addr) (rules_of c att mappings ips)
 unfolding chained_plugin_of
-portmap-there (Portmap conf) att mappings ips m f ip takes mapped first allows = dnat-there conf att mappings ips m f ip mapped first allows
+portmap-there (Portmap conf) att mappings ips m f ip takes mapped first allows =
+    dnat-there conf att mappings ips m f ip mapped first allows
 portmap-there (Firewall conf) att mappings ips m f ip takes mapped first allows = cc
 portmap-there (Tuning conf) att mappings ips m f ip takes mapped first allows = cc
 
-pub wanted-dnat : (ip_masq : Bool) (att : Att) (given : List Given) (mappings : List PortMapping) (ips : List IpEntry) (chained : List Chained) (m : PortMapping) (f : Family) (ip : IpEntry)
+pub wanted-dnat : (ip_masq : Bool) (att : Att) (given : List Given) (mappings : List PortMapping) (ips : List IpEntry)
+    (chained : List Chained) (m : PortMapping) (f : Family) (ip : IpEntry)
     → list_any takes_mappings chained ≡ true
-    → IsAmong m mappings → first_of_family f ips ≡ Some ip → host_ip_allows m.host_ip ip.address.addr ≡ true → IsAmong (dnat_of att m ip.address.addr) (rules_by ip_masq att given mappings ips chained)
+    → IsAmong m mappings → first_of_family f ips ≡ Some ip → host_ip_allows m.host_ip ip.address.addr ≡ true
+    → IsAmong (dnat_of att m ip.address.addr) (rules_by ip_masq att given mappings ips chained)
 wanted-dnat ip_masq att given mappings ips chained m f ip takes mapped first allows =
     let by = any-among takes_mappings chained takes in
-    among-right (dnat_of att m ip.address.addr) (masquerade_rules ip_masq att given) (chained_rules att mappings ips chained)
-    (flat-among (λ c. rules_of c att mappings ips) (dnat_of att m ip.address.addr) by.0 chained by.1 (portmap-there by.0 att mappings ips m f ip by.2 mapped first allows))
+    among-right (dnat_of att m ip.address.addr) (masquerade_rules ip_masq att given)
+    (chained_rules att mappings ips chained)
+    (flat-among (λ c. rules_of c att mappings ips) (dnat_of att m ip.address.addr) by.0 chained by.1
+    (portmap-there by.0 att mappings ips m f ip by.2 mapped first allows))
 
 -- ---- what is let through
 
@@ -79,38 +94,51 @@ forward-of : (c : Chained) (att : Att) (mappings : List PortMapping) (ips : List
     → (is_firewall c ≡ true) × IsForwardRule att ips r
 unfolding chained_plugin_of
 forward-of (Portmap conf) att mappings ips r at chain =
-    absurd (both_ways (is_of_port r) (ap₂ (λ x y. x || y) (apart chains.Forward chains.Dnat r chain refl) (apart chains.Forward chains.HostMasq r chain refl)) (all-among is_of_port r (portmap_rules conf att mappings ips) (portmap-chains conf att mappings ips) at))
+    absurd (both_ways (is_of_port r)
+    (ap₂ (λ x y. x || y) (apart chains.Forward chains.Dnat r chain refl)
+    (apart chains.Forward chains.HostMasq r chain refl))
+    (all-among is_of_port r (portmap_rules conf att mappings ips) (portmap-chains conf att mappings ips) at))
 forward-of (Firewall conf) att mappings ips r at chain = (refl, forward-rule att ips r at)
 forward-of (Tuning conf) att mappings ips r at chain = absurd at
 
-pub forward-wanted : (ip_masq : Bool) (att : Att) (given : List Given) (mappings : List PortMapping) (ips : List IpEntry) (chained : List Chained) (r : Rule)
+pub forward-wanted : (ip_masq : Bool) (att : Att) (given : List Given) (mappings : List PortMapping)
+    (ips : List IpEntry) (chained : List Chained) (r : Rule)
     → IsAmong r (rules_by ip_masq att given mappings ips chained) → r.chain ≡ chains.Forward
     → (list_any is_firewall chained ≡ true) × IsForwardRule att ips r
-forward-wanted ip_masq att given mappings ips chained r at chain = elim (among-either r (masquerade_rules ip_masq att given) (chained_rules att mappings ips chained) at) [
-  | inl first ↦
-      absurd (both_ways (is_in chains.Masq r) (apart chains.Forward chains.Masq r chain refl) (all-among (is_in chains.Masq) r (masquerade_rules ip_masq att given) (masquerade-chains ip_masq att given) first))
-  | inr later ↦
-      (let of = among-flat (λ c. rules_of c att mappings ips) r chained later in
-      let by = forward-of of.0 att mappings ips r of.2 chain in
-      (among-any is_firewall of.0 chained of.1 by.0, by.1))
-]
+forward-wanted ip_masq att given mappings ips chained r at chain =
+    elim (among-either r (masquerade_rules ip_masq att given) (chained_rules att mappings ips chained) at) [
+      | inl first ↦
+          absurd (both_ways (is_in chains.Masq r) (apart chains.Forward chains.Masq r chain refl)
+          (all-among (is_in chains.Masq) r (masquerade_rules ip_masq att given)
+          (masquerade-chains ip_masq att given) first))
+      | inr later ↦
+          (let of = among-flat (λ c. rules_of c att mappings ips) r chained later in
+          let by = forward-of of.0 att mappings ips r of.2 chain in
+          (among-any is_firewall of.0 chained of.1 by.0, by.1))
+    ]
 
 firewall-of : (c : Chained) (att : Att) (mappings : List PortMapping) (ips : List IpEntry) (ip : IpEntry)
     → is_firewall c ≡ true → IsAmong ip ips
-    → IsAmong (accept_from att ip.address.addr) (rules_of c att mappings ips) × IsAmong (accept_replies_to att ip.address.addr) (rules_of c att mappings ips)
+    → IsAmong (accept_from att ip.address.addr) (rules_of c att mappings ips)
+    × IsAmong (accept_replies_to att ip.address.addr) (rules_of c att mappings ips)
 unfolding chained_plugin_of
 firewall-of (Portmap conf) att mappings ips ip is there = cc
 firewall-of (Firewall conf) att mappings ips ip is there = (from-there att ips ip there, replies-there att ips ip there)
 firewall-of (Tuning conf) att mappings ips ip is there = cc
 
-pub wanted-forward : (ip_masq : Bool) (att : Att) (given : List Given) (mappings : List PortMapping) (ips : List IpEntry) (chained : List Chained) (ip : IpEntry)
+pub wanted-forward : (ip_masq : Bool) (att : Att) (given : List Given) (mappings : List PortMapping)
+    (ips : List IpEntry) (chained : List Chained) (ip : IpEntry)
     → list_any is_firewall chained ≡ true → IsAmong ip ips
-    → IsAmong (accept_from att ip.address.addr) (rules_by ip_masq att given mappings ips chained) × IsAmong (accept_replies_to att ip.address.addr) (rules_by ip_masq att given mappings ips chained)
+    → IsAmong (accept_from att ip.address.addr) (rules_by ip_masq att given mappings ips chained)
+    × IsAmong (accept_replies_to att ip.address.addr) (rules_by ip_masq att given mappings ips chained)
 wanted-forward ip_masq att given mappings ips chained ip is there =
     let by = any-among is_firewall chained is in
     let both = firewall-of by.0 att mappings ips ip by.2 there in
-    let into : (r : Rule) → IsAmong r (rules_of by.0 att mappings ips) → IsAmong r (rules_by ip_masq att given mappings ips chained) =
-    λ r at. among-right r (masquerade_rules ip_masq att given) (chained_rules att mappings ips chained) (flat-among (λ c. rules_of c att mappings ips) r by.0 chained by.1 at) in
+    let into :
+    (r : Rule) → IsAmong r (rules_of by.0 att mappings ips)
+    → IsAmong r (rules_by ip_masq att given mappings ips chained) =
+    λ r at. among-right r (masquerade_rules ip_masq att given) (chained_rules att mappings ips chained)
+    (flat-among (λ c. rules_of c att mappings ips) r by.0 chained by.1 at) in
     (into (accept_from att ip.address.addr) both.0, into (accept_replies_to att ip.address.addr) both.1)
 
 -- ---- what leaves a container
@@ -122,8 +150,12 @@ is_chained_rule r = is_of_port r || is_in chains.Forward r
 chained-chains : (c : Chained) (att : Att) (mappings : List PortMapping) (ips : List IpEntry)
     → list_all is_chained_rule (rules_of c att mappings ips) ≡ true
 unfolding chained_plugin_of
-chained-chains (Portmap conf) att mappings ips = list_all-weaker is_of_port is_chained_rule (λ r h. grind (arith, h)) (portmap_rules conf att mappings ips) (portmap-chains conf att mappings ips)
-chained-chains (Firewall conf) att mappings ips = list_all-weaker (is_in chains.Forward) is_chained_rule (λ r h. grind (arith, h)) (firewall_rules att ips) (firewall-chains att ips)
+chained-chains (Portmap conf) att mappings ips =
+    list_all-weaker is_of_port is_chained_rule (λ r h. grind (arith, h)) (portmap_rules conf att mappings ips)
+    (portmap-chains conf att mappings ips)
+chained-chains (Firewall conf) att mappings ips =
+    list_all-weaker (is_in chains.Forward) is_chained_rule (λ r h. grind (arith, h)) (firewall_rules att ips)
+    (firewall-chains att ips)
 chained-chains (Tuning conf) att mappings ips = refl
 
 in-chain : (chain : Chain)
@@ -135,12 +167,15 @@ in-chain chains.Masq h = cc
 in-chain chains.Forward h = refl
 
 -- so there are those of the first plugin alone
-pub masq-wanted : (ip_masq : Bool) (att : Att) (given : List Given) (mappings : List PortMapping) (ips : List IpEntry) (chained : List Chained)
+pub masq-wanted : (ip_masq : Bool) (att : Att) (given : List Given) (mappings : List PortMapping) (ips : List IpEntry)
+    (chained : List Chained)
     → filter (is_in chains.Masq) (rules_by ip_masq att given mappings ips chained) ≡ masquerade_rules ip_masq att given
 masq-wanted ip_masq att given mappings ips chained =
     let first = masquerade_rules ip_masq att given in
     let later = chained_rules att mappings ips chained in
     filter-append (is_in chains.Masq) first later
     ∙ ap₂ (λ xs ys. xs ++ ys) (filter-all (is_in chains.Masq) first (masquerade-chains ip_masq att given))
-    (filter_never (is_in chains.Masq) is_chained_rule (λ r. in-chain r.chain) later (list_all-flat is_chained_rule (λ c. rules_of c att mappings ips) (λ c. chained-chains c att mappings ips) chained))
+    (filter_never (is_in chains.Masq) is_chained_rule (λ r. in-chain r.chain) later
+    (list_all-flat is_chained_rule (λ c. rules_of c att mappings ips)
+    (λ c. chained-chains c att mappings ips) chained))
     ∙ append-nil first

@@ -25,7 +25,12 @@ sent-way : (p : Packet) (t : Target) → p.established ≡ false → leads_into 
     → IsOnItsWay p (unwrap_or (sent_to p t) p)
 sent-way p targets.Accept new leads = unmoved p
 sent-way p targets.Masquerade new leads = unmoved p
-sent-way p (targets.Dnat addr port) new leads = record { src = refl; established = refl; family = family_eq-true addr.family p.dst.family leads; stands = λ established. cc }
+sent-way p (targets.Dnat addr port) new leads = record {
+  src = refl;
+  established = refl;
+  family = family_eq-true addr.family p.dst.family leads;
+  stands = λ established. cc;
+}
 
 found-way : (p : Packet) (o : Option Rule) → p.established ≡ false
     → ((r : Rule) → o ≡ Some r → leads_into p.dst.family r.target ≡ true)
@@ -48,7 +53,9 @@ abbrev pub moved : List Rule → Packet → Packet
 moved rules p = unwrap_or (rewriting rules p) p
 
 pub on_its_way : (rules : List Rule) (p : Packet) → IsOnItsWay p (moved rules p)
-on_its_way rules p = way-by p.established p (first_match chains.Dnat rules p) refl (λ r is. matches-leads p r (first-found (matches_in chains.Dnat p) rules r is).passes)
+on_its_way rules p =
+    way-by p.established p (first_match chains.Dnat rules p) refl
+    (λ r is. matches-leads p r (first-found (matches_in chains.Dnat p) rules r is).passes)
 
 -- its addresses have one family still
 pub one-moved : (p q : Packet) → IsPacket p → IsOnItsWay p q → IsPacket q
@@ -57,7 +64,8 @@ one-moved p q one way = record { family = ap (λ (a : Addr). a.family) way.src �
 -- ---- its fate
 
 accepted-by : (rules : List Rule) (p : Packet) (o : Option Packet)
-    → (option_map_or (fate_at rules true) o (fate_at rules false p)).accepted ≡ any_match chains.Forward rules (unwrap_or o p)
+    → (option_map_or (fate_at rules true) o (fate_at rules false p)).accepted
+    ≡ any_match chains.Forward rules (unwrap_or o p)
 accepted-by rules p None = refl
 accepted-by rules p (Some q) = refl
 

@@ -22,8 +22,12 @@ unfolding contains
 range-entry addr r formed is =
     let parts = and_parts (family_eq addr.family r.start.family) _ is in
     let below = and_parts (nat_le r.start.bits addr.bits) _ parts.1 in
-    let starts = family_eq-true r.subnet.addr.family r.start.family (and_parts (family_eq r.subnet.addr.family r.start.family) _ formed.start_inside).0 in
-    let ends = family_eq-true r.subnet.addr.family r.end.family (and_parts (family_eq r.subnet.addr.family r.end.family) _ formed.end_inside).0 in
+    let starts =
+    family_eq-true r.subnet.addr.family r.start.family
+    (and_parts (family_eq r.subnet.addr.family r.start.family) _ formed.start_inside).0 in
+    let ends =
+    family_eq-true r.subnet.addr.family r.end.family
+    (and_parts (family_eq r.subnet.addr.family r.end.family) _ formed.end_inside).0 in
     let family : addr.family ≡ r.subnet.addr.family = family_eq-true addr.family r.start.family parts.0 ∙ sym starts in
     let least : addr.bits < bits_below r.end.family = grind (arith, nat_tests, below.1, formed.end_is_addr.within) in
     record {
@@ -51,7 +55,9 @@ given-entries [] addrs formed = tt
 given-entries (s ∷ ss) [] formed = tt
 given-entries (s ∷ ss) (a ∷ more) formed =
     entries-cons (given_by_set s a) (given_of ss more)
-    (found-entry a (find (is_between a) s.ranges) (find-all IsWellFormedRange (is_between a) s.ranges (recursion_from_All IsWellFormedRange s.ranges formed.0.ranges)))
+    (found-entry a (find (is_between a) s.ranges)
+    (find-all IsWellFormedRange (is_between a) s.ranges
+    (recursion_from_All IsWellFormedRange s.ranges formed.0.ranges)))
     (given-entries ss more formed.1)
 
 pub record IsIpamResult (r : AddResult) : Type 0 where
@@ -63,6 +69,7 @@ pub ipam-result : (ipam : Option HostLocalConf) (addrs : List Addr) (version : V
 ipam-result None addrs version formed = record { ips = tt; routes = tt }
 ipam-result (Some conf) addrs version formed = record {
   ips = given-entries conf.sets addrs (recursion_from_All IsWellFormedSet conf.sets formed.sets);
-  routes = everywhere IsWellFormedRoute IsRouteEntry conf.routes (λ r is. record { dst = is.is_cidr; gw = is.hop_is_addr })
+  routes =
+      everywhere IsWellFormedRoute IsRouteEntry conf.routes (λ r is. record { dst = is.is_cidr; gw = is.hop_is_addr })
       (recursion_from_All IsWellFormedRoute conf.routes formed.routes);
 }

@@ -25,7 +25,14 @@ tuned-is : (conf : TuningConf) (version : Version) (i : Interface) → IsWellFor
     → IsInterfaceOf version i → IsInterfaceOf version (tuned_interface conf version i)
 tuned-is conf version i formed is =
     let new = mtu-within version conf.mtu (if_some-weaker IsMtu (λ n. n < 2 ^ 32) conf.mtu mtu-small formed.mtu) in
-    if-is version (is_some i.sandbox) (record { name = i.name; mac = option_or conf.mac i.mac; mtu = option_or (mtu_since_1_1 version conf.mtu) i.mtu; sandbox = i.sandbox }) i
+    if-is version (is_some i.sandbox)
+    (record {
+      name = i.name;
+      mac = option_or conf.mac i.mac;
+      mtu = option_or (mtu_since_1_1 version conf.mtu) i.mtu;
+      sandbox = i.sandbox;
+    })
+    i
     (record {
       mac = or-is IsMac conf.mac i.mac formed.mac is.mac;
       mtu = or-is (λ n. n < 2 ^ 32) (mtu_since_1_1 version conf.mtu) i.mtu new is.mtu;
@@ -37,7 +44,8 @@ all-tuned : (conf : TuningConf) (version : Version) (interfaces : List Interface
     → AllByRecursion (IsInterfaceOf version) interfaces
     → AllByRecursion (IsInterfaceOf version) (map (tuned_interface conf version) interfaces)
 all-tuned conf version [] formed all = tt
-all-tuned conf version (i ∷ more) formed all = (tuned-is conf version i formed all.0, all-tuned conf version more formed all.1)
+all-tuned conf version (i ∷ more) formed all =
+    (tuned-is conf version i formed all.0, all-tuned conf version more formed all.1)
 
 chained-readable : (c : Chained) (prev : AddResult) → IsWellFormedChained c → IsReadable prev
     → IsReadable (chained_result c prev)
@@ -48,10 +56,13 @@ chained-readable (Tuning conf) prev formed is = record {
   interfaces = all-tuned conf prev.version prev.interfaces formed is.interfaces;
   ips = is.ips;
   routes = is.routes;
-  indexes = subst (λ (n : ℕ). are_on n prev.ips ≡ true) (sym (length-map prev.interfaces (tuned_interface conf prev.version))) is.indexes;
+  indexes =
+      subst (λ (n : ℕ). are_on n prev.ips ≡ true)
+      (sym (length-map prev.interfaces (tuned_interface conf prev.version))) is.indexes;
 }
 
 pub all-readable : (cs : List Chained) (prev : AddResult) → AllByRecursion IsWellFormedChained cs → IsReadable prev
     → IsReadable (all_chained_results cs prev)
 all-readable [] prev formed is = is
-all-readable (c ∷ cs) prev formed is = all-readable cs (chained_result c prev) formed.1 (chained-readable c prev formed.0 is)
+all-readable (c ∷ cs) prev formed is =
+    all-readable cs (chained_result c prev) formed.1 (chained-readable c prev formed.0 is)

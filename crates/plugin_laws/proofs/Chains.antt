@@ -34,19 +34,22 @@ rules_for-stand : (snat : Bool) (att : Att) (m : PortMapping) (ip : Option IpEnt
     → list_all of_portmap (rules_for snat att m ip) ≡ true
 rules_for-stand snat att m None = refl
 rules_for-stand snat att m (Some ip) =
-    list_all-if of_portmap (host_ip_allows m.host_ip ip.address.addr) (dnat_of att m ip.address.addr ∷ masquerades_of snat att ip m) (masquerades-stand snat att ip m)
+    list_all-if of_portmap (host_ip_allows m.host_ip ip.address.addr)
+    (dnat_of att m ip.address.addr ∷ masquerades_of snat att ip m) (masquerades-stand snat att ip m)
 
 mapping-stand : (snat : Bool) (att : Att) (ips : List IpEntry) (m : PortMapping)
     → list_all of_portmap (mapping_rules snat att ips m) ≡ true
 mapping-stand snat att ips m =
     let v4 = first_of_family V4 ips in
     let v6 = first_of_family V6 ips in
-    list_all-append of_portmap (rules_for snat att m v4) (rules_for snat att m v6) (rules_for-stand snat att m v4) (rules_for-stand snat att m v6)
+    list_all-append of_portmap (rules_for snat att m v4) (rules_for snat att m v6) (rules_for-stand snat att m v4)
+    (rules_for-stand snat att m v6)
 
 pub portmap-stand : (conf : PortmapConf) (att : Att) (mappings : List PortMapping) (ips : List IpEntry)
     → list_all of_portmap (portmap_rules conf att mappings ips) ≡ true
 portmap-stand conf att mappings ips =
-    list_all-each_key_once of_portmap rule_eq (flat_map (mapping_rules conf.snat att ips) mappings) (list_all-flat of_portmap (mapping_rules conf.snat att ips) (mapping-stand conf.snat att ips) mappings)
+    list_all-each_key_once of_portmap rule_eq (flat_map (mapping_rules conf.snat att ips) mappings)
+    (list_all-flat of_portmap (mapping_rules conf.snat att ips) (mapping-stand conf.snat att ips) mappings)
 
 -- ---- `firewall`
 
@@ -56,7 +59,8 @@ of_firewall r = stands_in (chains_of types.Firewall) r
 pub firewall-stand : (att : Att) (ips : List IpEntry) → list_all of_firewall (firewall_rules att ips) ≡ true
 firewall-stand att ips =
     let forward : IpEntry → List Rule = λ ip. forward_of att ip.address in
-    list_all-each_key_once of_firewall rule_eq (flat_map forward ips) (list_all-flat of_firewall forward (λ ip. refl) ips)
+    list_all-each_key_once of_firewall rule_eq (flat_map forward ips)
+    (list_all-flat of_firewall forward (λ ip. refl) ips)
 
 -- ---- `ipMasq`
 
@@ -67,7 +71,8 @@ pub masquerade-stand : (ip_masq : Bool) (att : Att) (given : List Given)
     → list_all of_bridge (masquerade_rules ip_masq att given) ≡ true
 masquerade-stand ip_masq att given =
     list_all-if of_bridge ip_masq (each_key_once rule_eq (flat_map (masquerade_of att) given))
-    (list_all-each_key_once of_bridge rule_eq (flat_map (masquerade_of att) given) (list_all-flat of_bridge (masquerade_of att) (λ g. refl) given))
+    (list_all-each_key_once of_bridge rule_eq (flat_map (masquerade_of att) given)
+    (list_all-flat of_bridge (masquerade_of att) (λ g. refl) given))
 
 -- ---- every plugin
 

@@ -34,7 +34,9 @@ word-bytes n = (omega arith, (omega arith, (omega arith, (omega arith, tt))))
 digest-bytes : (words : List ℕ) (n : ℕ) → AreBytes (digest_bytes words n)
 unfolding digest_bytes
 digest-bytes words zero = tt
-digest-bytes words (suc n) = all-append (λ b. b < 256) (digest_bytes words n) (to_be_bytes w32 (slice_index words n)) (digest-bytes words n) (word-bytes (slice_index words n))
+digest-bytes words (suc n) =
+    all-append (λ b. b < 256) (digest_bytes words n) (to_be_bytes w32 (slice_index words n)) (digest-bytes words n)
+    (word-bytes (slice_index words n))
 
 sha256-bytes : (message : List ℕ) → AreBytes (sha256 message)
 unfolding sha256

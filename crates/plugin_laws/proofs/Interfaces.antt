@@ -36,18 +36,22 @@ mtu-small n is =
 
 made-interface : (version : Version) (name : List ℕ) (mac : Mac) (mtu : ℕ) (sandbox : Option (List ℕ)) → IsMac mac
     → IsMtu mtu
-    → IsInterfaceOf version (record { name = name; mac = Some mac; mtu = mtu_since_1_1 version (Some mtu); sandbox = sandbox })
+    → IsInterfaceOf version
+    (record { name = name; mac = Some mac; mtu = mtu_since_1_1 version (Some mtu); sandbox = sandbox })
 made-interface version name mac mtu sandbox six is =
     record { mac = six; mtu = mtu-within version (Some mtu) (mtu-small mtu is); told = mtu-once version (Some mtu) }
 
 pub inner-is : (att : Att) (netns : List ℕ) (mtu : ℕ) (version : Version) → IsMtu mtu
     → IsInterfaceOf version (inner_interface att netns mtu version)
-inner-is att netns mtu version is = made-interface version att.ifname (inner_mac_of att) mtu (Some netns) (inner_mac-is att) is
+inner-is att netns mtu version is =
+    made-interface version att.ifname (inner_mac_of att) mtu (Some netns) (inner_mac-is att) is
 
 pub pair-is : (att : Att) (netns : List ℕ) (mtu : ℕ) (version : Version) → IsMtu mtu
     → AllByRecursion (IsInterfaceOf version) (pair_interfaces att netns mtu version)
-pair-is att netns mtu version is =
-    (made-interface version (host_name_of att) (host_mac_of att) mtu None (host_mac-is att) is, (inner-is att netns mtu version is, tt))
+pair-is att netns mtu version is = (
+  made-interface version (host_name_of att) (host_mac_of att) mtu None (host_mac-is att) is,
+  (inner-is att netns mtu version is, tt),
+)
 
 mtu-none : (version : Version) → mtu_since_1_1 version None ≡ None
 mtu-none V0_4 = refl

@@ -27,7 +27,9 @@ default_route-is V4 = record { addr = record { within = omega arith }; prefix = 
 default_route-is V6 = record { addr = record { within = omega arith }; prefix = omega arith }
 
 default-routes : (missing : Bool) (family : Family) (gw : Option Addr) → IfSome gw IsAddr
-    → AllByRecursion IsRouteEntry (option_to_list (option_map (λ dst. record { dst = dst; gw = gw }) (if missing then Some (default_route family) else None)))
+    → AllByRecursion IsRouteEntry
+    (option_to_list
+    (option_map (λ dst. record { dst = dst; gw = gw }) (if missing then Some (default_route family) else None)))
 default-routes true family gw is = (record { dst = default_route-is family; gw = is }, tt)
 default-routes false family gw is = tt
 
@@ -39,7 +41,8 @@ added-routes adds routes (Some ip) is = default-routes _ ip.address.addr.family 
 family-entry : (family : Family) (ips : List IpEntry) → AllByRecursion IsIpEntry ips
     → IfSome (first_of_family family ips) IsIpEntry
 family-entry family ips all =
-    if_some-weaker (λ ip. IsIpEntry ip × (is_of_family family ip.address ≡ true)) IsIpEntry (first_of_family family ips) (λ ip is. is.0)
+    if_some-weaker (λ ip. IsIpEntry ip × (is_of_family family ip.address ≡ true)) IsIpEntry
+    (first_of_family family ips) (λ ip is. is.0)
     (find-all IsIpEntry (λ ip. is_of_family family ip.address) ips all)
 
 bridge-routes : (adds : Bool) (ipam : AddResult) → IsIpamResult ipam
@@ -48,15 +51,18 @@ bridge-routes adds ipam is =
     let v4 = added_default adds ipam.routes (first_of_family V4 ipam.ips) in
     let v6 = added_default adds ipam.routes (first_of_family V6 ipam.ips) in
     all-append IsRouteEntry ipam.routes (v4 ++ v6) is.routes
-    (all-append IsRouteEntry v4 v6 (added-routes adds ipam.routes _ (family-entry V4 ipam.ips is.ips)) (added-routes adds ipam.routes _ (family-entry V6 ipam.ips is.ips)))
+    (all-append IsRouteEntry v4 v6 (added-routes adds ipam.routes _ (family-entry V4 ipam.ips is.ips))
+    (added-routes adds ipam.routes _ (family-entry V6 ipam.ips is.ips)))
 
 -- ---- the first plugin
 
 placed-entries : (index : ℕ) (ips : List IpEntry) → index < 2 ^ 32 → AllByRecursion IsIpEntry ips
     → AllByRecursion IsIpEntry (map (at_interface index) ips)
 placed-entries index [] small all = tt
-placed-entries index (ip ∷ ips) small all =
-    (record { address = all.0.address; gateway = all.0.gateway; interface = small }, placed-entries index ips small all.1)
+placed-entries index (ip ∷ ips) small all = (
+  record { address = all.0.address; gateway = all.0.gateway; interface = small },
+  placed-entries index ips small all.1,
+)
 
 completed-readable : (ipam : AddResult) (interfaces : List Interface) (index : ℕ) (routes : List RouteEntry) (dns : Dns)
     → IsIpamResult ipam → AllByRecursion (IsInterfaceOf ipam.version) interfaces → AllByRecursion IsRouteEntry routes
@@ -65,19 +71,25 @@ completed-readable ipam interfaces index routes dns is made led within small = r
   interfaces = made;
   ips = placed-entries index ipam.ips small is.ips;
   routes = led;
-  indexes = list_all-every (λ (ip : IpEntry). is_on_one_of (length interfaces) ip.interface) (at_interface index) (λ ip. within) ipam.ips;
+  indexes =
+      list_all-every (λ (ip : IpEntry). is_on_one_of (length interfaces) ip.interface) (at_interface index)
+      (λ ip. within) ipam.ips;
 }
 
 first-readable : (first : First) (att : Att) (netns : List ℕ) (ipam : AddResult) → IsWellFormedFirst first
     → IsIpamResult ipam → IsReadable (first_result first att netns ipam)
 unfolding plugin_of
 first-readable (Bridge conf) att netns ipam formed is =
-    completed-readable ipam (bridge_interface conf.bridge ∷ pair_interfaces att netns conf.mtu ipam.version) 2 (bridge_routes (is_default conf.gateway) ipam.routes ipam.ips) conf.dns is
-    (bridge-is conf.bridge ipam.version, pair-is att netns conf.mtu ipam.version formed.mtu) (bridge-routes (is_default conf.gateway) ipam is) refl (omega arith)
+    completed-readable ipam (bridge_interface conf.bridge ∷ pair_interfaces att netns conf.mtu ipam.version) 2
+    (bridge_routes (is_default conf.gateway) ipam.routes ipam.ips) conf.dns is
+    (bridge-is conf.bridge ipam.version, pair-is att netns conf.mtu ipam.version formed.mtu)
+    (bridge-routes (is_default conf.gateway) ipam is) refl (omega arith)
 first-readable (Ptp conf) att netns ipam formed is =
-    completed-readable ipam (pair_interfaces att netns conf.mtu ipam.version) 1 ipam.routes conf.dns is (pair-is att netns conf.mtu ipam.version formed.mtu) is.routes refl (omega arith)
+    completed-readable ipam (pair_interfaces att netns conf.mtu ipam.version) 1 ipam.routes conf.dns is
+    (pair-is att netns conf.mtu ipam.version formed.mtu) is.routes refl (omega arith)
 first-readable (Macvlan conf) att netns ipam formed is =
-    completed-readable ipam (inner_interface att netns conf.mtu ipam.version ∷ []) 0 ipam.routes conf.dns is (inner-is att netns conf.mtu ipam.version formed.mtu, tt) is.routes refl (omega arith)
+    completed-readable ipam (inner_interface att netns conf.mtu ipam.version ∷ []) 0 ipam.routes conf.dns is
+    (inner-is att netns conf.mtu ipam.version formed.mtu, tt) is.routes refl (omega arith)
 
 -- ---- all plugins of a list
 
@@ -85,5 +97,6 @@ pub results_are_readable : ResultsAreReadable
 unfolding result_of_add
 results_are_readable list att netns addrs formed =
     let ipam = ipam-result (ipam_of list.first) addrs list.version (formed_ipam list.first formed.first) in
-    all-readable list.chained (first_plugin_result list att netns addrs) (recursion_from_All IsWellFormedChained list.chained formed.chained)
+    all-readable list.chained (first_plugin_result list att netns addrs)
+    (recursion_from_All IsWellFormedChained list.chained formed.chained)
     (first-readable list.first att netns _ formed.first ipam)

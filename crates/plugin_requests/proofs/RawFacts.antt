@@ -17,7 +17,8 @@ use Rattle.net_conf.specs.{WellFormed.IsWellFormedList, declared.{error.ConfErro
 -- what holds of each view holds of each item by its view
 pub All-viewed : {A B : Type 0} (f : A → B) (P : B → Type 0) (xs : List A) → All P (map f xs) → All (λ x. P (f x)) xs
 All-viewed f P [] all = All-nil (λ x. P (f x))
-All-viewed f P (x ∷ xs) all = All-cons (λ y. P (f y)) x xs (All-head P (f x) (map f xs) all) (All-viewed f P xs (All-tail P (f x) (map f xs) all))
+All-viewed f P (x ∷ xs) all =
+    All-cons (λ y. P (f y)) x xs (All-head P (f x) (map f xs) all) (All-viewed f P xs (All-tail P (f x) (map f xs) all))
 
 -- ---- the objects of a list
 
@@ -43,13 +44,15 @@ all_objects : (ds : List Data) → items_have_float (items_of ds) ≡ false → 
 all_objects [] whole shallow = All-nil IsPluginObject
 all_objects (d ∷ ds) whole shallow =
     let parts = or_parts (has_float d) _ whole in
-    All-cons IsPluginObject d ds (record { whole = parts.0; shallow = omega arith }) (all_objects ds parts.1 (omega arith))
+    All-cons IsPluginObject d ds (record { whole = parts.0; shallow = omega arith })
+    (all_objects ds parts.1 (omega arith))
 
 -- ---- a list that is read
 
 pub raw_is : (bytes : List ℕ) (d : Data) (list : NetList) (ds : List Data)
     → ((bytes : List ℕ) (list : NetList) → list_of bytes ≡ Ok list → IsWellFormedList list)
-    → read_or_refused (json_of bytes) ≡ Ok d → network_list_at d ≡ Ok list → plugins_at d ≡ Ok (items_of ds) → has_float d ≡ false → depth d ≤ max_depth → IsRaw (record { list = list; objects = ds })
+    → read_or_refused (json_of bytes) ≡ Ok d → network_list_at d ≡ Ok list → plugins_at d ≡ Ok (items_of ds)
+    → has_float d ≡ false → depth d ≤ max_depth → IsRaw (record { list = list; objects = ds })
 unfolding list_of each_plugin_at
 raw_is bytes d list ds well_formed json is plugins whole shallow =
     let there = plugins_at-found d (items_of ds) plugins in
@@ -57,20 +60,25 @@ raw_is bytes d list ds well_formed json is plugins whole shallow =
     record {
       list = well_formed bytes list (rw json is);
       plugins = rw plugins at (network_list_at-each d list is);
-      objects = all_objects ds (get-whole (codes "plugins") d (array (items_of ds)) whole there) (omega (arith, deeper, shallow));
+      objects =
+          all_objects ds (get-whole (codes "plugins") d (array (items_of ds)) whole there)
+          (omega (arith, deeper, shallow));
     }
 
 pub raw_of-ok : (bytes : List ℕ) (d : Data) (list : NetList) (ds : List Data) → read_or_refused (json_of bytes) ≡ Ok d
     → network_list_at d ≡ Ok list → plugins_at d ≡ Ok (items_of ds)
     → raw_of bytes ≡ Ok (record { list = list; objects = ds })
 unfolding raw_of raw_at
-raw_of-ok bytes d list ds json is plugins = rw (json, is, plugins) (ap (λ es. Ok (record { list = list; objects = es })) (objects_of-items_of ds))
+raw_of-ok bytes d list ds json is plugins =
+    rw (json, is, plugins) (ap (λ es. Ok (record { list = list; objects = es })) (objects_of-items_of ds))
 
 -- ---- its refusals
 
 by_list : (list : Result NetList ConfError) (plugins : Result Items ConfError)
     → ((l : NetList) → list ≡ Ok l → (ds : Items) × (plugins ≡ Ok ds))
-    → list ≡ ok_map (λ (raw : RawView). raw.list) (list >>= λ l. plugins >>= λ ds. Ok (record { list = l; objects = objects_of ds }))
+    → list
+    ≡ ok_map (λ (raw : RawView). raw.list)
+    (list >>= λ l. plugins >>= λ ds. Ok (record { list = l; objects = objects_of ds }))
 by_list (Ok l) plugins there = let found = there l refl in rw (found.1) refl
 by_list (Err e) plugins there = refl
 
@@ -80,7 +88,9 @@ raw_at-list d = by_list (network_list_at d) (plugins_at d) found
   where
     found : (list : NetList) → network_list_at d ≡ Ok list → (ds : Items) × (plugins_at d ≡ Ok ds)
     found list is =
-        let objects = goes (plugins_at d) (each plugin_by_type_at) (plugins_in list.first list.chained) (network_list_at-each d list is) in
+        let objects =
+        goes (plugins_at d) (each plugin_by_type_at) (plugins_in list.first list.chained)
+        (network_list_at-each d list is) in
         (objects.value, objects.first)
 
 after_json : (json : Result Data ConfError)

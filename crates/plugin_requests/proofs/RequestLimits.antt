@@ -35,24 +35,31 @@ up_to_prev list d prev valid = up_to_name list d valid ▷ put_if result_data (c
 -- ---- numbers
 
 own_is_whole : (d : Data) → has_float d ≡ false → members_have_float (own_members d) ≡ false
-own_is_whole d whole = members_have_float-where (λ key. not (is_runtime_key key)) (members_in d) (members_have_float-members_in d whole)
+own_is_whole d whole =
+    members_have_float-where (λ key. not (is_runtime_key key)) (members_in d) (members_have_float-members_in d whole)
 
 valid_is_whole : (att : ValidAtt) → has_float (valid_data att) ≡ false
 valid_is_whole att = search puts_are_whole depth 8
 
 runtime_is_whole : (mappings : List PortMapping) → members_have_float (runtime_members mappings) ≡ false
-runtime_is_whole mappings = put_list_is_whole mapping_data (codes "portMappings") mappings no_members mapping_is_whole refl
+runtime_is_whole mappings =
+    put_list_is_whole mapping_data (codes "portMappings") mappings no_members mapping_is_whole refl
 
-pub request_is_whole : (list : NetList) (d : Data) (prev : Option AddResult) (mappings : List PortMapping) (valid : Option (List ValidAtt))
+pub request_is_whole : (list : NetList) (d : Data) (prev : Option AddResult) (mappings : List PortMapping)
+    (valid : Option (List ValidAtt))
     → IsPluginObject d
     → members_have_float (request_members list d prev mappings valid) ≡ false
 unfolding request_members
 request_is_whole list d prev mappings valid object =
-    let atts = put_if_is_whole (list_data valid_data) valid_key valid (own_members d) (λ found. items_are_whole valid_data found valid_is_whole) (own_is_whole d object.whole) in
-    let version = members_have_float-put (codes "cniVersion") (version_data list.version) (up_to_valid d valid) refl atts in
+    let atts =
+    put_if_is_whole (list_data valid_data) valid_key valid (own_members d)
+    (λ found. items_are_whole valid_data found valid_is_whole) (own_is_whole d object.whole) in
+    let version =
+    members_have_float-put (codes "cniVersion") (version_data list.version) (up_to_valid d valid) refl atts in
     let name = members_have_float-put (codes "name") (text_data list.name) (up_to_version list d valid) refl version in
     let before = put_if_is_whole result_data (codes "prevResult") prev (up_to_name list d valid) result_is_whole name in
-    put_object_is_whole (codes "runtimeConfig") (runtime_members (mappings_for d mappings)) (up_to_prev list d prev valid) (runtime_is_whole (mappings_for d mappings)) before
+    put_object_is_whole (codes "runtimeConfig") (runtime_members (mappings_for d mappings))
+    (up_to_prev list d prev valid) (runtime_is_whole (mappings_for d mappings)) before
 
 -- ---- levels
 
@@ -64,8 +71,11 @@ own_depth d object =
 
 valid_depth : (att : ValidAtt) → depth (valid_data att) ≤ 1
 valid_depth att =
-    let container = members_depth-put 0 (codes "containerID") (text_data att.container) no_members (omega arith) (omega arith) in
-    let both = members_depth-put 0 (codes "ifname") (text_data att.ifname) (put (codes "containerID") (text_data att.container) no_members) (omega arith) container in
+    let container =
+    members_depth-put 0 (codes "containerID") (text_data att.container) no_members (omega arith) (omega arith) in
+    let both =
+    members_depth-put 0 (codes "ifname") (text_data att.ifname)
+    (put (codes "containerID") (text_data att.container) no_members) (omega arith) container in
     omega (arith, both)
 
 valid_list_depth : (atts : List ValidAtt) → depth (list_data valid_data atts) ≤ 125
@@ -77,21 +87,31 @@ mapping_depth m = depth-object 0 _ (search (rules, members_depth-put, members_de
 
 runtime_depth : (mappings : List PortMapping) → members_depth (runtime_members mappings) ≤ 124
 runtime_depth mappings =
-    let list = members_depth-put_list 1 mapping_data (codes "portMappings") mappings no_members mapping_depth (omega arith) in
+    let list =
+    members_depth-put_list 1 mapping_data (codes "portMappings") mappings no_members mapping_depth (omega arith) in
     omega (arith, list)
 
 prev_depth : (r : AddResult) → depth (result_data r) ≤ 125
 prev_depth r = let result = result_depth r in omega (arith, result)
 
 -- a line may have the request in an object
-pub request_depth : (list : NetList) (d : Data) (prev : Option AddResult) (mappings : List PortMapping) (valid : Option (List ValidAtt))
+pub request_depth : (list : NetList) (d : Data) (prev : Option AddResult) (mappings : List PortMapping)
+    (valid : Option (List ValidAtt))
     → IsPluginObject d
     → members_depth (request_members list d prev mappings valid) + 2 ≤ max_depth
 unfolding request_members
 request_depth list d prev mappings valid object =
-    let atts = members_depth-put_if 125 (list_data valid_data) valid_key valid (own_members d) valid_list_depth (own_depth d object) in
-    let version = members_depth-put 125 (codes "cniVersion") (version_data list.version) (up_to_valid d valid) (omega arith) atts in
-    let name = members_depth-put 125 (codes "name") (text_data list.name) (up_to_version list d valid) (omega arith) version in
-    let before = members_depth-put_if 125 result_data (codes "prevResult") prev (up_to_name list d valid) prev_depth name in
-    let whole = members_depth-put_object 124 (codes "runtimeConfig") (runtime_members (mappings_for d mappings)) (up_to_prev list d prev valid) (runtime_depth (mappings_for d mappings)) before in
+    let atts =
+    members_depth-put_if 125 (list_data valid_data) valid_key valid (own_members d) valid_list_depth
+    (own_depth d object) in
+    let version =
+    members_depth-put 125 (codes "cniVersion") (version_data list.version) (up_to_valid d valid)
+    (omega arith) atts in
+    let name =
+    members_depth-put 125 (codes "name") (text_data list.name) (up_to_version list d valid) (omega arith) version in
+    let before =
+    members_depth-put_if 125 result_data (codes "prevResult") prev (up_to_name list d valid) prev_depth name in
+    let whole =
+    members_depth-put_object 124 (codes "runtimeConfig") (runtime_members (mappings_for d mappings))
+    (up_to_prev list d prev valid) (runtime_depth (mappings_for d mappings)) before in
     omega (arith, whole)

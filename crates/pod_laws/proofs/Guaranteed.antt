@@ -31,7 +31,8 @@ always_well_kept : EachCachedResultIsItsAdds → (w : World) → Legal w → (be
     → w.history ≡ before ++ rest → IsWellKept w.plan before
 always_well_kept results w legal before rest at =
     let f = each_prefix w legal before rest at in
-    subst (λ (p : Plan). IsWellKept p before) f.plan_is (subst (IsWellKept f.world.plan) f.history_is (well_kept results f.world f.legal))
+    subst (λ (p : Plan). IsWellKept p before) f.plan_is
+    (subst (IsWellKept f.world.plan) f.history_is (well_kept results f.world f.legal))
 
 -- ---- answers
 
@@ -44,7 +45,8 @@ record IsAnswered (w : World) (verb : Verb) (n : ℕ) (c : Placed) (list : NetLi
 
 are_answers : (w : World) → Legal w → (verb : Verb) → is_of_network verb ≡ true
     → (Is : ℕ → Command → NetList → Answer → Type 0)
-    → ((n : ℕ) (c : Placed) (list : NetList) (a : Answer) → IsAnswered w verb n c list a → Is n c.command list a) → AreAnswers w verb Is
+    → ((n : ℕ) (c : Placed) (list : NetList) (a : Answer) → IsAnswered w verb n c list a → Is n c.command list a)
+    → AreAnswers w verb Is
 are_answers w legal verb network Is each n c a at of_verb is =
     let found = listed_network w legal n c at (ap is_of_network of_verb ∙ network) in
     (found.0, found.1, each n c found.0 a (record { there = at; listed = found.1; of_verb = of_verb; answer = is }))
@@ -52,7 +54,8 @@ are_answers w legal verb network Is each n c a at of_verb is =
 answer_of_add : (w : World) → Legal w → (n : ℕ) (c : Placed) (list : NetList) (a : Answer)
     → IsAnswered w verbs.Add n c list a → IsAnswerOfAdd w n c.command list a
 answer_of_add w legal n c list (answers.Added result) i = was_added w legal n c list result i.there i.listed i.answer
-answer_of_add w legal n c list (answers.Refused error) i = was_refused w legal n c (answers.Refused error) i.there i.of_verb i.answer list i.listed error refl
+answer_of_add w legal n c list (answers.Refused error) i =
+    was_refused w legal n c (answers.Refused error) i.there i.of_verb i.answer list i.listed error refl
 answer_of_add w legal n c list a i = elim (answers_of_add w legal n c a i.there i.of_verb i.answer) [
   | inl (inl added) ↦ let is = added.1 in cc
   | inl (inr cut) ↦ cut
@@ -62,7 +65,8 @@ answer_of_add w legal n c list a i = elim (answers_of_add w legal n c a i.there 
 answer_of_del : (w : World) → Legal w → (n : ℕ) (c : Placed) (list : NetList) (a : Answer)
     → IsAnswered w verbs.Del n c list a → IsAnswerOfDel w n c.command list a
 answer_of_del w legal n c list answers.Yes i = was_deleted w legal n c answers.Yes i.there i.of_verb i.answer refl
-answer_of_del w legal n c list (answers.Refused error) i = was_not_deleted w legal n c (answers.Refused error) i.there i.of_verb i.answer list i.listed error refl
+answer_of_del w legal n c list (answers.Refused error) i =
+    was_not_deleted w legal n c (answers.Refused error) i.there i.of_verb i.answer list i.listed error refl
 answer_of_del w legal n c list a i = elim (answers_of_del w legal n c a i.there i.of_verb i.answer) [
   | inl (inl deleted) ↦ cc
   | inl (inr cut) ↦ cut

@@ -35,14 +35,17 @@ pub part-drops : {X : Type 0} (p gone : X → Bool) (old new : List X) → Drops
 part-drops p gone [] new d = ap (filter p) d
 part-drops p gone (x ∷ old) [] d = part-none (filter p (x ∷ old))
 part-drops p gone (x ∷ old) (y ∷ new) d = elim d [
-  | inl same ↦ subst (λ z. IsPart (filter p (z ∷ new)) (filter p (x ∷ old))) same.0 (part-keep (p x) x (filter p new) (filter p old) (part-drops p gone old new same.1))
+  | inl same ↦
+      subst (λ z. IsPart (filter p (z ∷ new)) (filter p (x ∷ old))) same.0
+      (part-keep (p x) x (filter p new) (filter p old) (part-drops p gone old new same.1))
   | inr drop ↦ part-skip (p x) x (filter p (y ∷ new)) (filter p old) (part-drops p gone old (y ∷ new) drop.1)
 ]
 
 -- so it is a part of what that was a part of
 pub part-left : {X : Type 0} (p gone : X → Bool) (all old new : List X) → DropsOnly gone old new
     → IsPart (filter p old) all → IsPart (filter p new) all
-part-left p gone all old new d h = drops-trans (λ x. true) all (filter p old) (filter p new) h (part-drops p gone old new d)
+part-left p gone all old new d h =
+    drops-trans (λ x. true) all (filter p old) (filter p new) h (part-drops p gone old new d)
 
 -- ---- what is in a part is in the whole
 

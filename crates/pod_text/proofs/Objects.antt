@@ -12,7 +12,8 @@ map-view : (f : Data → Data) (objects : List Value) → map (λ o. f (view o))
 map-view f [] = refl
 map-view f (o ∷ objects) = ap (λ ds. f (view o) ∷ ds) (map-view f objects)
 
-pub to_each-view : (raw : RawView) (prev : Option AddResult) (mappings : List PortMapping) (valid : Option (List ValidAtt)) (list : NetList) (objects : List Value)
+pub to_each-view : (raw : RawView) (prev : Option AddResult) (mappings : List PortMapping)
+    (valid : Option (List ValidAtt)) (list : NetList) (objects : List Value)
     → list ≡ raw.list → map view objects ≡ raw.objects
     → map (λ o. request_data list (view o) prev mappings valid) objects ≡ to_each raw prev mappings valid
 to_each-view raw prev mappings valid list objects list_is objects_are =

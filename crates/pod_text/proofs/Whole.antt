@@ -46,7 +46,8 @@ network_env_is_whole command = refl
 pub request_line_is_whole : (env : Data) (command : Command) (place : ℕ) (request : Data) → has_float env ≡ false
     → has_float request ≡ false → has_float (request_line env command place request) ≡ false
 unfolding request_line
-request_line_is_whole env command place request env_whole request_whole = search (members_have_float-put, env_whole, request_whole) depth 8
+request_line_is_whole env command place request env_whole request_whole =
+    search (members_have_float-put, env_whole, request_whole) depth 8
 
 pub fate_is_whole : (place : ℕ) (fate : Fate) → has_float (fate_data place fate) ≡ false
 unfolding fate_data

@@ -13,9 +13,11 @@ use Rattle.pod_workers.specs.World.{World, host_of}
 no_packets : {X : Type 0} (p : X) (packets : List X) → not (length (p ∷ packets) == 0) ≡ false → ⊥
 no_packets p packets none = grind (arith, nat_tests)
 
-parts : (w : World) (part : CommandPart) (requests trace dump : List ℕ) (b : Bool) (rules : List Rule) (packets : List PacketValue)
+parts : (w : World) (part : CommandPart) (requests trace dump : List ℕ) (b : Bool) (rules : List Rule)
+    (packets : List PacketValue)
     → (b || is_summary part || not (length packets == 0)) ≡ false
-    → command_part part w ++ requests ++ trace ++ where_asked b dump ++ fates_from 0 rules packets ≡ command_lines w ++ requests ++ trace
+    → command_part part w ++ requests ++ trace ++ where_asked b dump ++ fates_from 0 rules packets
+    ≡ command_lines w ++ requests ++ trace
 parts w Lines requests trace dump false rules [] none =
     append-nil (command_lines w ++ requests ++ trace ++ []) ∙ append-nil (command_lines w ++ requests ++ trace)
 parts w Lines requests trace dump false rules (p ∷ packets) none = absurd (no_packets p packets none)
@@ -27,5 +29,6 @@ pub without_host : (w : World) (asked : Asked) → shows_host asked ≡ false
     → text_of w asked ≡ command_lines w ++ requests_asked asked.requests w ++ where_asked asked.trace (trace_lines w)
 unfolding text_of
 without_host w asked none =
-    parts w asked.commands (requests_asked asked.requests w) (where_asked asked.trace (trace_lines w)) (dump_of (host_of w)) asked.dump
+    parts w asked.commands (requests_asked asked.requests w) (where_asked asked.trace (trace_lines w))
+    (dump_of (host_of w)) asked.dump
     (host_of w).rules asked.packets none

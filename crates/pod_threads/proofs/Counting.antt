@@ -14,7 +14,8 @@ pub count-all : (p : Plan) (round : ℕ) (es : List Entry) → All (IsOfRound p 
     → entries_of_round p round es ≡ length es
 count-all p round [] all = refl
 count-all p round (e ∷ es) all =
-    sum_by-cons (λ x. cond (is_of_round p round x) 1 0) e es ∙ ap (λ b. cond b 1 0 + count_by (is_of_round p round) es) (All-head (IsOfRound p round) e es all)
+    sum_by-cons (λ x. cond (is_of_round p round x) 1 0) e es
+    ∙ ap (λ b. cond b 1 0 + count_by (is_of_round p round) es) (All-head (IsOfRound p round) e es all)
     ∙ ap (λ k. 1 + k) (count-all p round es (All-tail (IsOfRound p round) e es all)) ∙ (omega arith)
 
 pub count-append : (p : Plan) (round : ℕ) (g h : List Entry)
@@ -23,7 +24,8 @@ count-append p round g h = sum_by-append (λ e. cond (is_of_round p round e) 1 0
 
 -- what a round adds to its entries is what it adds to the history
 pub entries-more : (u w : World) → Extends u w
-    → entries_of_round u.plan u.round w.history + length u.history ≡ entries_of_round u.plan u.round u.history + length w.history
+    → entries_of_round u.plan u.round w.history + length u.history
+    ≡ entries_of_round u.plan u.round u.history + length w.history
 entries-more u w e =
     let more = ap (entries_of_round u.plan u.round) e.entries.1 ∙ count-append u.plan u.round u.history e.entries.0 in
     let all = count-all u.plan u.round e.entries.0 e.entries.2 in
@@ -33,11 +35,22 @@ entries-more u w e =
 -- ---- a round that is done by the workers and then to its end
 
 pub rounds-after : (u v w : World) → Extends u v → Rounds v w → Rounds u w
-rounds-after u v w e r = record { last = r.last; legal = r.legal; extends = extends_trans u v r.last e r.extends; over = r.over; next_is = r.next_is }
+rounds-after u v w e r = record {
+  last = r.last;
+  legal = r.legal;
+  extends = extends_trans u v r.last e r.extends;
+  over = r.over;
+  next_is = r.next_is;
+}
 
 pub rounds-more : (u w : World) → Rounds u w
-    → entries_of_round u.plan u.round w.history + length u.history ≡ entries_of_round u.plan u.round u.history + length w.history
-rounds-more u w r = subst (λ (v : World). entries_of_round u.plan u.round v.history + length u.history ≡ entries_of_round u.plan u.round u.history + length v.history) (sym r.next_is) (entries-more u r.last r.extends)
+    → entries_of_round u.plan u.round w.history + length u.history
+    ≡ entries_of_round u.plan u.round u.history + length w.history
+rounds-more u w r =
+    subst (λ (v : World).
+    entries_of_round u.plan u.round v.history + length u.history
+    ≡ entries_of_round u.plan u.round u.history + length v.history)
+    (sym r.next_is) (entries-more u r.last r.extends)
 
 -- where the first count alone grows, by those that stood before and the rest, it has those that stood before
 pub first-count : (xs ys : List ℕ) (stood before rest : ℕ) → before ≡ stood → sum ys ≡ sum xs + (before + rest)
@@ -48,7 +61,8 @@ first-count (x ∷ xs) ys stood before rest before_is sum_is is = rw is (omega a
 -- the workers made so many entries, so many stood before, and the rest was made at the end
 pub whole-count : (u v w : World) (made before rest total : ℕ) → Extends u v → Rounds v w
     → length v.history ≡ length u.history + made → before ≡ entries_of_round u.plan u.round u.history
-    → length w.history ≡ length v.history + rest → total ≡ made + (before + rest) → total ≡ entries_of_round u.plan u.round w.history
+    → length w.history ≡ length v.history + rest → total ≡ made + (before + rest)
+    → total ≡ entries_of_round u.plan u.round w.history
 whole-count u v w made before rest total e r made_is before_is rest_is total_is =
     let more = rounds-more u w (rounds-after u v w e r) in
     omega (arith, more, made_is, before_is, rest_is, total_is)

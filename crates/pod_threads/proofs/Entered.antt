@@ -22,8 +22,11 @@ step_entries (Ok end) v w number ready is =
     let n = ready.0 in
     let c = ready.1 in
     let made = is.0 n c ready.2 ready.3.there in
-    ap (λ (u : World). length u.history) made.0 ∙ done_entries v n (next_of v c.command (own_replies v n)) ∙ ap (λ x. length v.history + entries_by x) (sym made.1)
-step_entries (Err e) v w number ready is = ap (λ (u : World). length u.history) (is.1 ready.0 ready.1 ready.2 ready.3.there) ∙ (omega arith)
+    ap (λ (u : World). length u.history) made.0
+    ∙ done_entries v n (next_of v c.command (own_replies v n))
+    ∙ ap (λ x. length v.history + entries_by x) (sym made.1)
+step_entries (Err e) v w number ready is =
+    ap (λ (u : World). length u.history) (is.1 ready.0 ready.1 ready.2 ready.3.there) ∙ (omega arith)
 
 -- what lies under the lock is as the lock keeps it
 abbrev pub IsGuarded : World → World → ℕ → Type 0

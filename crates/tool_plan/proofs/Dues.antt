@@ -65,7 +65,8 @@ module _ {X : Type 0} (wrap : X → Input) (wanted : StoredFiles → Judged X) (
   comes_read given by files read is gives =
       comes given by source files (read >>= (λ (x : X). Ok (wrap x))) is (λ stored at.
       input_is stored
-      ∙ ap (λ (r : Judged X). r >>= (λ (x : X). Ok (wrap x))) (gives stored (told given by source files stored is names at)))
+      ∙ ap (λ (r : Judged X). r >>= (λ (x : X). Ok (wrap x)))
+      (gives stored (told given by source files stored is names at)))
 
   -- a read that gives nothing
   stops_read : (given : List (List ℕ)) (by : Words) (files : FilesSeen) (Reached : List ℕ → Type 0) (none : NoPlan)
@@ -81,9 +82,16 @@ module _ {X : Type 0} (wrap : X → Input) (wanted : StoredFiles → Judged X) (
   stops_read given by files Reached (Unread text) is reaches gives = record {
     by = by;
     words_are = is.words_are;
-    unread = subst (λ (s : Source). IsUnread (ReachesFile files.stored s) files.failures_before files.failures_now text.items)
+    unread =
+        subst
+        (λ (s : Source). IsUnread (ReachesFile files.stored s) files.failures_before files.failures_now text.items)
         (sym is.source_is)
-        (record { file = gives.file; reached = reaches gives.file gives.reached; rose = gives.rose; says = gives.says });
+        (record {
+          file = gives.file;
+          reached = reaches gives.file gives.reached;
+          rose = gives.rose;
+          says = gives.says;
+        });
   }
   stops_read given by files Reached NoMemory is reaches gives = tt
 
@@ -96,14 +104,16 @@ files_come given by files named input is gives =
 
 pub files_stop : (given : List (List ℕ)) (by : Words) (files : FilesSeen) (named : Named) (none : NoPlan)
     → IsBy given by (Files named)
-    → GivesStored {X = PlanInput} (λ input. input) files.stored files.failures_before files.failures_now (ReachesFile files.stored (Files named)) (λ stored. input_of_files stored named) (Err none)
+    → GivesStored {X = PlanInput} (λ input. input) files.stored files.failures_before files.failures_now
+    (ReachesFile files.stored (Files named)) (λ stored. input_of_files stored named) (Err none)
     → ComesToNoPlan given files none
 files_stop given by files named none is gives =
     stops_read of_plan (λ stored. input_of_files stored named) (Files named) (files_are_named named) (λ stored. refl)
     given by files (ReachesFile files.stored (Files named)) none is (λ file at. at) gives
 
 pub session_comes : (given : List (List ℕ)) (by : Words) (files : FilesSeen) (file name : List ℕ) (conf : SessionConf)
-    → IsBy given by (Session file) → name ≡ file → WhereTold files.stored (λ stored. stored_session stored name ≡ Ok conf)
+    → IsBy given by (Session file) → name ≡ file
+    → WhereTold files.stored (λ stored. stored_session stored name ≡ Ok conf)
     → ComesTo given files (session conf (session_asked_of by))
 session_comes given by files file name conf is same gives =
     comes_read of_session (λ stored. stored_session stored file) (Session file) (session_is_named file) (λ stored. refl)
@@ -111,12 +121,16 @@ session_comes given by files file name conf is same gives =
 
 pub session_stops : (given : List (List ℕ)) (by : Words) (files : FilesSeen) (file name : List ℕ) (none : NoPlan)
     → IsBy given by (Session file) → name ≡ file
-    → GivesStored {X = SessionConf} (λ conf. conf) files.stored files.failures_before files.failures_now (λ reached. reached ≡ name) (λ stored. stored_session stored name) (Err none)
+    → GivesStored {X = SessionConf} (λ conf. conf) files.stored files.failures_before files.failures_now
+    (λ reached. reached ≡ name) (λ stored. stored_session stored name) (Err none)
     → ComesToNoPlan given files none
 session_stops given by files file name none is same gives =
     stops_read of_session (λ stored. stored_session stored file) (Session file) (session_is_named file) (λ stored. refl)
     given by files (λ reached. reached ≡ file) none is (λ reached at. at)
-    (subst (λ (f : List ℕ). GivesStored {X = SessionConf} (λ conf. conf) files.stored files.failures_before files.failures_now (λ reached. reached ≡ f) (λ stored. stored_session stored f) (Err none)) same gives)
+    (subst (λ (f : List ℕ).
+    GivesStored {X = SessionConf} (λ conf. conf) files.stored files.failures_before files.failures_now
+    (λ reached. reached ≡ f) (λ stored. stored_session stored f) (Err none))
+    same gives)
 
 -- ---- what is due
 
@@ -129,7 +143,8 @@ asked_by by input given = record {
   packets = given.packets;
 }
 
-pub plan_is_due : (given : List (List ℕ)) (by : Words) (source : Source) (files : FilesSeen) (input : PlanInput) (due : DuePlan)
+pub plan_is_due : (given : List (List ℕ)) (by : Words) (source : Source) (files : FilesSeen)
+    (input : PlanInput) (due : DuePlan)
     → IsBy given by source → due.threads ≡ by.threads → due.plan ≡ input.plan → due.asked ≡ asked_of by input
     → IsInputBy source input → IsWellFormed input.plan → 1 ≤ by.threads
     → ComesTo given files (carry input.plan (asked_of by input)) → IsDueOf given files due
@@ -139,19 +154,25 @@ plan_is_due given by source files input due is threads same asks given_by formed
       by = by;
       words_are = is.words_are;
       threads_are = threads;
-      comes = subst (λ (p : Plan). ComesTo given files (carry p due.asked)) (sym same) (subst (λ (a : Asked). ComesTo given files (carry input.plan a)) (sym asks) on);
-      asked_is = subst (λ (p : Plan). IsAskedBy by p due.asked) (sym same) (subst (IsAskedBy by input.plan) (sym asks) asked);
+      comes =
+          subst (λ (p : Plan). ComesTo given files (carry p due.asked)) (sym same)
+          (subst (λ (a : Asked). ComesTo given files (carry input.plan a)) (sym asks) on);
+      asked_is =
+          subst (λ (p : Plan). IsAskedBy by p due.asked) (sym same) (subst (IsAskedBy by input.plan) (sym asks) asked);
       well_formed = subst IsWellFormed (sym same) formed;
       some_threads = subst (λ (n : ℕ). 1 ≤ n) (sym threads) some;
     }
 
-pub session_is_due : (given : List (List ℕ)) (by : Words) (source : Source) (files : FilesSeen) (conf : SessionConf) (due : DueSession)
+pub session_is_due : (given : List (List ℕ)) (by : Words) (source : Source) (files : FilesSeen) (conf : SessionConf)
+    (due : DueSession)
     → IsBy given by source → due.conf ≡ conf → due.asked ≡ session_asked_of by → IsSessionConf conf
     → ComesTo given files (session conf (session_asked_of by)) → IsSessionDueOf given files due
 session_is_due given by source files conf due is same asks formed on = record {
   by = by;
   words_are = is.words_are;
-  comes = subst (λ (c : SessionConf). ComesTo given files (session c due.asked)) (sym same) (subst (λ (a : SessionAsked). ComesTo given files (session conf a)) (sym asks) on);
+  comes =
+      subst (λ (c : SessionConf). ComesTo given files (session c due.asked)) (sym same)
+      (subst (λ (a : SessionAsked). ComesTo given files (session conf a)) (sym asks) on);
   asked_is = asks;
   well_formed = subst IsSessionConf (sym same) formed;
 }

@@ -17,7 +17,9 @@ placed : (P : Command → Bool) (round : ℕ) (rounds : List (List Command)) →
 placed P round [] all = refl
 placed P round (commands ∷ rounds) all =
     let Q : Placed → Bool = λ (c : Placed). P c.command in
-    let parts = and_parts (list_all P commands) (list_all P (in_file_order rounds)) (sym (list_all-append P commands (in_file_order rounds)) ∙ all) in
+    let parts =
+    and_parts (list_all P commands) (list_all P (in_file_order rounds))
+    (sym (list_all-append P commands (in_file_order rounds)) ∙ all) in
     list_all-append Q (map (in_round round) commands) (placed_from (round + 1) rounds)
     ∙ and_from (list_all Q (map (in_round round) commands)) (list_all Q (placed_from (round + 1) rounds))
     (list_all-map Q (in_round round) commands ∙ parts.0) (placed P (round + 1) rounds parts.1)
@@ -30,7 +32,8 @@ known false = refl
 has_its_list : (c : Command) → bytes_eq c.network network_name ≡ true → not (lacks_list (generated_list ∷ []) c) ≡ true
 has_its_list c is =
     let own : c.network ≡ network_name = (bytes_eq-Decides c.network network_name).0 is in
-    subst (λ (n : List ℕ). not (is_of_network c.verb && not (has_list (generated_list ∷ []) n)) ≡ true) (sym own) (known (is_of_network c.verb))
+    subst (λ (n : List ℕ). not (is_of_network c.verb && not (has_list (generated_list ∷ []) n)) ≡ true) (sym own)
+    (known (is_of_network c.verb))
 
 have_their_list : (cs : List Command) → list_all (λ (c : Command). bytes_eq c.network network_name) cs ≡ true
     → list_all (λ (c : Command). not (lacks_list (generated_list ∷ []) c)) cs ≡ true
@@ -41,7 +44,8 @@ have_their_list (c ∷ cs) all =
 
 pub generated_is_well_formed : IsWellFormedList generated_list
     → ((n : ℕ) → n ≤ most_containers → IsWellFormedPods (generated n).pods)
-    → ((n : ℕ) → list_all (λ (c : Command). bytes_eq c.network network_name) (in_file_order (generated n).pods.rounds) ≡ true)
+    → ((n : ℕ)
+    → list_all (λ (c : Command). bytes_eq c.network network_name) (in_file_order (generated n).pods.rounds) ≡ true)
     → (stop_at : Option ℕ) (count : ℕ) → count ≤ most_containers → IsWellFormed (generated_plan stop_at count)
 unfolding generated_plan commands_of
 generated_is_well_formed list pods networks stop_at count few =
@@ -50,7 +54,9 @@ generated_is_well_formed list pods networks stop_at count few =
       lists = All-push IsWellFormedList [] generated_list (search rules) list;
       pods = pods count few;
       names = refl;
-      networks = placed (λ (c : Command). not (lacks_list (generated_list ∷ []) c)) 0 rounds (have_their_list (in_file_order rounds) (networks count));
+      networks =
+          placed (λ (c : Command). not (lacks_list (generated_list ∷ []) c)) 0 rounds
+          (have_their_list (in_file_order rounds) (networks count));
     }
 
 -- a plan that has the generator's list alone, and its pods

@@ -44,13 +44,15 @@ settles_session words files due ran is runs = (
 
 pub one_thread : (words : List (List ℕ)) (files : FilesSeen) (due : DuePlan) → IsDueOf words files due
     → AskForOneThread words → due.threads ≡ 1
-one_thread words files due is asked = is.threads_are ∙ ap (λ (w : Words). w.threads) (same_Some is.by asked.0 (sym is.words_are ∙ asked.1)) ∙ asked.2
+one_thread words files due is asked =
+    is.threads_are ∙ ap (λ (w : Words). w.threads) (same_Some is.by asked.0 (sym is.words_are ∙ asked.1)) ∙ asked.2
 
 -- ---- the text of a book
 
 pub carries_out : {K E : Type 0} (due : DuePlan) (book : World) (r : Result (CarriedOut K) E) → book.plan ≡ due.plan
     → length book.plan.pods.rounds ≤ book.round → Legal book
-    → IfOk r (λ (made : CarriedOut K). made.book ≡ book) → IfOk r (λ (made : CarriedOut K). made.text.items ≡ text_of book due.asked) → IfOk r (CarriesOut due)
+    → IfOk r (λ (made : CarriedOut K). made.book ≡ book)
+    → IfOk r (λ (made : CarriedOut K). made.text.items ≡ text_of book due.asked) → IfOk r (CarriesOut due)
 carries_out due book (Ok made) plan over legal is text = record {
   plan = ap (λ (b : World). b.plan) is ∙ plan;
   over = subst (λ (b : World). length b.plan.pods.rounds ≤ b.round) (sym is) over;

@@ -39,7 +39,8 @@ has_not_read words files bytes un (inr calm) = calm un.unread.rose
 had_memory : (answers : List (Option Answer)) → status_of answers ≢ 8 → (n : ℕ)
     → slice_get answers n ≢ Some (Some OutOfMemory)
 had_memory answers not_eight n at =
-    not_eight (ap (λ (b : Bool). cond b 8 (cond (list_any is_failure answers) 1 0)) (any_passes_from_place is_out_of_memory answers n (Some OutOfMemory) at refl))
+    not_eight (ap (λ (b : Bool). cond b 8 (cond (list_any is_failure answers) 1 0))
+    (any_passes_from_place is_out_of_memory answers n (Some OutOfMemory) at refl))
 
 -- what is printed is of the plan, the history and the answers, and not of the round
 part-any_round : (w : World) (round : ℕ) (part : CommandPart)
@@ -56,14 +57,20 @@ requests-any_round w round (Some raws) = refl
 text-any_round : (w : World) (round : ℕ) (asked : Asked) → text_of (record w { round = round }) asked ≡ text_of w asked
 unfolding text_of
 text-any_round w round asked =
-    ap₂ (λ (part requests : List ℕ). part ++ requests ++ where_asked asked.trace (trace_lines w) ++ where_asked asked.dump (dump_of (host_of w)) ++ fates_from 0 (host_of w).rules asked.packets)
+    ap₂ (λ (part requests : List ℕ).
+    part ++ requests ++ where_asked asked.trace (trace_lines w) ++ where_asked asked.dump (dump_of (host_of w))
+    ++ fates_from 0 (host_of w).rules asked.packets)
     (part-any_round w round asked.commands) (requests-any_round w round asked.requests)
 
 text-same : (v w : World) (asked : Asked) → v.plan ≡ w.plan → v.history ≡ w.history → v.answers ≡ w.answers
     → text_of v asked ≡ text_of w asked
 text-same v w asked plan history answers =
-    let T : Plan → List Entry → List (Option Answer) → List ℕ = λ p h a. text_of (record { plan = p; history = h; answers = a; round = v.round }) asked in
-    ap (λ (p : Plan). T p v.history v.answers) plan ∙ ap (λ (h : List Entry). T w.plan h v.answers) history ∙ ap (λ (a : List (Option Answer)). T w.plan w.history a) answers ∙ text-any_round w v.round asked
+    let T : Plan → List Entry → List (Option Answer) → List ℕ = λ p h a.
+    text_of (record { plan = p; history = h; answers = a; round = v.round }) asked in
+    ap (λ (p : Plan). T p v.history v.answers) plan
+    ∙ ap (λ (h : List Entry). T w.plan h v.answers) history
+    ∙ ap (λ (a : List (Option Answer)). T w.plan w.history a) answers
+    ∙ text-any_round w v.round asked
 
 plan_or : Plan → Verdict → Plan
 plan_or p (carry q asked) = q
@@ -84,7 +91,8 @@ one_asked p q a b v is also = ap (asked_or a) (sym is ∙ also)
 of-world : OneOutcome
     → (words : List (List ℕ)) (files : FilesSeen) (sink : SinkSeen) (status : ℕ) (stored : StoredFiles)
     → AreFiles words files stored → IsUndisturbed words files sink status
-    → (b w : World) (asks asked : Asked) (bytes : List ℕ) → status ≡ status_of b.answers → IsCarriedOut words files b asks → IsInFileOrder b → bytes ≡ text_of b asks → Wrote sink bytes
+    → (b w : World) (asks asked : Asked) (bytes : List ℕ) → status ≡ status_of b.answers
+    → IsCarriedOut words files b asks → IsInFileOrder b → bytes ≡ text_of b asks → Wrote sink bytes
     → IsCarriedOut words files w asked → IsDoneInFileOrder w → ReportsWorld sink status w asked
 of-world law words files sink status stored told calm b w asks asked bytes st carried order text wrote comes done =
     let mine = carried.comes stored told in
@@ -104,18 +112,35 @@ of-world law words files sink status stored told calm b w asks asked bytes st ca
     }
 
 of-report : OneOutcome
-    → (words : List (List ℕ)) (files : FilesSeen) (sink : SinkSeen) (status : ℕ) (left : Left) (bytes : List ℕ) (stored : StoredFiles)
+    → (words : List (List ℕ)) (files : FilesSeen) (sink : SinkSeen) (status : ℕ) (left : Left) (bytes : List ℕ)
+    (stored : StoredFiles)
     → AreFiles words files stored → IsUndisturbed words files sink status
-    → IfSome left.book IsInFileOrder → IsReport words files status left bytes → Wrote sink bytes → (w : World) (asked : Asked) → IsCarriedOut words files w asked → IsDoneInFileOrder w → ReportsWorld sink status w asked
-of-report law words files sink status left bytes stored told calm order (of_usage st none given) wrote w asked comes done = absurd (none-some comes.by (sym given.not_taken ∙ comes.words_are))
-of-report law words files sink status left bytes stored told calm order (of_refusal st none refusal) wrote w asked comes done = let is = sym (refusal.comes stored told) ∙ comes.comes stored told in cc
-of-report law words files sink status left bytes stored told calm order (of_failed_read st none unread) wrote w asked comes done = absurd (has_not_read words files bytes unread calm.reads)
-of-report law words files sink status left bytes stored told calm order (of_book b asks st some carried text) wrote w asked comes done =
-    of-world law words files sink status stored told calm b w asks asked bytes st carried (subst (λ (l : Left). IfSome l.book IsInFileOrder) some order) text wrote comes done
-of-report law words files sink status left bytes stored told calm order (of_session s asks st some ran text) wrote w asked comes done = let is = sym (ran.comes stored told) ∙ comes.comes stored told in cc
+    → IfSome left.book IsInFileOrder → IsReport words files status left bytes → Wrote sink bytes
+    → (w : World) (asked : Asked) → IsCarriedOut words files w asked → IsDoneInFileOrder w
+    → ReportsWorld sink status w asked
+of-report law words files sink status left bytes stored told calm order (of_usage st none given) wrote w asked
+    comes done =
+    absurd (none-some comes.by (sym given.not_taken ∙ comes.words_are))
+of-report law words files sink status left bytes stored told calm order (of_refusal st none refusal) wrote w asked
+    comes done =
+    let is = sym (refusal.comes stored told) ∙ comes.comes stored told in cc
+of-report law words files sink status left bytes stored told calm order (of_failed_read st none unread) wrote w
+    asked comes done =
+    absurd (has_not_read words files bytes unread calm.reads)
+of-report law words files sink status left bytes stored told calm order (of_book b asks st some carried text) wrote w
+    asked comes done =
+    of-world law words files sink status stored told calm b w asks asked bytes st carried
+    (subst (λ (l : Left). IfSome l.book IsInFileOrder) some order) text wrote comes done
+of-report law words files sink status left bytes stored told calm order (of_session s asks st some ran text) wrote w
+    asked comes done =
+    let is = sym (ran.comes stored told) ∙ comes.comes stored told in cc
 
 pub determined : (words : List (List ℕ)) (files : FilesSeen) (sink : SinkSeen) (status : ℕ) (left : Left)
-    → OneOutcome → IfSome left.book IsInFileOrder → Ends words files sink status left → IsDetermined words files sink status
-determined words files sink status left law order (reported bytes report wrote) = λ stored told calm. of-report law words files sink status left bytes stored told calm order report wrote
-determined words files sink status left law order (cut_short bytes meant report st fault front) = λ stored told calm. absurd (calm.writes fault)
-determined words files sink status left law order (out_of_memory st none nothing) = λ stored told calm. absurd (calm.memory st)
+    → OneOutcome → IfSome left.book IsInFileOrder → Ends words files sink status left
+    → IsDetermined words files sink status
+determined words files sink status left law order (reported bytes report wrote) = λ stored told calm.
+    of-report law words files sink status left bytes stored told calm order report wrote
+determined words files sink status left law order (cut_short bytes meant report st fault front) = λ stored told calm.
+    absurd (calm.writes fault)
+determined words files sink status left law order (out_of_memory st none nothing) = λ stored told calm.
+    absurd (calm.memory st)

@@ -16,7 +16,8 @@ pub record IsRunning (suite : Suite) (begun now : SessionView) : Type 0 where
 -- a task is left where the session hasn't ended
 pub is_left : (s : SessionView) (ended : Bool) → ended ≡ nat_le (length s.conf.tasks) (number s) → ended ≡ false
     → number s < length s.conf.tasks
-is_left s ended is not = let no : nat_le (length s.conf.tasks) (number s) ≡ false = sym is ∙ not in grind (arith, nat_tests, no)
+is_left s ended is not =
+    let no : nat_le (length s.conf.tasks) (number s) ≡ false = sym is ∙ not in grind (arith, nat_tests, no)
 
 pub comes_nearer : (old new : SessionView) → Grows old new → number old < length old.conf.tasks
     → length new.conf.tasks - number new < length old.conf.tasks - number old

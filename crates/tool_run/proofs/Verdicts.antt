@@ -28,50 +28,76 @@ status_is answers = go (list_any is_out_of_memory answers) (list_any is_failure 
 -- words that aren't taken come to usage
 of_no_words : (words : List (List ℕ)) (bytes : List ℕ) (stored : StoredFiles) (P : Verdict → Type 0)
     → IsUsage words bytes → P (verdict_if None stored) → P (verdict_of words stored)
-of_no_words words bytes stored P given holds = subst P (sym (ap (λ (o : Option Words). verdict_if o stored) given.not_taken)) holds
+of_no_words words bytes stored P given holds =
+    subst P (sym (ap (λ (o : Option Words). verdict_if o stored) given.not_taken)) holds
 
-report_status : (words : List (List ℕ)) (files : FilesSeen) (status : ℕ) (left : Left) (bytes : List ℕ) (stored : StoredFiles)
+report_status : (words : List (List ℕ)) (files : FilesSeen) (status : ℕ) (left : Left) (bytes : List ℕ)
+    (stored : StoredFiles)
     → AreFiles words files stored → HasReadAll words files → IsReport words files status left bytes
     → IsStatusOf (verdict_of words stored) status
-report_status words files status left bytes stored told reads (of_usage st none given) = of_no_words words bytes stored (λ (v : Verdict). IsStatusOf v status) given st
-report_status words files status left bytes stored told reads (of_refusal st none refusal) = subst (λ (v : Verdict). IsStatusOf v status) (sym (refusal.comes stored told)) st
-report_status words files status left bytes stored told reads (of_failed_read st none unread) = absurd (has_not_read words files bytes unread reads)
+report_status words files status left bytes stored told reads (of_usage st none given) =
+    of_no_words words bytes stored (λ (v : Verdict). IsStatusOf v status) given st
+report_status words files status left bytes stored told reads (of_refusal st none refusal) =
+    subst (λ (v : Verdict). IsStatusOf v status) (sym (refusal.comes stored told)) st
+report_status words files status left bytes stored told reads (of_failed_read st none unread) =
+    absurd (has_not_read words files bytes unread reads)
 report_status words files status left bytes stored told reads (of_session s asked st some ran text) =
-    subst (λ (v : Verdict). IsStatusOf v status) (sym (ran.comes stored told)) (subst (λ (n : ℕ). IsAmong n (0 ∷ 1 ∷ 8 ∷ [])) (sym st) (status_is (map (λ a. Some (answer_as a)) s.answers)))
+    subst (λ (v : Verdict). IsStatusOf v status) (sym (ran.comes stored told))
+    (subst (λ (n : ℕ). IsAmong n (0 ∷ 1 ∷ 8 ∷ [])) (sym st) (status_is (map (λ a. Some (answer_as a)) s.answers)))
 report_status words files status left bytes stored told reads (of_book b asked st some carried text) =
-    subst (λ (v : Verdict). IsStatusOf v status) (sym (carried.comes stored told)) (subst (λ (s : ℕ). IsAmong s (0 ∷ 1 ∷ 8 ∷ [])) (sym st) (status_is b.answers))
+    subst (λ (v : Verdict). IsStatusOf v status) (sym (carried.comes stored told))
+    (subst (λ (s : ℕ). IsAmong s (0 ∷ 1 ∷ 8 ∷ [])) (sym st) (status_is b.answers))
 
 pub each_status_is_of_its_verdict : EachStatusIsOfItsVerdict
-each_status_is_of_its_verdict words files sink status left (reported bytes report wrote) stored told reads writes = inl (report_status words files status left bytes stored told reads report)
-each_status_is_of_its_verdict words files sink status left (cut_short bytes meant report st fault front) stored told reads writes = absurd (writes fault)
-each_status_is_of_its_verdict words files sink status left (out_of_memory st none nothing) stored told reads writes = inr st
+each_status_is_of_its_verdict words files sink status left (reported bytes report wrote) stored told reads writes =
+    inl (report_status words files status left bytes stored told reads report)
+each_status_is_of_its_verdict words files sink status left (cut_short bytes meant report st fault front) stored
+    told reads writes =
+    absurd (writes fault)
+each_status_is_of_its_verdict words files sink status left (out_of_memory st none nothing) stored told reads writes =
+    inr st
 
-report_left : (words : List (List ℕ)) (files : FilesSeen) (status : ℕ) (left : Left) (bytes : List ℕ) (stored : StoredFiles)
+report_left : (words : List (List ℕ)) (files : FilesSeen) (status : ℕ) (left : Left) (bytes : List ℕ)
+    (stored : StoredFiles)
     → AreFiles words files stored → HasReadAll words files → IsReport words files status left bytes
     → IsLeftOf (verdict_of words stored) left
-report_left words files status left bytes stored told reads (of_usage st none given) = of_no_words words bytes stored (λ (v : Verdict). IsLeftOf v left) given none
-report_left words files status left bytes stored told reads (of_refusal st none refusal) = subst (λ (v : Verdict). IsLeftOf v left) (sym (refusal.comes stored told)) none
-report_left words files status left bytes stored told reads (of_failed_read st none unread) = absurd (has_not_read words files bytes unread reads)
+report_left words files status left bytes stored told reads (of_usage st none given) =
+    of_no_words words bytes stored (λ (v : Verdict). IsLeftOf v left) given none
+report_left words files status left bytes stored told reads (of_refusal st none refusal) =
+    subst (λ (v : Verdict). IsLeftOf v left) (sym (refusal.comes stored told)) none
+report_left words files status left bytes stored told reads (of_failed_read st none unread) =
+    absurd (has_not_read words files bytes unread reads)
 report_left words files status left bytes stored told reads (of_session s asked st some ran text) =
     subst (λ (v : Verdict). IsLeftOf v left) (sym (ran.comes stored told)) (s, some, refl)
 report_left words files status left bytes stored told reads (of_book b asked st some carried text) =
     subst (λ (v : Verdict). IsLeftOf v left) (sym (carried.comes stored told)) (b, some, refl)
 
 pub each_outcome_is_of_its_verdict : EachOutcomeIsOfItsVerdict
-each_outcome_is_of_its_verdict words files sink status left (reported bytes report wrote) stored told reads memory = report_left words files status left bytes stored told reads report
-each_outcome_is_of_its_verdict words files sink status left (cut_short bytes meant report st fault front) stored told reads memory = report_left words files meant left bytes stored told reads report
-each_outcome_is_of_its_verdict words files sink status left (out_of_memory st none nothing) stored told reads memory = absurd (memory st)
+each_outcome_is_of_its_verdict words files sink status left (reported bytes report wrote) stored told reads memory =
+    report_left words files status left bytes stored told reads report
+each_outcome_is_of_its_verdict words files sink status left (cut_short bytes meant report st fault front) stored
+    told reads memory =
+    report_left words files meant left bytes stored told reads report
+each_outcome_is_of_its_verdict words files sink status left (out_of_memory st none nothing) stored told reads memory =
+    absurd (memory st)
 
 taken : (words : List (List ℕ)) (by : Words) → words_given words ≡ Some by → words_given words ≡ None → ⊥
 taken words by is none = none-some by (sym none ∙ is)
 
 pub refused_words_are_reported : RefusedWordsAreReported
 refused_words_are_reported words files sink status left (reported bytes (of_usage st none given) wrote) refused = inl st
-refused_words_are_reported words files sink status left (reported bytes (of_refusal st none refusal) wrote) refused = absurd (taken words refusal.by refusal.words_are refused)
-refused_words_are_reported words files sink status left (reported bytes (of_failed_read st none unread) wrote) refused = absurd (taken words unread.by unread.words_are refused)
-refused_words_are_reported words files sink status left (reported bytes (of_session s asked st some ran text) wrote) refused = absurd (taken words ran.by ran.words_are refused)
-refused_words_are_reported words files sink status left (reported bytes (of_book b asked st some carried text) wrote) refused = absurd (taken words carried.by carried.words_are refused)
-refused_words_are_reported words files sink status left (cut_short bytes meant report st fault front) refused = inr (inl st)
+refused_words_are_reported words files sink status left (reported bytes (of_refusal st none refusal) wrote) refused =
+    absurd (taken words refusal.by refusal.words_are refused)
+refused_words_are_reported words files sink status left (reported bytes (of_failed_read st none unread) wrote) refused =
+    absurd (taken words unread.by unread.words_are refused)
+refused_words_are_reported words files sink status left
+    (reported bytes (of_session s asked st some ran text) wrote) refused =
+    absurd (taken words ran.by ran.words_are refused)
+refused_words_are_reported words files sink status left
+    (reported bytes (of_book b asked st some carried text) wrote) refused =
+    absurd (taken words carried.by carried.words_are refused)
+refused_words_are_reported words files sink status left (cut_short bytes meant report st fault front) refused =
+    inr (inl st)
 refused_words_are_reported words files sink status left (out_of_memory st none nothing) refused = inr (inr (inl st))
 
 -- ---- a book that is over
@@ -83,4 +109,5 @@ unfolding commands_of
 round_is_past p n c round at over = let within = (round-of 0 p.pods.rounds n c at).1 in omega (arith, within, over)
 
 pub each_command_is_answered : LegalWorldsMeetEachClause → EachCommandIsAnsweredAtTheEnd
-each_command_is_answered law w legal over n c at = (law w legal).rounds.past n c at (round_is_past w.plan n c w.round at over)
+each_command_is_answered law w legal over n c at =
+    (law w legal).rounds.past n c at (round_is_past w.plan n c w.round at over)

@@ -52,7 +52,11 @@ own-lease_none : (att : Att) (ks : List Kind) (calls more : List Call) → list_
 own-lease_none att ks [] more own rest = rest
 own-lease_none att ks (call ∷ calls) more own rest =
     let both = and_parts (is_own_call att ks call) (list_all (is_own_call att ks) calls) own in
-    grind (arith, still-leases_none call (own-moves_none att ks call both.0), own-lease_none att ks calls more both.1 rest)
+    grind (
+      arith,
+      still-leases_none call (own-moves_none att ks call both.0),
+      own-lease_none att ks calls more both.1 rest,
+    )
 
 -- ---- call by call
 
@@ -82,7 +86,8 @@ pub makes-ready : (calls next : List Call) (call : Call) (old mid new : JournalV
 makes-ready calls next call old mid new result first may ends = λ pools ready.
     call-ready pools call mid new result ends may.moves_none (may.allowed mid.host) (first.ready pools ready)
 
-pub makes-more : (calls next : List Call) (call : Call) (old mid new : JournalView) → MakesFirst calls (call ∷ next) old mid
+pub makes-more : (calls next : List Call) (call : Call) (old mid new : JournalView)
+    → MakesFirst calls (call ∷ next) old mid
     → IsMakeable call → CallEndsAs call mid new (Ok steps.Granted) → IsSound new.host → MakesFirst calls next old new
 makes-more calls next call old mid new first may ends sound = record {
   went = one-more calls next call old mid new (Ok steps.Granted) first ends;
@@ -91,7 +96,8 @@ makes-more calls next call old mid new first may ends sound = record {
 }
 
 -- the next call of those that are left, of a list that is read as another one, is makeable
-pub makes-next : (att : Att) (ks : List Kind) (read calls : List Call) (i : ℕ) (item call : Call) (old mid : JournalView)
+pub makes-next : (att : Att) (ks : List Kind) (read calls : List Call) (i : ℕ) (item call : Call)
+    (old mid : JournalView)
     → MakesFirst calls (drop i calls) old mid → list_all (is_own_call att ks) calls ≡ true → read ≡ calls
     → i < length read → item ≡ get_or read i item → call ≡ item
     → MakesFirst calls (call ∷ drop (i + 1) calls) old mid × IsMakeable call
@@ -109,21 +115,25 @@ pub makes-end : (calls next : List Call) (call : Call) (old mid new : JournalVie
     → MakesFirst calls (call ∷ next) old mid → IsShort end → CallEndsAs call mid new (Ok end)
     → MakesCalls calls old new (Ok end)
 makes-end calls next call old mid new end first short ends = λ co c given more.
-    goes-short co c old new (after_leases (calls ++ more) given) (after_leases (next ++ more) given) (after_leases more given) end short
+    goes-short co c old new (after_leases (calls ++ more) given) (after_leases (next ++ more) given)
+    (after_leases more given) end short
     (one-more calls next call old mid new (Ok end) first ends co c given more)
 
-pub makes-refused : (calls next : List Call) (call : Call) (old mid new : JournalView) (result : Result StepEnd NoMemory)
+pub makes-refused : (calls next : List Call) (call : Call) (old mid new : JournalView)
+    (result : Result StepEnd NoMemory)
     (e : NoMemory) → MakesFirst calls (call ∷ next) old mid → result ≡ Err e → CallEndsAs call mid new (Err e)
     → MakesCalls calls old new result
 makes-refused calls next call old mid new result e first is ends = λ co c given more.
-    let P : Result StepEnd NoMemory → Type 0 = λ r. GoesStep co c old new (after_leases (calls ++ more) given) (after_leases more given) r in
+    let P : Result StepEnd NoMemory → Type 0 = λ r.
+    GoesStep co c old new (after_leases (calls ++ more) given) (after_leases more given) r in
     subst P (sym is) (one-more calls next call old mid new (Err e) first ends co c given more)
 
 -- memory for the next call was refused
 pub makes-unmade : (calls left : List Call) (old mid : JournalView) (result : Result StepEnd NoMemory) (e : NoMemory)
     → MakesFirst calls left old mid → result ≡ Err e → MakesCalls calls old mid result
 makes-unmade calls left old mid result e first is = λ co c given more.
-    let P : Result StepEnd NoMemory → Type 0 = λ r. GoesStep co c old mid (after_leases (calls ++ more) given) (after_leases more given) r in
+    let P : Result StepEnd NoMemory → Type 0 = λ r.
+    GoesStep co c old mid (after_leases (calls ++ more) given) (after_leases more given) r in
     let so_far = first.went co c given more in
     subst P (sym is) (so_far.0, (after_leases (left ++ more) given, so_far.1))
 
@@ -147,7 +157,8 @@ quiet-steps co c old new s next given result quiet goes = record {
     quiet-went : (t : State) → Went co c goes.0 old new s t → leases_in (replies goes.0) ≡ []
     quiet-went t went = quiet-run co c _ old.made s old.host goes.0 quiet went.run
 
-    quiet-ends : (r : Result StepEnd NoMemory) → StepEndsAs co c goes.0 old new s next r → leases_in (replies goes.0) ≡ []
+    quiet-ends : (r : Result StepEnd NoMemory) → StepEndsAs co c goes.0 old new s next r
+        → leases_in (replies goes.0) ≡ []
     quiet-ends (Ok steps.Granted) ends = quiet-went _ ends
     quiet-ends (Ok (steps.Refused cause)) ends = quiet-went _ ends
     quiet-ends (Ok steps.Stopped) ends = quiet-went _ ends.1
@@ -172,8 +183,11 @@ makes-row : (row : Row) (cached : Option Cached) (old new : JournalView) (result
     → GoesStep co c old new (after_leases (forward_by row.att row.calls cached) given) (Over Added given) result)
     → MakesRow row old new result
 makes-row row cached old new result own is goes co c given =
-    let P : Option Cached → Type 0 = λ o. Steps co c old new (after_leases (forward_by row.att row.calls o) given) (Over Added given) given given result in
-    subst P (sym is) (quiet-steps co c old new (after_leases (forward_by row.att row.calls cached) given) (Over Added given) given result
+    let P : Option Cached → Type 0 = λ o.
+    Steps co c old new (after_leases (forward_by row.att row.calls o) given) (Over Added given) given
+    given result in
+    subst P (sym is) (quiet-steps co c old new (after_leases (forward_by row.att row.calls cached) given)
+    (Over Added given) given result
     (forward-quiet row cached given own) (goes co c given))
 
 pub row-short : (row : Row) (cached : Cached) (old new : JournalView) (end : StepEnd)
@@ -181,24 +195,29 @@ pub row-short : (row : Row) (cached : Cached) (old new : JournalView) (end : Ste
     → MakesCalls row.calls old new (Ok end) → MakesRow row old new (Ok end)
 row-short row cached old new end own is short makes =
     makes-row row (Some cached) old new (Ok end) own is (λ co c given.
-    goes-short co c old new (after_leases (row.calls ++ CachePut row.att cached ∷ []) given) (after_leases (CachePut row.att cached ∷ []) given) (Over Added given) end short
+    goes-short co c old new (after_leases (row.calls ++ CachePut row.att cached ∷ []) given)
+    (after_leases (CachePut row.att cached ∷ []) given) (Over Added given) end short
     (makes co c given (CachePut row.att cached ∷ [])))
 
-pub row-refused : (row : Row) (cached : Cached) (old new : JournalView) (result : Result StepEnd NoMemory) (e : NoMemory)
+pub row-refused : (row : Row) (cached : Cached) (old new : JournalView)
+    (result : Result StepEnd NoMemory) (e : NoMemory)
     → list_all (is_own_call row.att row.kinds) row.calls ≡ true → row.cached ≡ Some cached → result ≡ Err e
     → MakesCalls row.calls old new (Err e) → MakesRow row old new result
 row-refused row cached old new result e own is failed makes =
     makes-row row (Some cached) old new result own is (λ co c given.
-    let P : Result StepEnd NoMemory → Type 0 = λ r. GoesStep co c old new (after_leases (row.calls ++ CachePut row.att cached ∷ []) given) (Over Added given) r in
+    let P : Result StepEnd NoMemory → Type 0 = λ r.
+    GoesStep co c old new (after_leases (row.calls ++ CachePut row.att cached ∷ []) given) (Over Added given) r in
     subst P (sym failed) (makes co c given (CachePut row.att cached ∷ [])))
 
 -- memory for the call that caches the result was refused
-pub row-uncached : (row : Row) (cached : Cached) (old new : JournalView) (result : Result StepEnd NoMemory) (e : NoMemory)
+pub row-uncached : (row : Row) (cached : Cached) (old new : JournalView)
+    (result : Result StepEnd NoMemory) (e : NoMemory)
     → list_all (is_own_call row.att row.kinds) row.calls ≡ true → row.cached ≡ Some cached → result ≡ Err e
     → MakesCalls row.calls old new (Ok steps.Granted) → MakesRow row old new result
 row-uncached row cached old new result e own is failed makes =
     makes-row row (Some cached) old new result own is (λ co c given.
-    let P : Result StepEnd NoMemory → Type 0 = λ r. GoesStep co c old new (after_leases (row.calls ++ CachePut row.att cached ∷ []) given) (Over Added given) r in
+    let P : Result StepEnd NoMemory → Type 0 = λ r.
+    GoesStep co c old new (after_leases (row.calls ++ CachePut row.att cached ∷ []) given) (Over Added given) r in
     let made = makes co c given (CachePut row.att cached ∷ []) in
     subst P (sym failed) (made.0, (after_leases (CachePut row.att cached ∷ []) given, made.1)))
 

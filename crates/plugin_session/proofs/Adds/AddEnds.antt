@@ -37,11 +37,13 @@ none-unmet p (need ∷ needs) none = first-met p need needs (p need) refl none (
 pub askable : (needs : List Need) (ask asked : Ask) → asked ≡ ask → is_host_ns ask.netns ≡ false
     → first_unmet needs ask.options ≡ None → IsAskable needs asked
 askable needs ask asked same container options =
-    subst (IsAskable needs) (sym same) (record { container = container; options = none-unmet (is_met ask.options) needs options })
+    subst (IsAskable needs) (sym same)
+    (record { container = container; options = none-unmet (is_met ask.options) needs options })
 
 -- ---- the row
 
-pub fills-none : (may_call : Ask → List Call → Type 0) (may_result : Ask → AddResult → Type 0) (ask : Ask) (old new : Row)
+pub fills-none : (may_call : Ask → List Call → Type 0) (may_result : Ask → AddResult → Type 0)
+    (ask : Ask) (old new : Row)
     → new ≡ old → old.calls ≡ [] → old.cached ≡ None → Fills may_call may_result ask old new
 fills-none may_call may_result ask old new same calls cached =
     let P : Row → Type 0 = λ r. Fills may_call may_result ask old r in
@@ -57,10 +59,12 @@ LeasesGo att sets given old new result = (co : Course) (c : Command) → att_of 
 
 -- how all of it goes, by the row that is left
 abbrev pub AllGo : Att → List RangeSet → Row → List Addr → JournalView → JournalView → Result StepEnd NoMemory → Type 0
-AllGo att sets row given old new result = (co : Course) (c : Command) → att_of c ≡ att → co.forward ≡ forward_of (Some row)
+AllGo att sets row given old new result =
+    (co : Course) (c : Command) → att_of c ≡ att → co.forward ≡ forward_of (Some row)
     → Steps co c old new (leasing co sets []) (Over Added given) [] given result
 
-pub all-short : (att : Att) (sets : List RangeSet) (row : Row) (given : List Addr) (old new : JournalView) (end : StepEnd)
+pub all-short : (att : Att) (sets : List RangeSet) (row : Row) (given : List Addr)
+    (old new : JournalView) (end : StepEnd)
     → IsShort end → LeasesGo att sets given old new (Ok end) → AllGo att sets row given old new (Ok end)
 all-short att sets row given old new end short leases co c own forward =
     steps-short (leasing co [] given) (Over Added given) end short (leases co c own)
@@ -69,23 +73,28 @@ pub all-unleased : (att : Att) (sets : List RangeSet) (row : Row) (given : List 
     (result : Result StepEnd NoMemory) (e : NoMemory) → result ≡ Err e → LeasesGo att sets given old new (Err e)
     → AllGo att sets row given old new result
 all-unleased att sets row given old new result e is leases co c own forward =
-    let P : Result StepEnd NoMemory → Type 0 = λ r. Steps co c old new (leasing co sets []) (Over Added given) [] given r in
+    let P : Result StepEnd NoMemory → Type 0 = λ r.
+    Steps co c old new (leasing co sets []) (Over Added given) [] given r in
     subst P (sym is) (steps-unmade (leasing co [] given) (Over Added given) e e (leases co c own))
 
 -- memory for what the plugin is asked, or answers, was refused
 pub all-unasked : (att : Att) (sets : List RangeSet) (row : Row) (given : List Addr) (old new : JournalView)
-    (result : Result StepEnd NoMemory) (e : NoMemory) → result ≡ Err e → LeasesGo att sets given old new (Ok steps.Granted)
+    (result : Result StepEnd NoMemory) (e : NoMemory) → result ≡ Err e
+    → LeasesGo att sets given old new (Ok steps.Granted)
     → AllGo att sets row given old new result
 all-unasked att sets row given old new result e is leases co c own forward =
-    let P : Result StepEnd NoMemory → Type 0 = λ r. Steps co c old new (leasing co sets []) (Over Added given) [] given r in
+    let P : Result StepEnd NoMemory → Type 0 = λ r.
+    Steps co c old new (leasing co sets []) (Over Added given) [] given r in
     let went = leases co c own in
     subst P (sym is) (record { entries = went.entries; ends = (leasing co [] given, went.ends); leased = went.leased })
 
 pub all-made : (att : Att) (sets : List RangeSet) (row : Row) (given : List Addr) (old mid new : JournalView)
-    (result : Result StepEnd NoMemory) → LeasesGo att sets given old mid (Ok steps.Granted) → MakesRow row mid new result
+    (result : Result StepEnd NoMemory) → LeasesGo att sets given old mid (Ok steps.Granted)
+    → MakesRow row mid new result
     → AllGo att sets row given old new result
 all-made att sets row given old mid new result leases makes co c own forward =
-    let P : List Call → Type 0 = λ calls. Steps co c mid new (after_leases calls given) (Over Added given) given given result in
+    let P : List Call → Type 0 = λ calls.
+    Steps co c mid new (after_leases calls given) (Over Added given) given given result in
     steps-then (Over Added given) result (leases co c own) (subst P (sym forward) (makes co c given))
 
 -- ---- what is taken back
@@ -108,12 +117,20 @@ about att = record {
 }
 
 -- what is taken back for a cause ends with it
-pub undone-refused : (att : Att) (ks : List Kind) (cause : Cause) (old new : JournalView) (result : Result PartEnd NoMemory)
-    → ((co : Course) (c : Command) → att_of c ≡ att → co.kinds ≡ ks → EndsAs co c old new (ReadingCache (Refused cause)) result)
+pub undone-refused : (att : Att) (ks : List Kind) (cause : Cause) (old new : JournalView)
+    (result : Result PartEnd NoMemory)
+    → ((co : Course) (c : Command) → att_of c ≡ att → co.kinds ≡ ks
+    → EndsAs co c old new (ReadingCache (Refused cause)) result)
     → (ending : Ending) → result ≡ Ok (parts.Over ending) → ending ≡ Refused cause
 unfolding about
 undone-refused att ks cause old new result ends ending is =
-    let co : Course = record { sets = []; forward = []; kinds = ks; questions = []; gc = record { network = []; valid = []; kinds = [] } } in
+    let co : Course = record {
+      sets = [];
+      forward = [];
+      kinds = ks;
+      questions = [];
+      gc = record { network = []; valid = []; kinds = [] };
+    } in
     let P : Result PartEnd NoMemory → Type 0 = λ r. EndsAs co (about att) old new (ReadingCache (Refused cause)) r in
     let over = subst P is (ends co (about att) refl refl) in
     refused-back cause co old.made (replies over.0) over.1 ending over.2.state over.3
@@ -168,9 +185,12 @@ ends-after co c es fs old mid new s u (Err e) first rest = (rest.0, went-then fi
 back-quiet : (co : Course) (c : Command) (es : List Made) (old new : JournalView) (ending : Ending)
     (result : Result PartEnd NoMemory) → EndsWith co c es old new (ReadingCache ending) result
     → leases_in (replies es) ≡ []
-back-quiet co c es old new ending (Ok (parts.Over told)) ends = quiet-run co c _ old.made (ReadingCache ending) old.host es tt ends.1.run
-back-quiet co c es old new ending (Ok parts.Stopped) ends = quiet-run co c _ old.made (ReadingCache ending) old.host es tt ends.1.run
-back-quiet co c es old new ending (Err e) ends = quiet-run co c _ old.made (ReadingCache ending) old.host es tt ends.1.run
+back-quiet co c es old new ending (Ok (parts.Over told)) ends =
+    quiet-run co c _ old.made (ReadingCache ending) old.host es tt ends.1.run
+back-quiet co c es old new ending (Ok parts.Stopped) ends =
+    quiet-run co c _ old.made (ReadingCache ending) old.host es tt ends.1.run
+back-quiet co c es old new ending (Err e) ends =
+    quiet-run co c _ old.made (ReadingCache ending) old.host es tt ends.1.run
 
 -- how what was refused is taken back
 abbrev pub Undone : Att → List Kind → Cause → JournalView → JournalView → Result PartEnd NoMemory → Type 0
@@ -179,16 +199,20 @@ Undone att ks cause old new result = (co : Course) (c : Command) → att_of c �
 
 pub begun-undone : (att : Att) (sets : List RangeSet) (ipam : Option HostLocalConf) (row : Row) (given : List Addr)
     (cause : Cause) (old mid new : JournalView) (result : Result PartEnd NoMemory)
-    → AllGo att sets row given old mid (Ok (steps.Refused cause)) → Undone att (kinds_back ipam (Some row)) cause mid new result
+    → AllGo att sets row given old mid (Ok (steps.Refused cause))
+    → Undone att (kinds_back ipam (Some row)) cause mid new result
     → BegunEnds att sets ipam row given old new result
 begun-undone att sets ipam row given cause old mid new result all undone co c own forward kinds =
     let went = all co c own forward in
     let back = ends-as co c mid new (ReadingCache (Refused cause)) result (undone co c own kinds) in
     let none : given ≡ given ++ leases_in (replies back.0) =
-    sym (append-nil given) ∙ ap (λ (l : List Addr). given ++ l) (sym (back-quiet co c back.0 mid new (Refused cause) result back.1)) in
+    sym (append-nil given)
+    ∙ ap (λ (l : List Addr). given ++ l) (sym (back-quiet co c back.0 mid new (Refused cause) result back.1)) in
     record {
       entries = went.entries ++ back.0;
-      ends = ends-after co c went.entries back.0 old mid new (leasing co sets []) (ReadingCache (Refused cause)) result went.ends back.1;
+      ends =
+          ends-after co c went.entries back.0 old mid new (leasing co sets []) (ReadingCache (Refused cause)) result
+          went.ends back.1;
       leased = both-leased [] given given went.entries back.0 went.leased none;
     }
 
@@ -196,7 +220,8 @@ begun-undone att sets ipam row given cause old mid new result all undone co c ow
 
 went-begin : (co : Course) (c : Command) (att : Att) (netns : List ℕ) (old new : JournalView) → IsFor att netns c
     → IsMade (Begin att netns) old new
-    → Went co c (made_next old (Begin att netns) ∷ []) old new AtBegin (at_begin co (old.made + 1) (made_next old (Begin att netns)).reply)
+    → Went co c (made_next old (Begin att netns) ∷ []) old new AtBegin
+    (at_begin co (old.made + 1) (made_next old (Begin att netns)).reply)
 unfolding next_call advance
 went-begin co c att netns old new about_it made =
     let is : Some (Begin (att_of c) c.netns) ≡ Some (Begin att netns) =
@@ -241,12 +266,14 @@ over-refused : (cause : Cause) → IsOver (refused cause) (Refused cause)
 unfolding finish_of
 over-refused cause = refl
 
-pub adds-refused : (co : Course) (c : Command) (att : Att) (netns : List ℕ) (cause : Cause) (old new : JournalView) (b : Begun)
+pub adds-refused : (co : Course) (c : Command) (att : Att) (netns : List ℕ) (cause : Cause)
+    (old new : JournalView) (b : Begun)
     → IsFor att netns c → CallEndsAs (Begin att netns) old new (Ok (steps.Refused cause)) → b.begun ≡ false
     → Adds co c old new b (Ok (parts.Over (Refused cause)))
 adds-refused co c att netns cause old new b about_it ends unbegun =
     let made = made_next old (Begin att netns) in
-    let by = refused-by cause co (old.made + 1) new.made made.reply (sym (ap (λ (j : JournalView). j.made) ends.0)) ends.1 in
+    let by =
+    refused-by cause co (old.made + 1) new.made made.reply (sym (ap (λ (j : JournalView). j.made) ends.0)) ends.1 in
     let P : State → Type 0 = λ t. Went co c (made ∷ []) old new AtBegin t in
     record {
       entries = made ∷ [];
@@ -277,7 +304,8 @@ granted-by made _ is = absurd cc
 
 -- Begin was granted, and all else followed
 pub adds-begun : (co : Course) (c : Command) (att : Att) (netns : List ℕ) (ipam : Option HostLocalConf) (row : Row)
-    (old mid new : JournalView) (b : Begun) (result : Result PartEnd NoMemory) → IsFor att netns c → IsCourseOf ipam b co
+    (old mid new : JournalView) (b : Begun) (result : Result PartEnd NoMemory) → IsFor att netns c
+    → IsCourseOf ipam b co
     → CallEndsAs (Begin att netns) old mid (Ok steps.Granted) → b.begun ≡ true → row ≡ b.row
     → BegunEnds att (sets_by ipam) ipam row b.given.items mid new result → Adds co c old new b result
 adds-begun co c att netns ipam row old mid new b result about_it course begin begun same rest =
@@ -291,7 +319,9 @@ adds-begun co c att netns ipam row old mid new b result about_it course begin be
     (course.kinds begun ∙ ap (λ (r : Row). kinds_back ipam (Some r)) (sym same)) in
     record {
       entries = made ∷ on.entries;
-      ends = ends-after co c (made ∷ []) on.entries old mid new AtBegin (leasing co (sets_by ipam) []) result first on.ends;
+      ends =
+          ends-after co c (made ∷ []) on.entries old mid new AtBegin (leasing co (sets_by ipam) []) result
+          first on.ends;
       begun = begun ∙ sym (ap (λ (r : Reply). is_begun (Begin att netns) r) done);
       given = λ was. on.leased ∙ sym (ap (λ (r : Reply). leases_in (r ∷ replies on.entries)) done);
     }

@@ -35,7 +35,8 @@ left-course h b = record {
 }
 
 leased-same : (h : Handed) (es : List Made) (row : Row) (given : List Addr) (begun : Bool)
-    → (begun ≡ true → given ≡ leases_in (replies es)) → cond begun given h.leased ≡ leased_after h es (then_some begun row)
+    → (begun ≡ true → given ≡ leases_in (replies es))
+    → cond begun given h.leased ≡ leased_after h es (then_some begun row)
 leased-same h es row given true is = is refl
 leased-same h es row given false is = refl
 
@@ -57,20 +58,24 @@ begun-at-call : (co : Course) (att : Att) (netns : List ℕ) (made : ℕ) (call 
     → Some (Begin att netns) ≡ Some call → IsOver (state_from co (made + 1) (at_begin co (made + 1) r) rs) Added
     → is_begun call r ≡ true
 begun-at-call co att netns made call r rs is over =
-    subst (λ x. is_begun x r ≡ true) (same_Some (Begin att netns) call is) (begun-by co att netns (made + 1) (made + 1) r rs over)
+    subst (λ x. is_begun x r ≡ true) (same_Some (Begin att netns) call is)
+    (begun-by co att netns (made + 1) (made + 1) r rs over)
 
 added-begun : (co : Course) (c : Command) (f : ℕ → Bool) (made : ℕ) (host : Host) (es : List Made)
-    → IsRunFrom co c f made AtBegin host es → IsOver (state_from co made AtBegin (replies es)) Added → has_begun es ≡ true
+    → IsRunFrom co c f made AtBegin host es → IsOver (state_from co made AtBegin (replies es)) Added
+    → has_begun es ≡ true
 unfolding advance next_call finish_of
 added-begun co c f made host [] run over = absurd (none-some Added over)
-added-begun co c f made host (e ∷ es) run over = begun-at-call co (att_of c) c.netns made e.call e.reply (replies es) run.0 over
+added-begun co c f made host (e ∷ es) run over =
+    begun-at-call co (att_of c) c.netns made e.call e.reply (replies es) run.0 over
 
 row-there : (b : Begun) (es : List Made) → b.begun ≡ has_begun es → has_begun es ≡ true → row_if b ≡ Some b.row
 row-there b es is begun = ap (λ (x : Bool). then_some x b.row) (is ∙ begun)
 
 -- ---- its answer
 
-answer-added : (h : Handed) (es : List Made) (b : Begun) (t : State) (ending : Ending) (a : TaskAnswer) (new : JournalView)
+answer-added : (h : Handed) (es : List Made) (b : Begun) (t : State) (ending : Ending) (a : TaskAnswer)
+    (new : JournalView)
     → IsEnd true ending → IsOver t ending → (ending ≡ Added → row_if b ≡ Some b.row)
     → IsAnswerToAdd (command_for h) new b.row (parts.Over ending) a → IsAnswerAt h es (row_if b) t a
 answer-added h es b t Added a new end over there answer =
@@ -96,7 +101,8 @@ came-to h old new b es t begun given went = record {
 }
 
 -- it is all of the task, with an answer to the state that it came to
-runs-add : (suite : Suite) (h : Handed) (old new : JournalView) (b : Begun) (es : List Made) (t : State) (a : TaskAnswer)
+runs-add : (suite : Suite) (h : Handed) (old new : JournalView) (b : Begun) (es : List Made)
+    (t : State) (a : TaskAnswer)
     → IsTurnedTo h old → begins h.task.verb ≡ AtBegin → CameTo h old new b es t
     → (b.begun ≡ true → IsNewRow suite h es b.row) → IsAnswerAt h es (row_if b) t a → RunsAdd suite h old new b a
 runs-add suite h old new b es t a turned verb came row answer = record {
@@ -110,7 +116,8 @@ runs-add suite h old new b es t a turned verb came row answer = record {
 
 pub add-ends : (suite : Suite) (h : Handed) (old new : JournalView) (b : Begun) (end : PartEnd)
     (r : Result TaskAnswer NoMemory) → IsTurnedTo h old → begins h.task.verb ≡ AtBegin
-    → ((es : List Made) → (b.begun ≡ true → b.given.items ≡ leases_in (replies es)) → b.begun ≡ true → IsNewRow suite h es b.row)
+    → ((es : List Made) → (b.begun ≡ true → b.given.items ≡ leases_in (replies es)) → b.begun ≡ true
+    → IsNewRow suite h es b.row)
     → Adds (course_left h b) (command_for h) old new b (Ok end)
     → IfOk r (IsAnswerToAdd (command_for h) new b.row end) → RunsAdd suite h old new b (answered r)
 add-ends suite h old new b (parts.Over ending) (Ok a) turned verb row added answer =
@@ -118,11 +125,15 @@ add-ends suite h old new b (parts.Over ending) (Ok a) turned verb row added answ
     let t = added.ends.0 in
     let went = added.ends.1 in
     let co = course_left h b in
-    let over : IsOver (state_from co old.made AtBegin (replies es)) ending = subst (λ u. IsOver u ending) (sym went.state) added.ends.2 in
+    let over : IsOver (state_from co old.made AtBegin (replies es)) ending =
+    subst (λ u. IsOver u ending) (sym went.state) added.ends.2 in
     let end = goes-ends true co old.made AtBegin (replies es) ending refl over in
     let there : ending ≡ Added → row_if b ≡ Some b.row = λ is.
-    row-there b es added.begun (added-begun co (command_for h) _ old.made old.host es went.run (subst (IsOver (state_from co old.made AtBegin (replies es))) is over)) in
-    runs-add suite h old new b es t a turned verb (came-to h old new b es t added.begun added.given went) (row es added.given)
+    row-there b es added.begun
+    (added-begun co (command_for h) _ old.made old.host es went.run
+    (subst (IsOver (state_from co old.made AtBegin (replies es))) is over)) in
+    runs-add suite h old new b es t a turned verb (came-to h old new b es t added.begun added.given went)
+    (row es added.given)
     (answer-added h es b t ending a new end added.ends.2 there answer)
 add-ends suite h old new b parts.Stopped (Ok a) turned verb row added answer =
     let es = added.entries in
@@ -131,24 +142,29 @@ add-ends suite h old new b parts.Stopped (Ok a) turned verb row added answer =
     let calls = answer.0 in
     let stop = same-stop (course_left h b) (command_for h) h es old new AtBegin t (Some calls) turned went answer.2 in
     let all = made-all (course_left h b) (command_for h) h es old new AtBegin t calls turned went answer.3 in
-    runs-add suite h old new b es t a turned verb (came-to h old new b es t added.begun added.given went) (row es added.given)
+    runs-add suite h old new b es t a turned verb (came-to h old new b es t added.begun added.given went)
+    (row es added.given)
     (subst (IsAnswerAt h es (row_if b) t) (sym answer.1) (added.ends.2.0, stop, all))
 add-ends suite h old new b (parts.Over ending) (Err e) turned verb row added answer =
     runs-add suite h old new b added.entries added.ends.0 answers.OutOfMemory turned verb
-    (came-to h old new b added.entries added.ends.0 added.begun added.given added.ends.1) (row added.entries added.given) tt
+    (came-to h old new b added.entries added.ends.0 added.begun added.given added.ends.1)
+    (row added.entries added.given) tt
 add-ends suite h old new b parts.Stopped (Err e) turned verb row added answer =
     runs-add suite h old new b added.entries added.ends.0 answers.OutOfMemory turned verb
-    (came-to h old new b added.entries added.ends.0 added.begun added.given added.ends.1) (row added.entries added.given) tt
+    (came-to h old new b added.entries added.ends.0 added.begun added.given added.ends.1)
+    (row added.entries added.given) tt
 
 -- memory is refused on the way
 pub add-cut : (suite : Suite) (h : Handed) (old new : JournalView) (b : Begun) (e : NoMemory)
     (r : Result TaskAnswer NoMemory) → IsTurnedTo h old → begins h.task.verb ≡ AtBegin
-    → ((es : List Made) → (b.begun ≡ true → b.given.items ≡ leases_in (replies es)) → b.begun ≡ true → IsNewRow suite h es b.row)
+    → ((es : List Made) → (b.begun ≡ true → b.given.items ≡ leases_in (replies es)) → b.begun ≡ true
+    → IsNewRow suite h es b.row)
     → Adds (course_left h b) (command_for h) old new b (Err e) → IsErr r → RunsAdd suite h old new b (answered r)
 add-cut suite h old new b e (Ok a) turned verb row added err = cc
 add-cut suite h old new b e (Err f) turned verb row added err =
     runs-add suite h old new b added.entries added.ends.0 answers.OutOfMemory turned verb
-    (came-to h old new b added.entries added.ends.0 added.begun added.given added.ends.1) (row added.entries added.given) tt
+    (came-to h old new b added.entries added.ends.0 added.begun added.given added.ends.1)
+    (row added.entries added.given) tt
 
 -- the task's stop is reached where an ADD is stopped
 pub add-stopped : (co : Course) (c : Command) (old new : JournalView) (b : Begun) (end : PartEnd)
@@ -174,17 +190,22 @@ answered-same : (suite : Suite) (h : Handed) (es : List Made) (row : Row) (name 
     → name ≡ h.task.kind_name → ask ≡ ask_for h es
     → IsAnswer (suite.may_call name) (suite.may_result name) ask row cached → IsAnswered suite h es row cached
 answered-same suite h es row name ask cached named asked is = record {
-  calls = subst (λ (n : List ℕ). suite.may_call n (ask_for h es) row.calls) named (subst (λ (a : Ask). suite.may_call name a row.calls) asked is.calls);
+  calls =
+      subst (λ (n : List ℕ). suite.may_call n (ask_for h es) row.calls) named
+      (subst (λ (a : Ask). suite.may_call name a row.calls) asked is.calls);
   own = subst (λ (a : Ask). OwnCalls a row.kinds row.calls) asked is.own;
   netns = is.netns ∙ ap (λ (a : Ask). a.netns) asked;
   mappings = is.mappings;
-  result = subst (λ (n : List ℕ). suite.may_result n (ask_for h es) cached.result) named (subst (λ (a : Ask). suite.may_result name a cached.result) asked is.result);
+  result =
+      subst (λ (n : List ℕ). suite.may_result n (ask_for h es) cached.result) named
+      (subst (λ (a : Ask). suite.may_result name a cached.result) asked is.result);
 }
 
 pub new-row : (suite : Suite) (h : Handed) (plugin : PluginView) (sets : ℕ) (before b : Begun)
     → plugin.name ≡ h.task.kind_name → plugin_named suite.plugins h.task.kind_name ≡ Some plugin
     → IsUnbegun h.number (att_of (command_for h)) plugin.kinds sets before
-    → Fills (suite.may_call plugin.name) (suite.may_result plugin.name) (adds.ask_for h.conf h.task before.row.att b.given.items) before.row b.row
+    → Fills (suite.may_call plugin.name) (suite.may_result plugin.name)
+    (adds.ask_for h.conf h.task before.row.att b.given.items) before.row b.row
     → (es : List Made) → (b.begun ≡ true → b.given.items ≡ leases_in (replies es)) → b.begun ≡ true
     → IsNewRow suite h es b.row
 new-row suite h plugin sets before b name named unbegun fills es given begun = record {
@@ -193,7 +214,12 @@ new-row suite h plugin sets before b name named unbegun fills es given begun = r
   plugin = plugin;
   named = named;
   kinds = fills.kinds ∙ unbegun.kinds;
-  filled = match-then b.row.cached (b.row.calls ≡ []) (IsAnswer (suite.may_call plugin.name) (suite.may_result plugin.name) (adds.ask_for h.conf h.task before.row.att b.given.items) b.row)
-      (IsAnswered suite h es b.row) (λ cached. answered-same suite h es b.row plugin.name _ cached name (ask-same h es before.row.att b.given.items unbegun.att (given begun)))
+  filled =
+      match-then b.row.cached (b.row.calls ≡ [])
+      (IsAnswer (suite.may_call plugin.name) (suite.may_result plugin.name)
+      (adds.ask_for h.conf h.task before.row.att b.given.items) b.row)
+      (IsAnswered suite h es b.row) (λ cached.
+      answered-same suite h es b.row plugin.name _ cached name
+      (ask-same h es before.row.att b.given.items unbegun.att (given begun)))
       fills.filled;
 }

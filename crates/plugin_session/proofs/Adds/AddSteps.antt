@@ -20,7 +20,8 @@ use Rattle.plugin_session.proofs.Tasks.Ready.{lease-allowed, moves_last, ready-c
 -- ---- one part, and then a step
 
 ends-then : {co : Course} {c : Command} {es : List Made} {old mid : JournalView} {s u : State} (fs : List Made)
-    (new : JournalView) (next : State) (result : Result StepEnd NoMemory) → Went co c es old mid s u → StepEndsAs co c fs mid new u next result
+    (new : JournalView) (next : State) (result : Result StepEnd NoMemory) → Went co c es old mid s u
+    → StepEndsAs co c fs mid new u next result
     → StepEndsAs co c (es ++ fs) old new s next result
 ends-then fs new next (Ok steps.Granted) first rest = went-then first rest
 ends-then fs new next (Ok (steps.Refused cause)) first rest = went-then first rest
@@ -38,7 +39,9 @@ pub both-leased : (before given after : List Addr) (es fs : List Made) → given
 both-leased before given after es fs first rest =
     rest ∙ ap (λ (l : List Addr). l ++ leases_in (replies fs)) first
     ∙ append_assoc before (leases_in (replies es)) (leases_in (replies fs))
-    ∙ ap (λ (l : List Addr). before ++ l) (sym (ap leases_in (map-append (λ (e : Made). e.reply) es fs) ∙ filter_map-append leased_by (replies es) (replies fs)))
+    ∙ ap (λ (l : List Addr). before ++ l)
+    (sym (ap leases_in (map-append (λ (e : Made). e.reply) es fs)
+    ∙ filter_map-append leased_by (replies es) (replies fs)))
 
 pub steps-then : {co : Course} {c : Command} {old mid new : JournalView} {s u : State} {before given after : List Addr}
     (next : State) (result : Result StepEnd NoMemory) → Steps co c old mid s u before given (Ok steps.Granted)
@@ -119,14 +122,27 @@ same-went co c old new s same =
 pub call-step : (co : Course) (c : Command) (call : Call) (left : List Call) (given : List Addr) (old new : JournalView)
     (result : Result StepEnd NoMemory) → CallEndsAs call old new result
     → GoesStep co c old new (AfterLeases call left given) (after_leases left given) result
-call-step co c call left given old new (Ok steps.Granted) ends = call-made co c call left given old new steps.Granted ends
+call-step co c call left given old new (Ok steps.Granted) ends =
+    call-made co c call left given old new steps.Granted ends
 call-step co c call left given old new (Ok (steps.Refused cause)) ends =
     call-made co c call left given old new (steps.Refused cause) ends
-call-step co c call left given old new (Ok steps.Stopped) ends =
-    ([], (AfterLeases call left given, same-went co c old new (AfterLeases call left given) ends.0, (tt, ap may_go ends.0 ∙ ends.1)))
+call-step co c call left given old new (Ok steps.Stopped) ends = (
+  [],
+  (
+    AfterLeases call left given,
+    same-went co c old new (AfterLeases call left given) ends.0,
+    (tt, ap may_go ends.0 ∙ ends.1),
+  ),
+)
 call-step co c call left given old new (Err e) ends = elim ends [
   | inl same ↦ ([], (AfterLeases call left given, same-went co c old new (AfterLeases call left given) same))
-  | inr made ↦ (made_next old call ∷ [], (at_call_after (old.made + 1) left given (made_next old call).reply, went-call co c call left given old new made.0))
+  | inr made ↦ (
+    made_next old call ∷ [],
+    (
+      at_call_after (old.made + 1) left given (made_next old call).reply,
+      went-call co c call left given old new made.0,
+    ),
+  )
 ]
 
 -- the host stays ready over a call that is no lease
@@ -137,7 +153,9 @@ call-ready pools call old new result ends none allowed ready =
     let stays : new ≡ old → IsReady pools new.host =
     λ (same : new ≡ old). let P : JournalView → Type 0 = λ j. IsReady pools j.host in subst P (sym same) ready in
     let after : IsMade call old new → IsReady pools new.host =
-    λ (made : IsMade call old new). ready-made pools old new call made (ready-call pools old.host call (are_after old.made old.faults) none allowed ready) in
+    λ (made : IsMade call old new).
+    ready-made pools old new call made
+    (ready-call pools old.host call (are_after old.made old.faults) none allowed ready) in
     by_end result ends stays after
   where
     by_end : (r : Result StepEnd NoMemory) → CallEndsAs call old new r → (new ≡ old → IsReady pools new.host)
@@ -179,15 +197,19 @@ lease-made co c att set left before after old new end own made is given =
     let call = LeaseNext att (length before) set in
     record {
       entries = made_next old call ∷ [];
-      ends = by-lease co c (made_next old call ∷ []) old new (Leasing set left before) left before after (old.made + 1) new.made
-          (made_next old call).reply end (count-made call old new made) is given (went-lease co c att set left before old new own made);
+      ends =
+          by-lease co c (made_next old call ∷ []) old new (Leasing set left before) left before after
+          (old.made + 1) new.made
+          (made_next old call).reply end (count-made call old new made) is given
+          (went-lease co c att set left before old new own made);
       leased = given;
     }
 
 lease-none : (before after : List Addr) → after ≡ before → after ≡ before ++ leases_in (replies [])
 lease-none before after same = same ∙ sym (append-nil before)
 
-pub lease-step : (co : Course) (c : Command) (att : Att) (set : RangeSet) (left : List RangeSet) (before after : List Addr)
+pub lease-step : (co : Course) (c : Command) (att : Att) (set : RangeSet) (left : List RangeSet)
+    (before after : List Addr)
     (old new : JournalView) (result : Result StepEnd NoMemory) → att_of c ≡ att
     → LeaseEndsAs att set old new before after result
     → Steps co c old new (Leasing set left before) (leasing co left after) before after result
@@ -197,7 +219,11 @@ lease-step co c att set left before after old new (Ok (steps.Refused cause)) own
     lease-made co c att set left before after old new (steps.Refused cause) own ends.0 ends.1 ends.2
 lease-step co c att set left before after old new (Ok steps.Stopped) own ends = record {
   entries = [];
-  ends = (Leasing set left before, same-went co c old new (Leasing set left before) ends.0, (tt, ap may_go ends.0 ∙ ends.1));
+  ends = (
+    Leasing set left before,
+    same-went co c old new (Leasing set left before) ends.0,
+    (tt, ap may_go ends.0 ∙ ends.1),
+  );
   leased = lease-none before after ends.2;
 }
 lease-step co c att set left before after old new (Err e) own ends = elim ends [
@@ -208,7 +234,10 @@ lease-step co c att set left before after old new (Err e) own ends = elim ends [
   }
   | inr made ↦ record {
     entries = made_next old (LeaseNext att (length before) set) ∷ [];
-    ends = (at_lease co (old.made + 1) left before (made_next old (LeaseNext att (length before) set)).reply, went-lease co c att set left before old new own made.0);
+    ends = (
+      at_lease co (old.made + 1) left before (made_next old (LeaseNext att (length before) set)).reply,
+      went-lease co c att set left before old new own made.0,
+    );
     leased = made.1;
   }
 ]
@@ -228,13 +257,17 @@ lease-count att set before after old new ends =
 
 pub lease-keeps_ready : (pools : Pools) (att : Att) (set : RangeSet) (before after : List Addr) (old new : JournalView)
     (result : Result StepEnd NoMemory) → LeaseEndsAs att set old new before after result → att.network ≡ pools.network
-    → slice_get pools.sets (length before) ≡ Some set → HasRangesApart set → IsReady pools old.host → IsReady pools new.host
+    → slice_get pools.sets (length before) ≡ Some set → HasRangesApart set → IsReady pools old.host
+    → IsReady pools new.host
 lease-keeps_ready pools att set before after old new result ends network at apart ready =
     let call = LeaseNext att (length before) set in
     let stays : new ≡ old → IsReady pools new.host =
     λ (same : new ≡ old). let P : JournalView → Type 0 = λ j. IsReady pools j.host in subst P (sym same) ready in
     let leased : IsMade call old new → IsReady pools new.host =
-    λ (made : IsMade call old new). ready-made pools old new call made (ready-lease pools old.host att (length before) set (are_after old.made old.faults) network at apart ready) in
+    λ (made : IsMade call old new).
+    ready-made pools old new call made
+    (ready-lease pools old.host att (length before) set (are_after old.made old.faults) network at
+    apart ready) in
     by_end result ends stays leased
   where
     by_end : (r : Result StepEnd NoMemory) → LeaseEndsAs att set old new before after r
@@ -264,7 +297,8 @@ lease-ends att set old new before after call number made reply result is place c
     by_result result own_made replied leased ok
   where
     same_end : lease_end_by number made reply ≡ lease_end_by (length before) new.made reply
-    same_end = ap (λ (n : ℕ). lease_end_by n made reply) place ∙ ap (λ (m : ℕ). lease_end_by (length before) m reply) count
+    same_end =
+        ap (λ (n : ℕ). lease_end_by n made reply) place ∙ ap (λ (m : ℕ). lease_end_by (length before) m reply) count
 
     by_result : (r : Result StepEnd NoMemory) → IsMade (LeaseNext att (length before) set) old new
         → reply ≡ (made_next old (LeaseNext att (length before) set)).reply
@@ -280,46 +314,61 @@ lease-ends att set old new before after call number made reply result is place c
 -- ---- the leases so far
 
 -- the first sets were leased from, one address each, and these are left
-pub record LeasesFirst (att : Att) (sets left : List RangeSet) (given : List Addr) (old new : JournalView) : Type 0 where
+pub record LeasesFirst (att : Att) (sets left : List RangeSet) (given : List Addr)
+    (old new : JournalView) : Type 0 where
   pub went : (co : Course) (c : Command) → att_of c ≡ att
       → Steps co c old new (leasing co sets []) (leasing co left given) [] given (Ok steps.Granted)
   pub ready : IsReady (record { network = att.network; sets = sets }) new.host
 
-pub leases-more : (att : Att) (sets left : List RangeSet) (set : RangeSet) (before after : List Addr) (old mid new : JournalView)
+pub leases-more : (att : Att) (sets left : List RangeSet) (set : RangeSet) (before after : List Addr)
+    (old mid new : JournalView)
     → LeasesFirst att sets (set ∷ left) before old mid → slice_get sets (length before) ≡ Some set → HasRangesApart set
     → LeaseEndsAs att set mid new before after (Ok steps.Granted) → LeasesFirst att sets left after old new
 leases-more att sets left set before after old mid new first at apart ends = record {
-  went = λ co c own. steps-then (leasing co left after) (Ok steps.Granted) (first.went co c own) (lease-step co c att set left before after mid new (Ok steps.Granted) own ends);
-  ready = lease-keeps_ready (record { network = att.network; sets = sets }) att set before after mid new (Ok steps.Granted) ends refl at apart first.ready;
+  went = λ co c own.
+      steps-then (leasing co left after) (Ok steps.Granted) (first.went co c own)
+      (lease-step co c att set left before after mid new (Ok steps.Granted) own ends);
+  ready =
+      lease-keeps_ready (record { network = att.network; sets = sets }) att set before after mid new (Ok steps.Granted)
+      ends refl at apart first.ready;
 }
 
 -- the leases end with this one
-pub leases-end : (att : Att) (sets left : List RangeSet) (set : RangeSet) (before after : List Addr) (old mid new : JournalView)
+pub leases-end : (att : Att) (sets left : List RangeSet) (set : RangeSet) (before after : List Addr)
+    (old mid new : JournalView)
     (end : StepEnd) → LeasesFirst att sets (set ∷ left) before old mid → IsShort end
     → LeaseEndsAs att set mid new before after (Ok end) → (co : Course) (c : Command) → att_of c ≡ att
     → Steps co c old new (leasing co sets []) (leasing co [] after) [] after (Ok end)
 leases-end att sets left set before after old mid new end first short ends co c own =
     steps-short (leasing co left after) (leasing co [] after) end short
-    (steps-then (leasing co left after) (Ok end) (first.went co c own) (lease-step co c att set left before after mid new (Ok end) own ends))
+    (steps-then (leasing co left after) (Ok end) (first.went co c own)
+    (lease-step co c att set left before after mid new (Ok end) own ends))
 
-pub leases-refused : (att : Att) (sets left : List RangeSet) (set : RangeSet) (before after : List Addr) (old mid new : JournalView)
-    (result : Result StepEnd NoMemory) (e : NoMemory) → LeasesFirst att sets (set ∷ left) before old mid → result ≡ Err e
+pub leases-refused : (att : Att) (sets left : List RangeSet) (set : RangeSet) (before after : List Addr)
+    (old mid new : JournalView)
+    (result : Result StepEnd NoMemory) (e : NoMemory) → LeasesFirst att sets (set ∷ left) before old mid
+    → result ≡ Err e
     → LeaseEndsAs att set mid new before after (Err e) → (co : Course) (c : Command) → att_of c ≡ att
     → Steps co c old new (leasing co sets []) (leasing co [] after) [] after result
 leases-refused att sets left set before after old mid new result e first is ends co c own =
-    let P : Result StepEnd NoMemory → Type 0 = λ r. Steps co c old new (leasing co sets []) (leasing co [] after) [] after r in
+    let P : Result StepEnd NoMemory → Type 0 = λ r.
+    Steps co c old new (leasing co sets []) (leasing co [] after) [] after r in
     subst P (sym is) (steps-unmade (leasing co left after) (leasing co [] after) e e
-    (steps-then (leasing co left after) (Err e) (first.went co c own) (lease-step co c att set left before after mid new (Err e) own ends)))
+    (steps-then (leasing co left after) (Err e) (first.went co c own)
+    (lease-step co c att set left before after mid new (Err e) own ends)))
 
-pub leases-ready : (att : Att) (sets left : List RangeSet) (set : RangeSet) (before after : List Addr) (old mid new : JournalView)
+pub leases-ready : (att : Att) (sets left : List RangeSet) (set : RangeSet) (before after : List Addr)
+    (old mid new : JournalView)
     (result : Result StepEnd NoMemory) → LeasesFirst att sets (set ∷ left) before old mid
     → slice_get sets (length before) ≡ Some set → HasRangesApart set → LeaseEndsAs att set mid new before after result
     → IsReady (record { network = att.network; sets = sets }) new.host
 leases-ready att sets left set before after old mid new result first at apart ends =
-    lease-keeps_ready (record { network = att.network; sets = sets }) att set before after mid new result ends refl at apart first.ready
+    lease-keeps_ready (record { network = att.network; sets = sets }) att set before after mid new result ends refl at
+    apart first.ready
 
 -- the lease of the next set may be made
-pub leases-allowed : (att : Att) (sets left : List RangeSet) (set : RangeSet) (given : List Addr) (old mid : JournalView)
+pub leases-allowed : (att : Att) (sets left : List RangeSet) (set : RangeSet) (given : List Addr)
+    (old mid : JournalView)
     → LeasesFirst att sets left given old mid → slice_get sets (length given) ≡ Some set → HasRangesApart set
     → IsAllowed mid.host (LeaseNext att (length given) set)
 leases-allowed att sets left set given old mid first at apart =
@@ -334,7 +383,8 @@ set-apart (first ∷ sets) zero set apart at =
 set-apart (first ∷ sets) (suc i) set apart at =
     set-apart sets i set (all_pairs-right is_apart first.ranges (ranges_of sets) apart) at
 
-pub leases-at : (att : Att) (sets left next : List RangeSet) (set : RangeSet) (given : List Addr) (old mid : JournalView)
+pub leases-at : (att : Att) (sets left next : List RangeSet) (set : RangeSet) (given : List Addr)
+    (old mid : JournalView)
     → LeasesFirst att sets left given old mid → left ≡ set ∷ next → LeasesFirst att sets (set ∷ next) given old mid
 leases-at att sets left next set given old mid first at =
     let P : List RangeSet → Type 0 = λ l. LeasesFirst att sets l given old mid in subst P at first
@@ -355,4 +405,7 @@ pub left-of : {X : Type 0} (read xs : List X) (i : ℕ) (x : X) → read ≡ xs 
     → (drop i xs ≡ x ∷ drop (i + 1) xs) × (slice_get xs i ≡ Some x)
 left-of {X} read xs i x same below is =
     let P : List X → Type 0 = λ l. (drop i l ≡ x ∷ drop (i + 1) l) × (slice_get l i ≡ Some x) in
-    subst P same (drop_more read i x below ∙ ap (λ y. y ∷ drop (i + 1) read) (sym is), slice_get-get_or read i x below ∙ ap Some (sym is))
+    subst P same (
+      drop_more read i x below ∙ ap (λ y. y ∷ drop (i + 1) read) (sym is),
+      slice_get-get_or read i x below ∙ ap Some (sym is),
+    )

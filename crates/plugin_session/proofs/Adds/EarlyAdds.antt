@@ -19,7 +19,8 @@ find-if f false x o p is = is
 pub find-map : {X Y : Type 0} (f : X → Y) (test : Y → Bool) (xs : List X)
     → find test (map f xs) ≡ option_map f (find (λ x. test (f x)) xs)
 find-map f test [] = refl
-find-map f test (x ∷ xs) = find-if f (test (f x)) x (find test (map f xs)) (find (λ y. test (f y)) xs) (find-map f test xs)
+find-map f test (x ∷ xs) =
+    find-if f (test (f x)) x (find test (map f xs)) (find (λ y. test (f y)) xs) (find-map f test xs)
 
 -- the first that passes is an element, and passes
 first-there : {X : Type 0} (test : X → Bool) (b : Bool) (y x : X) (ys : List X) → test y ≡ b
@@ -43,9 +44,11 @@ none-by : (wrong : WrongFields) (rest : Option Cause) (b : Bool) → any_wrong w
     → option_or (if b then Some (BadFields wrong) else None) rest ≡ None → wrong.netns ≡ false
 none-by wrong rest true is none = absurd (none-some (BadFields wrong) (sym none))
 none-by wrong rest false is none =
-    (or_parts wrong.netns (wrong.ifname || wrong.args) (or_parts wrong.container (wrong.netns || (wrong.ifname || wrong.args)) is).1).0
+    (or_parts wrong.netns (wrong.ifname || wrong.args)
+    (or_parts wrong.container (wrong.netns || (wrong.ifname || wrong.args)) is).1).0
 
-refusal-none : (wrong : WrongFields) (rest : Option Cause) → option_or (refusal_by wrong) rest ≡ None → wrong.netns ≡ false
+refusal-none : (wrong : WrongFields) (rest : Option Cause) → option_or (refusal_by wrong) rest ≡ None
+    → wrong.netns ≡ false
 refusal-none wrong rest none = none-by wrong rest (any_wrong wrong) refl none
 
 -- an ADD whose words are right is about a container
@@ -56,12 +59,19 @@ words-container c none = refusal-none (wrong_for_add c) (by_ip_argument c (value
 pub words-wrong : (plugins : List PluginView) (c : Command) (t : Task) (cause : Cause) → add_refusal c ≡ Some cause
     → early_by plugins verbs.Add c t ≡ Some (Known cause)
 words-wrong plugins c t cause is =
-    ap (λ o. option_or (option_map Known o) (option_map Wrong (wrong_option (plugin_named plugins t.kind_name) t.options))) is
+    ap (λ o.
+    option_or (option_map Known o)
+    (option_map Wrong (wrong_option (plugin_named plugins t.kind_name) t.options)))
+    is
 
 after-words : (plugins : List PluginView) (c : Command) (t : Task) (named : Option PluginView) → add_refusal c ≡ None
-    → plugin_named plugins t.kind_name ≡ named → early_by plugins verbs.Add c t ≡ option_map Wrong (wrong_option named t.options)
+    → plugin_named plugins t.kind_name ≡ named
+    → early_by plugins verbs.Add c t ≡ option_map Wrong (wrong_option named t.options)
 after-words plugins c t named words is =
-    ap (λ o. option_or (option_map Known o) (option_map Wrong (wrong_option (plugin_named plugins t.kind_name) t.options))) words
+    ap (λ o.
+    option_or (option_map Known o)
+    (option_map Wrong (wrong_option (plugin_named plugins t.kind_name) t.options)))
+    words
     ∙ ap (λ p. option_map Wrong (wrong_option p t.options)) is
 
 pub type-wrong : (plugins : List PluginView) (c : Command) (t : Task) → add_refusal c ≡ None
@@ -107,13 +117,15 @@ module _ {X : Type 0} (xs : List X) (name : X → List ℕ) (needs : X → List 
       → o ≡ find (λ x. bytes_eq (name x) word) xs → o ≡ Some p → first_unmet (needs p) t.options ≡ Some need
       → early_by (map (view_by name needs kinds) xs) verbs.Add c t ≡ Some (Wrong need.key)
   plugin-unmet p need words word_is found is unmet =
-      option-wrong (map (view_by name needs kinds) xs) c t (view_by name needs kinds p) need words (named-view (Some p) word_is found is) unmet
+      option-wrong (map (view_by name needs kinds) xs) c t (view_by name needs kinds p) need words
+      (named-view (Some p) word_is found is) unmet
 
   pub plugin-right : (p : X) → add_refusal c ≡ None → word ≡ t.kind_name
       → o ≡ find (λ x. bytes_eq (name x) word) xs → o ≡ Some p → first_unmet (needs p) t.options ≡ None
       → early_by (map (view_by name needs kinds) xs) verbs.Add c t ≡ None
   plugin-right p words word_is found is met =
-      none-wrong (map (view_by name needs kinds) xs) c t (view_by name needs kinds p) words (named-view (Some p) word_is found is) met
+      none-wrong (map (view_by name needs kinds) xs) c t (view_by name needs kinds p) words
+      (named-view (Some p) word_is found is) met
 
   -- the plugin is registered, and of the task's name
   pub plugin-there : (p : X) → word ≡ t.kind_name → o ≡ find (λ x. bytes_eq (name x) word) xs → o ≡ Some p

@@ -58,11 +58,17 @@ apply-none host (GatewayEnsure bridge cidr) still =
 apply-none host (ForwardEnsure family) still = either-none (list_any _ host.settings) _ _ refl refl
 apply-none host (VethAdd host_end inner_end) still =
     either-none (has_named_ns host inner_end.ns) _ _
-    (either-none (master_is_bridge_or_none host host_end.master) _ _ (append-none (option_map (λ l. l.tag) (option_or (link_at host inner_end.ns inner_end.name) (link_at host host_end.ns host_end.name))) host _) refl)
+    (either-none (master_is_bridge_or_none host host_end.master) _ _
+    (append-none
+    (option_map (λ l. l.tag)
+    (option_or (link_at host inner_end.ns inner_end.name) (link_at host host_end.ns host_end.name)))
+    host _)
+    refl)
     refl
 apply-none host (MacvlanAdd link) still =
     either-none (has_named_ns host link.ns) _ _
-    (either-none (has_master host link.master) _ _ (append-none (option_map (λ l. l.tag) (link_at host link.ns link.name)) host _) refl)
+    (either-none (has_master host link.master) _ _
+    (append-none (option_map (λ l. l.tag) (link_at host link.ns link.name)) host _) refl)
     refl
 apply-none host (LinkSet att key mac mtu tx_qlen promisc allmulti) still =
     either-none (list_any (is_own_at att key) host.links) _ _ refl refl
@@ -173,7 +179,9 @@ quiet-run co c faulty made s host [] quiet run = refl
 quiet-run co c faulty made s host (e ∷ es) quiet run =
     let none : leased_by e.reply ≡ None =
     ap leased_by run.1 ∙ reply-none host e.call (faulty made) (quiet-next c s e.call quiet run.0) in
-    let rest = quiet-run co c faulty (made + 1) (advance co (made + 1) s e.reply) (host_on host e) es (quiet-advance co (made + 1) s e.reply quiet) run.2 in
+    let rest =
+    quiet-run co c faulty (made + 1) (advance co (made + 1) s e.reply) (host_on host e) es
+    (quiet-advance co (made + 1) s e.reply quiet) run.2 in
     rw none rest
 
 -- ---- what is taken back for a cause ends so
@@ -225,4 +233,5 @@ over-back cause _ ending back over = absurd back
 pub refused-back : (cause : Cause) (co : Course) (made : ℕ) (rs : List Reply) (t : State) (ending : Ending)
     → state_from co made (ReadingCache (Refused cause)) rs ≡ t → IsOver t ending → ending ≡ Refused cause
 refused-back cause co made rs t ending is over =
-    over-back cause t ending (subst (IsBackFor cause) is (back-from cause co made (ReadingCache (Refused cause)) rs refl)) over
+    over-back cause t ending
+    (subst (IsBackFor cause) is (back-from cause co made (ReadingCache (Refused cause)) rs refl)) over

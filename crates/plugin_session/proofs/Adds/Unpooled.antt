@@ -38,7 +38,8 @@ next-no_lease c AtBegin call none next = ap asks_for_lease (sym (same_Some (Begi
 next-no_lease c (AfterLeases first left given) call none next =
     let parts = and_parts (not (asks_for_lease first)) (leases_none left) none in
     ap asks_for_lease (sym (same_Some first call next)) ∙ not-true (asks_for_lease first) parts.0
-next-no_lease c (ReadingCache ending) call none next = ap asks_for_lease (sym (same_Some (CacheGet (att_of c)) call next))
+next-no_lease c (ReadingCache ending) call none next =
+    ap asks_for_lease (sym (same_Some (CacheGet (att_of c)) call next))
 next-no_lease c (Deleting kind left ending) call none next =
     ap asks_for_lease (sym (same_Some (deletion (att_of c) kind) call next)) ∙ deletion-no_lease (att_of c) kind
 next-no_lease c (Over ending given) call none next = absurd cc
@@ -46,7 +47,8 @@ next-no_lease c _ call none next = absurd cc
 
 -- ---- the state after it
 
-after_leases-none : (calls : List Call) (given : List Addr) → leases_none calls ≡ true → Unleasing (after_leases calls given) ≡ true
+after_leases-none : (calls : List Call) (given : List Addr) → leases_none calls ≡ true
+    → Unleasing (after_leases calls given) ≡ true
 after_leases-none [] given none = refl
 after_leases-none (call ∷ calls) given none = none
 
@@ -76,7 +78,8 @@ deletion-none number kind left ending (Gone true) = refl
 deletion-none number kind left ending Fault = refl
 deletion-none number kind left ending _ = refl
 
-advance-none : (co : Course) (number : ℕ) (s : State) (r : Reply) → co.sets ≡ [] → LeasesBySetsAlone co → Unleasing s ≡ true
+advance-none : (co : Course) (number : ℕ) (s : State) (r : Reply) → co.sets ≡ [] → LeasesBySetsAlone co
+    → Unleasing s ≡ true
     → Unleasing (advance co number s r) ≡ true
 unfolding advance
 advance-none co number AtBegin r unpooled forward none = begin-none co number r unpooled forward
@@ -99,10 +102,13 @@ Unleased past s host = (Unleasing s ≡ true) × (leases_in (replies past) ≡ [
 keeps-unleased : (co : Course) (c : Command) → co.sets ≡ [] → LeasesBySetsAlone co → Keeps co c Unleased
 keeps-unleased co c unpooled forward past number s host call fault next was = (
   advance-none co number s (reply_to host call fault) unpooled forward was.0,
-  leases-same past (made_on host call fault) (reply-none (reply_to host call fault) (none-reply host call fault (next-no_lease c s call was.0 next))) ∙ was.1,
+  leases-same past (made_on host call fault)
+      (reply-none (reply_to host call fault) (none-reply host call fault (next-no_lease c s call was.0 next)))
+      ∙ was.1,
 )
 
 pub unpooled-leases : (r : Run) → BeginsAt AtBegin r → r.course.sets ≡ [] → LeasesBySetsAlone r.course
     → leases_in (replies r.entries) ≡ []
 unpooled-leases r run unpooled forward =
-    (along r.course r.command r.faulty Unleased (keeps-unleased r.course r.command unpooled forward) [] 0 AtBegin r.start r.entries run (refl, refl)).1
+    (along r.course r.command r.faulty Unleased (keeps-unleased r.course r.command unpooled forward) [] 0 AtBegin
+    r.start r.entries run (refl, refl)).1

@@ -23,7 +23,9 @@ pub told-same : (a d : JournalView) (call : Call) → (apply a.host call).0 ≡ 
     → d ≡ after_entries a (made_next a call ∷ []) → d.host ≡ a.host
 told-same a d call same made =
     let fault = is_fault (made_next a call).reply in
-    ap (λ (j : JournalView). j.host) made ∙ ap (λ (k : Host). if fault then a.host else k) same ∙ either-same fault a.host
+    ap (λ (j : JournalView). j.host) made
+    ∙ ap (λ (k : Host). if fault then a.host else k) same
+    ∙ either-same fault a.host
 
 -- and so does a question
 pub asked-same : (a d : JournalView) (call : Call) → IsProbe call → d ≡ after_entries a (made_next a call ∷ [])
@@ -36,11 +38,13 @@ made-more a d call made = ap (λ (j : JournalView). j.made) made
 
 question-went : (co : Course) (c : Command) (q : Question) (left : List Question) (a d : JournalView)
     → d ≡ after_entries a (made_next a q.call ∷ [])
-    → Went co c (made_next a q.call ∷ []) a d (Asking q left) (at_question (a.made + 1) q left (made_next a q.call).reply)
+    → Went co c (made_next a q.call ∷ []) a d (Asking q left)
+    (at_question (a.made + 1) q left (made_next a q.call).reply)
 unfolding next_call advance
 question-went co c q left a d made = went-one co c q.call a d (Asking q left) refl made
 
-question-ends : (co : Course) (c : Command) (q : Question) (left : List Question) (a d : JournalView) (es : List Made) (number : ℕ) (r : Reply)
+question-ends : (co : Course) (c : Command) (q : Question) (left : List Question) (a d : JournalView) (es : List Made)
+    (number : ℕ) (r : Reply)
     → Went co c es a d (Asking q left) (at_question number q left r)
     → AskedAs co c a d q left (Ok (end_by (Some r) q.lack number))
 unfolding finish_of
@@ -49,14 +53,18 @@ question-ends co c q left a d es number (Has false) w = (es, refused q.lack, w, 
 question-ends co c q left a d es number _ w = (es, refused (causes.Fault number), w, refl)
 
 -- a question that was asked goes on as its reply says
-pub question-asked : (co : Course) (c : Command) (q : Question) (left : List Question) (a d : JournalView) (o : Option Reply) (number : ℕ) (end : Option PartEnd)
+pub question-asked : (co : Course) (c : Command) (q : Question) (left : List Question) (a d : JournalView)
+    (o : Option Reply) (number : ℕ) (end : Option PartEnd)
     → d ≡ after_entries a (made_next a q.call ∷ []) → o ≡ Some (made_next a q.call).reply → number ≡ d.made
     → end ≡ end_by o q.lack number → AskedAs co c a d q left (Ok end)
 question-asked co c q left a d o number end made by is ends =
     let all : end ≡ end_by (Some (made_next a q.call).reply) q.lack (a.made + 1) =
-    ends ∙ ap (λ p. end_by p q.lack number) by ∙ ap (end_by (Some (made_next a q.call).reply) q.lack) (is ∙ made-more a d q.call made) in
+    ends
+    ∙ ap (λ p. end_by p q.lack number) by
+    ∙ ap (end_by (Some (made_next a q.call).reply) q.lack) (is ∙ made-more a d q.call made) in
     subst (λ (x : Option PartEnd). AskedAs co c a d q left (Ok x)) (sym all)
-    (question-ends co c q left a d (made_next a q.call ∷ []) (a.made + 1) (made_next a q.call).reply (question-went co c q left a d made))
+    (question-ends co c q left a d (made_next a q.call ∷ []) (a.made + 1) (made_next a q.call).reply
+    (question-went co c q left a d made))
 
 -- ---- one question after another
 
@@ -69,7 +77,8 @@ pub asked-none : (a : JournalView) (qs : List Question) → AskedSoFar a a qs 0
 asked-none a qs = λ co c. ([], went-none co c a (asking qs))
 
 -- the next question
-asked-here : (co : Course) (c : Command) (a b : JournalView) (qs : List Question) (n : ℕ) (q : Question) → AskedSoFar a b qs n
+asked-here : (co : Course) (c : Command) (a b : JournalView) (qs : List Question) (n : ℕ) (q : Question)
+    → AskedSoFar a b qs n
     → n < length qs → q ≡ get_or qs n q → (es : List Made) × Went co c es a b (asking qs) (Asking q (drop (n + 1) qs))
 asked-here co c a b qs n q so_far within at =
     let here : List Question → Type 0 = λ rest. Went co c (so_far co c).0 a b (asking qs) (asking rest) in
@@ -98,12 +107,14 @@ asked-ended a b d qs n q o end so_far within at some asked = λ co c.
     (subst (λ (x : Option PartEnd). AskedAs co c b d q (drop (n + 1) qs) (Ok x)) some (asked co c (drop (n + 1) qs)))
 
 -- memory is refused
-pub failed-ends : (co : Course) (c : Command) (es : List Made) (a d : JournalView) (s t : State) (r : Result PartEnd NoMemory)
+pub failed-ends : (co : Course) (c : Command) (es : List Made) (a d : JournalView) (s t : State)
+    (r : Result PartEnd NoMemory)
     → IsErr r → Went co c es a d s t → EndsAs co c a d s r
 failed-ends co c es a d s t (Ok x) err w = absurd (false≢true err)
 failed-ends co c es a d s t (Err e) err w = (es, t, w)
 
-pub asked-failed : (a b d : JournalView) (qs : List Question) (n : ℕ) (q : Question) (e : NoMemory) (r : Result PartEnd NoMemory)
+pub asked-failed : (a b d : JournalView) (qs : List Question) (n : ℕ) (q : Question) (e : NoMemory)
+    (r : Result PartEnd NoMemory)
     → AskedSoFar a b qs n → n < length qs → q ≡ get_or qs n q → IsErr r
     → ((co : Course) (c : Command) (left : List Question) → AskedAs co c b d q left (Err e))
     → (co : Course) (c : Command) → EndsAs co c a d (asking qs) r
@@ -124,4 +135,5 @@ asked-all a b qs n so_far is = λ co c.
 pub probe-at : (qs : List Question) (n : ℕ) (q : Question) → AreProbes qs → n < length qs → q ≡ get_or qs n q
     → IsProbe q.call
 probe-at qs n q probes within at =
-    subst (λ (x : Question). IsProbe x.call) (sym at) (All-from_recursion (λ (x : Question). IsProbe x.call) qs probes n q within)
+    subst (λ (x : Question). IsProbe x.call) (sym at)
+    (All-from_recursion (λ (x : Question). IsProbe x.call) qs probes n q within)

@@ -30,7 +30,8 @@ asks-call rule _ = refl
 asks-calls : (rule : ℕ) (calls : List Call) → are_questions (call_questions rule calls) ≡ true
 asks-calls rule [] = refl
 asks-calls rule (call ∷ calls) =
-    list_all-append (λ (q : Question). is_question q.call) (questions_by rule call) (call_questions (next_rule rule call) calls) (asks-call rule call) (asks-calls (next_rule rule call) calls)
+    list_all-append (λ (q : Question). is_question q.call) (questions_by rule call)
+    (call_questions (next_rule rule call) calls) (asks-call rule call) (asks-calls (next_rule rule call) calls)
 
 asks-leases : (att : Att) (leased : List Addr)
     → are_questions (map (λ addr. lease_question (lease_of att addr)) leased) ≡ true
@@ -40,12 +41,15 @@ asks-leases att (addr ∷ leased) = asks-leases att leased
 pub row-asks : RowsAskForObjects
 row-asks None leased = refl
 row-asks (Some row) leased =
-    list_all-append (λ (q : Question). is_question q.call) (call_questions 1 row.calls) (map (λ addr. lease_question (lease_of row.att addr)) leased) (asks-calls 1 row.calls) (asks-leases row.att leased)
+    list_all-append (λ (q : Question). is_question q.call) (call_questions 1 row.calls)
+    (map (λ addr. lease_question (lease_of row.att addr)) leased) (asks-calls 1 row.calls)
+    (asks-leases row.att leased)
 
 -- ---- it leaves the host
 
 question-leaves : (host : Host) (call : Call) (r : Reply) → is_question call ≡ true → host_after host call r ≡ host
-question-leaves host (HasObj probe) r is = by_test (λ (k : Host). k ≡ host) (is_fault r) host host (λ _. refl) (λ _. refl)
+question-leaves host (HasObj probe) r is =
+    by_test (λ (k : Host). k ≡ host) (is_fault r) host host (λ _. refl) (λ _. refl)
 question-leaves host _ r is = cc
 
 look-leaves : (host : Host) (att : Att) (r : Reply) → host_after host (CacheGet att) r ≡ host
@@ -79,7 +83,8 @@ asks-step : (co : Course) (number : ℕ) (s : State) (r : Reply) → are_questio
     → OnlyAsks (advance co number s r)
 unfolding advance
 asks-step co number FindingEntry r all asks = asks-entry co number r all
-asks-step co number (Asking next left) r all asks = asks-question number next left r (and_parts (is_question next.call) (are_questions left) asks).1
+asks-step co number (Asking next left) r all asks =
+    asks-question number next left r (and_parts (is_question next.call) (are_questions left) asks).1
 asks-step co number (Over ending given) r all asks = tt
 asks-step co number _ r all asks = absurd asks
 
@@ -89,7 +94,8 @@ unfolding next_call
 asks-leaves c FindingEntry host call r asks is =
     subst (λ x. host_after host x r ≡ host) (same_Some (CacheGet (att_of c)) call is) (look-leaves host (att_of c) r)
 asks-leaves c (Asking next left) host call r asks is =
-    subst (λ x. host_after host x r ≡ host) (same_Some next.call call is) (question-leaves host next.call r (and_parts (is_question next.call) (are_questions left) asks).0)
+    subst (λ x. host_after host x r ≡ host) (same_Some next.call call is)
+    (question-leaves host next.call r (and_parts (is_question next.call) (are_questions left) asks).0)
 asks-leaves c (Over ending given) host call r asks is = absurd (none-some call is)
 asks-leaves c _ host call r asks is = absurd asks
 
@@ -97,7 +103,8 @@ check-same_from : (co : Course) (c : Command) (faulty : ℕ → Bool) (made : �
     → are_questions co.questions ≡ true → OnlyAsks s → IsRunFrom co c faulty made s host es → host_from host es ≡ host
 check-same_from co c faulty made s host [] all asks run = refl
 check-same_from co c faulty made s host (e ∷ es) all asks run =
-    check-same_from co c faulty (made + 1) (advance co (made + 1) s e.reply) (host_on host e) es all (asks-step co (made + 1) s e.reply all asks) run.2
+    check-same_from co c faulty (made + 1) (advance co (made + 1) s e.reply) (host_on host e) es all
+    (asks-step co (made + 1) s e.reply all asks) run.2
     ∙ asks-leaves c s host e.call e.reply asks run.0
 
 pub check-same : ChecksLeaveTheHost
@@ -131,11 +138,14 @@ abbrev has_fault : List Made → Bool
 has_fault es = list_any (λ (e : Made). is_fault e.reply) es
 
 -- from the questions that are left
-exact-asked : (co : Course) (c : Command) (faulty : ℕ → Bool) (made : ℕ) (qs : List Question) (host : Host) (es : List Made) (ending : Ending)
-    → are_questions qs ≡ true → IsRunFrom co c faulty made (asking qs) host es → IsOver (state_from co made (asking qs) (replies es)) ending → has_fault es ≡ false
+exact-asked : (co : Course) (c : Command) (faulty : ℕ → Bool) (made : ℕ) (qs : List Question) (host : Host)
+    (es : List Made) (ending : Ending)
+    → are_questions qs ≡ true → IsRunFrom co c faulty made (asking qs) host es
+    → IsOver (state_from co made (asking qs) (replies es)) ending → has_fault es ≡ false
     → IsExact (list_all (λ (q : Question). holds_by host q.call) qs) ending
 unfolding advance next_call finish_of
-exact-asked co c faulty made [] host es ending all run over unfailed = over-tells co made Yes [] (replies es) ending over
+exact-asked co c faulty made [] host es ending all run over unfailed =
+    over-tells co made Yes [] (replies es) ending over
 exact-asked co c faulty made (q ∷ qs) host [] ending all run over unfailed = absurd (none-some ending over)
 exact-asked co c faulty made (q ∷ qs) host (e ∷ es) ending all run over unfailed =
     let each = and_parts (is_question q.call) (are_questions qs) all in
@@ -143,25 +153,36 @@ exact-asked co c faulty made (q ∷ qs) host (e ∷ es) ending all run over unfa
     let asked : q.call ≡ e.call = same_Some q.call e.call run.0 in
     let asks : is_question e.call ≡ true = ap is_question (sym asked) ∙ each.0 in
     let told : e.reply ≡ Has (holds_by host q.call) =
-    run.1 ∙ told-question host e.call (faulty made) asks (ap is_fault (sym run.1) ∙ clear.0) ∙ ap (λ x. Has (holds_by host x)) (sym asked) in
+    run.1
+    ∙ told-question host e.call (faulty made) asks (ap is_fault (sym run.1) ∙ clear.0)
+    ∙ ap (λ x. Has (holds_by host x)) (sym asked) in
     let same : host_on host e ≡ host = question-leaves host e.call e.reply asks in
     exact-both (holds_by host q.call) (list_all (λ (x : Question). holds_by host x.call) qs) ending
-    (λ there. let is : at_question (made + 1) q qs e.reply ≡ asking qs = ap (at_question (made + 1) q qs) (told ∙ ap Has there) in
+    (λ there.
+    let is : at_question (made + 1) q qs e.reply ≡ asking qs =
+    ap (at_question (made + 1) q qs) (told ∙ ap Has there) in
     exact-asked co c faulty (made + 1) qs host es ending each.1
-    (subst (λ k. IsRunFrom co c faulty (made + 1) (asking qs) k es) same (subst (λ s. IsRunFrom co c faulty (made + 1) s (host_on host e) es) is run.2))
+    (subst (λ k. IsRunFrom co c faulty (made + 1) (asking qs) k es) same
+    (subst (λ s. IsRunFrom co c faulty (made + 1) s (host_on host e) es) is run.2))
     (subst (λ s. IsOver (state_from co (made + 1) s (replies es)) ending) is over) clear.1)
-    (λ gone. let is : at_question (made + 1) q qs e.reply ≡ refused q.lack = ap (at_question (made + 1) q qs) (told ∙ ap Has gone) in
+    (λ gone.
+    let is : at_question (made + 1) q qs e.reply ≡ refused q.lack =
+    ap (at_question (made + 1) q qs) (told ∙ ap Has gone) in
     refused-not_yes q.lack ending
-    (refusing-ends co q.lack (made + 1) (refused q.lack) (replies es) ending refl (subst (λ s. IsOver (state_from co (made + 1) s (replies es)) ending) is over)))
+    (refusing-ends co q.lack (made + 1) (refused q.lack) (replies es) ending refl
+    (subst (λ s. IsOver (state_from co (made + 1) s (replies es)) ending) is over)))
 
 -- from its cached result
-exact-found : (co : Course) (c : Command) (faulty : ℕ → Bool) (o : Option Cached) (host : Host) (es : List Made) (ending : Ending)
+exact-found : (co : Course) (c : Command) (faulty : ℕ → Bool) (o : Option Cached) (host : Host) (es : List Made)
+    (ending : Ending)
     → are_questions co.questions ≡ true → IsRunFrom co c faulty 1 (checking co o) host es
     → IsOver (state_from co 1 (checking co o) (replies es)) ending → has_fault es ≡ false
     → IsExact (is_some o && list_all (λ (q : Question). holds_by host q.call) co.questions) ending
 exact-found co c faulty None host es ending all run over unfailed =
-    refused-not_yes causes.Unknown ending (refusing-ends co causes.Unknown 1 (refused causes.Unknown) (replies es) ending refl over)
-exact-found co c faulty (Some cached) host es ending all run over unfailed = exact-asked co c faulty 1 co.questions host es ending all run over unfailed
+    refused-not_yes causes.Unknown ending
+    (refusing-ends co causes.Unknown 1 (refused causes.Unknown) (replies es) ending refl over)
+exact-found co c faulty (Some cached) host es ending all run over unfailed =
+    exact-asked co c faulty 1 co.questions host es ending all run over unfailed
 
 pub check-exact : ChecksAreExact
 unfolding advance next_call finish_of
@@ -169,10 +190,14 @@ check-exact co c faulty host [] ending all ran unfailed = absurd (none-some endi
 check-exact co c faulty host (e ∷ es) ending all ran unfailed =
     let clear = or_parts (is_fault e.reply) (has_fault es) unfailed in
     let asked : CacheGet (att_of c) ≡ e.call = same_Some (CacheGet (att_of c)) e.call ran.run.0 in
-    let reply : e.reply ≡ reply_to host (CacheGet (att_of c)) (faulty 0) = ran.run.1 ∙ ap (λ x. reply_to host x (faulty 0)) (sym asked) in
-    let told : e.reply ≡ Entry (cached_in host (att_of c)) = reply ∙ told-entry host (att_of c) (faulty 0) (ap is_fault (sym reply) ∙ clear.0) in
-    let same : host_on host e ≡ host = subst (λ x. host_after host x e.reply ≡ host) asked (look-leaves host (att_of c) e.reply) in
+    let reply : e.reply ≡ reply_to host (CacheGet (att_of c)) (faulty 0) =
+    ran.run.1 ∙ ap (λ x. reply_to host x (faulty 0)) (sym asked) in
+    let told : e.reply ≡ Entry (cached_in host (att_of c)) =
+    reply ∙ told-entry host (att_of c) (faulty 0) (ap is_fault (sym reply) ∙ clear.0) in
+    let same : host_on host e ≡ host =
+    subst (λ x. host_after host x e.reply ≡ host) asked (look-leaves host (att_of c) e.reply) in
     let is : at_entry co 1 e.reply ≡ checking co (cached_in host (att_of c)) = ap (at_entry co 1) told in
     exact-found co c faulty (cached_in host (att_of c)) host es ending all
-    (subst (λ k. IsRunFrom co c faulty 1 (checking co (cached_in host (att_of c))) k es) same (subst (λ s. IsRunFrom co c faulty 1 s (host_on host e) es) is ran.run.2))
+    (subst (λ k. IsRunFrom co c faulty 1 (checking co (cached_in host (att_of c))) k es) same
+    (subst (λ s. IsRunFrom co c faulty 1 s (host_on host e) es) is ran.run.2))
     (subst (λ s. IsOver (state_from co 1 s (replies es)) ending) is ran.over) clear.1

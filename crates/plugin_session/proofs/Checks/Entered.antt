@@ -49,7 +49,8 @@ abbrev pub EnteredAs : Course → Command → JournalView → JournalView → Op
 EnteredAs co c a d None = (es : List Made) × Went co c es a d FindingEntry (asking co.questions)
 EnteredAs co c a d (Some end) = EndsAs co c a d FindingEntry (Ok end)
 
-entry-went : (co : Course) (c : Command) (att : Att) (call : Call) (a d : JournalView) → call ≡ CacheGet att → att_of c ≡ att
+entry-went : (co : Course) (c : Command) (att : Att) (call : Call) (a d : JournalView) → call ≡ CacheGet att
+    → att_of c ≡ att
     → d ≡ after_entries a (made_next a call ∷ [])
     → Went co c (made_next a call ∷ []) a d FindingEntry (at_entry co (a.made + 1) (made_next a call).reply)
 unfolding next_call advance
@@ -63,17 +64,22 @@ entry-ends co c a d es number (Entry (Some cached)) w = (es, w)
 entry-ends co c a d es number (Entry None) w = (es, refused causes.Unknown, w, refl)
 entry-ends co c a d es number _ w = (es, refused (causes.Fault number), w, refl)
 
-pub entry-asked : (co : Course) (c : Command) (att : Att) (call : Call) (a d : JournalView) (o : Option Reply) (number : ℕ) (end : Option PartEnd)
+pub entry-asked : (co : Course) (c : Command) (att : Att) (call : Call) (a d : JournalView) (o : Option Reply)
+    (number : ℕ) (end : Option PartEnd)
     → call ≡ CacheGet att → att_of c ≡ att → d ≡ after_entries a (made_next a call ∷ [])
     → o ≡ Some (made_next a call).reply → number ≡ d.made → end ≡ end_by_entry o number → EnteredAs co c a d end
 entry-asked co c att call a d o number end is of made by count ends =
     let all : end ≡ end_by_entry (Some (made_next a call).reply) (a.made + 1) =
-    ends ∙ ap (λ p. end_by_entry p number) by ∙ ap (end_by_entry (Some (made_next a call).reply)) (count ∙ made-more a d call made) in
+    ends
+    ∙ ap (λ p. end_by_entry p number) by
+    ∙ ap (end_by_entry (Some (made_next a call).reply)) (count ∙ made-more a d call made) in
     subst (EnteredAs co c a d) (sym all)
-    (entry-ends co c a d (made_next a call ∷ []) (a.made + 1) (made_next a call).reply (entry-went co c att call a d is of made))
+    (entry-ends co c a d (made_next a call ∷ []) (a.made + 1) (made_next a call).reply
+    (entry-went co c att call a d is of made))
 
 -- the end of the questions is that of the check
-pub entry-then : (co : Course) (c : Command) (a b d : JournalView) (qs : List Question) (end : Option PartEnd) (r : Result PartEnd NoMemory)
+pub entry-then : (co : Course) (c : Command) (a b d : JournalView) (qs : List Question) (end : Option PartEnd)
+    (r : Result PartEnd NoMemory)
     → end ≡ None → EnteredAs co c a b end → co.questions ≡ qs → EndsAs co c b d (asking qs) r
     → EndsAs co c a d FindingEntry r
 entry-then co c a b d qs end r none entered are ends =

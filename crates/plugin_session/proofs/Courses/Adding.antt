@@ -19,7 +19,8 @@ use Rattle.plugin_session.proofs.{Courses.{Runs.{leases-push, leases-same}, Unbe
 -- ---- on the way forward
 
 -- it was begun: an address of each of these sets was leased, and these calls were made
-pub record Goes (ipam : Option HostLocalConf) (r : Run) (past : List Made) (done : List RangeSet) (given : List Addr) (made : List Call) (host : Host) : Type 0 where
+pub record Goes (ipam : Option HostLocalConf) (r : Run) (past : List Made) (done : List RangeSet) (given : List Addr)
+    (made : List Call) (host : Host) : Type 0 where
   pub begun : has_begun past ≡ true
   pub granted : list_all (λ (e : Made). is_granted e.reply) past ≡ true
   pub leased : leases_in (replies past) ≡ given
@@ -30,7 +31,8 @@ pub record Goes (ipam : Option HostLocalConf) (r : Run) (past : List Made) (done
 -- ---- on the way back
 
 -- an entry refused it, and this is left
-pub record Undoes (ipam : Option HostLocalConf) (row : Row) (r : Run) (past : List Made) (s : State) (host : Host) : Type 0 where
+pub record Undoes (ipam : Option HostLocalConf) (row : Row) (r : Run) (past : List Made) (s : State)
+    (host : Host) : Type 0 where
   pub cause : Cause
   pub before : List Made
   pub by : Made
@@ -88,26 +90,32 @@ undoes-at ipam row r past _ host u = absurd u.left
 
 -- ---- what is made so far is part of what the row says
 
-pub goes-part : (ipam : Option HostLocalConf) (row : Row) (r : Run) (past : List Made) (done : List RangeSet) (given : List Addr) (made left : List Call) (host : Host)
+pub goes-part : (ipam : Option HostLocalConf) (row : Row) (r : Run) (past : List Made) (done : List RangeSet)
+    (given : List Addr) (made left : List Call) (host : Host)
     → IsAdd ipam row r → Goes ipam r past done given made host → r.course.forward ≡ made ++ left
     → IsPartOf (share_of (own_att r) host) (part_of (own_att r) row given)
 goes-part ipam row r past done given made left host add goes are =
     let att = own_att r in
     let calls = forward_of (Some row) in
-    let first = part-first att (kinds_back ipam (Some row)) (with_leases att given) calls made left (forward-all ipam att row add.of_row) (sym add.forward ∙ are) in
+    let first =
+    part-first att (kinds_back ipam (Some row)) (with_leases att given) calls made left
+    (forward-all ipam att row add.of_row) (sym add.forward ∙ are) in
     subst (λ s. IsPartOf s (part_of att row given)) (sym goes.has)
     (subst (IsPartOf (share_after_calls (with_leases att given) made)) (forward-makes att row given add.of_row) first)
 
 -- ---- from one state to the next
 
 -- an entry refuses it, and changed nothing
-to-undoing : (ipam : Option HostLocalConf) (row : Row) (r : Run) (past : List Made) (e : Made) (cause : Cause) (done : List RangeSet) (given : List Addr) (made left : List Call) (old new : Host)
+to-undoing : (ipam : Option HostLocalConf) (row : Row) (r : Run) (past : List Made) (e : Made) (cause : Cause)
+    (done : List RangeSet) (given : List Addr) (made left : List Call) (old new : Host)
     → IsAdd ipam row r → Goes ipam r past done given made old → r.course.forward ≡ made ++ left
     → is_granted e.reply ≡ false → leases_in (e.reply ∷ []) ≡ [] → new ≡ old
     → Undoes ipam row r (past ++ e ∷ []) (ReadingCache (Refused cause)) new
 to-undoing ipam row r past e cause done given made left old new add goes are refuses none same =
     let att = own_att r in
-    let part : IsPartOf (share_of att new) (part_of att row given) = subst (λ h. IsPartOf (share_of att h) (part_of att row given)) (sym same) (goes-part ipam row r past done given made left old add goes are) in
+    let part : IsPartOf (share_of att new) (part_of att row given) =
+    subst (λ h. IsPartOf (share_of att h) (part_of att row given)) (sym same)
+    (goes-part ipam row r past done given made left old add goes are) in
     let leased : given ≡ leases_in (replies (past ++ e ∷ [])) = sym (leases-same past e none ∙ goes.leased) in record {
       cause = cause;
       before = past;
@@ -118,21 +126,29 @@ to-undoing ipam row r past e cause done given made left old new add goes are ref
       granted = goes.granted;
       refuses = refuses;
       part = subst (λ l. IsPartOf (share_of att new) (part_of att row l)) leased part;
-      left = (refl, subst (λ ks. HasKindsAlone ks (share_of att new)) (sym add.kinds) (part-of_kinds ipam att row given (share_of att new) add.of_row goes.pooled part));
+      left = (
+        refl,
+        subst (λ ks. HasKindsAlone ks (share_of att new)) (sym add.kinds)
+            (part-of_kinds ipam att row given (share_of att new) add.of_row goes.pooled part),
+      );
       pooled = λ without. sym leased ∙ goes.pooled without;
     }
 
-to-after_leases : (ipam : Option HostLocalConf) (row : Row) (r : Run) (past : List Made) (given : List Addr) (made left : List Call) (host : Host)
+to-after_leases : (ipam : Option HostLocalConf) (row : Row) (r : Run) (past : List Made) (given : List Addr)
+    (made left : List Call) (host : Host)
     → r.course.forward ≡ made ++ left → Goes ipam r past r.course.sets given made host
     → AddAt ipam row r past (after_leases left given) host
-to-after_leases ipam row r past given made [] host are goes = subst (λ cs. Goes ipam r past r.course.sets given cs host) (sym (are ∙ append-nil made)) goes
+to-after_leases ipam row r past given made [] host are goes =
+    subst (λ cs. Goes ipam r past r.course.sets given cs host) (sym (are ∙ append-nil made)) goes
 to-after_leases ipam row r past given made (x ∷ xs) host are goes = (made, are, goes)
 
-to-leasing : (ipam : Option HostLocalConf) (row : Row) (r : Run) (past : List Made) (given : List Addr) (done left : List RangeSet) (host : Host)
+to-leasing : (ipam : Option HostLocalConf) (row : Row) (r : Run) (past : List Made) (given : List Addr)
+    (done left : List RangeSet) (host : Host)
     → r.course.sets ≡ done ++ left → Goes ipam r past done given [] host
     → AddAt ipam row r past (leasing r.course left given) host
 to-leasing ipam row r past given done [] host are goes =
-    to-after_leases ipam row r past given [] r.course.forward host refl (subst (λ l. Goes ipam r past l given [] host) (sym (are ∙ append-nil done)) goes)
+    to-after_leases ipam row r past given [] r.course.forward host refl
+    (subst (λ l. Goes ipam r past l given [] host) (sym (are ∙ append-nil done)) goes)
 to-leasing ipam row r past given done (x ∷ xs) host are goes = (done, are, goes)
 
 -- ---- a Begin
@@ -158,9 +174,13 @@ no-sets None sets [] left set by are none = let e = sym by ∙ are in cc
 no-sets None sets (x ∷ xs) left set by are none = let e = sym by ∙ are in cc
 no-sets (Some conf) sets done left set by are none = cc
 
-goes-leased : (ipam : Option HostLocalConf) (row : Row) (r : Run) (past : List Made) (e : Made) (set : RangeSet) (done left : List RangeSet) (given : List Addr) (addr : Addr) (old new : Host)
+goes-leased : (ipam : Option HostLocalConf) (row : Row) (r : Run) (past : List Made) (e : Made) (set : RangeSet)
+    (done left : List RangeSet) (given : List Addr) (addr : Addr) (old new : Host)
     → IsAdd ipam row r → e.reply ≡ Leased addr → r.course.sets ≡ done ++ set ∷ left → Goes ipam r past done given [] old
-    → share_of (own_att r) new ≡ record (share_of (own_att r) old) { leases = (share_of (own_att r) old).leases ++ lease_of (own_att r) addr ∷ [] }
+    → share_of (own_att r) new
+    ≡ record (share_of (own_att r) old) {
+      leases = (share_of (own_att r) old).leases ++ lease_of (own_att r) addr ∷ [];
+    }
     → Goes ipam r (past ++ e ∷ []) (done ++ set ∷ []) (given ++ addr ∷ []) [] new
 goes-leased ipam row r past e set done left given addr old new add is are goes more =
     let att = own_att r in
@@ -169,27 +189,41 @@ goes-leased ipam row r past e set done left given addr old new add is are goes m
     let same = goes.each in record {
       begun = begun-more past (e ∷ []) goes.begun;
       granted = list_all-push (λ (m : Made). is_granted m.reply) past e goes.granted (ap is_granted is);
-      leased = leases-push past e ∙ ap (λ q. leases_in (replies past) ++ leases_in (q ∷ [])) is ∙ ap (λ l. l ++ addr ∷ []) goes.leased;
+      leased =
+          leases-push past e
+          ∙ ap (λ q. leases_in (replies past) ++ leases_in (q ∷ [])) is
+          ∙ ap (λ l. l ++ addr ∷ []) goes.leased;
       each = omega arith;
       pooled = λ none. absurd (no-sets ipam r.course.sets done left set add.sets are none);
-      has = more ∙ ap (λ (s : Share). record s { leases = s.leases ++ lease_of att addr ∷ [] }) goes.has ∙ ap (λ l. record no_objects { leases = l }) (sym (map-append (lease_of att) given (addr ∷ [])));
+      has =
+          more
+          ∙ ap (λ (s : Share). record s { leases = s.leases ++ lease_of att addr ∷ [] }) goes.has
+          ∙ ap (λ l. record no_objects { leases = l }) (sym (map-append (lease_of att) given (addr ∷ [])));
     }
 
-pub moves-lease : (ipam : Option HostLocalConf) (row : Row) (r : Run) (past : List Made) (e : Made) (number : ℕ) (set : RangeSet) (done left : List RangeSet) (given : List Addr) (reply : Reply) (old new : Host)
+pub moves-lease : (ipam : Option HostLocalConf) (row : Row) (r : Run) (past : List Made) (e : Made) (number : ℕ)
+    (set : RangeSet) (done left : List RangeSet) (given : List Addr) (reply : Reply) (old new : Host)
     → IsAdd ipam row r → e.reply ≡ reply → r.course.sets ≡ done ++ set ∷ left → Goes ipam r past done given [] old
-    → ((addr : Addr) → reply ≡ Leased addr → share_of (own_att r) new ≡ record (share_of (own_att r) old) { leases = (share_of (own_att r) old).leases ++ lease_of (own_att r) addr ∷ [] })
+    → ((addr : Addr) → reply ≡ Leased addr
+    → share_of (own_att r) new
+    ≡ record (share_of (own_att r) old) {
+      leases = (share_of (own_att r) old).leases ++ lease_of (own_att r) addr ∷ [];
+    })
     → (((addr : Addr) → reply ≡ Leased addr → ⊥) → new ≡ old) → (reply ≡ Done → ⊥)
     → AddAt ipam row r (past ++ e ∷ []) (at_lease r.course number left given reply) new
 moves-lease ipam row r past e number set done left given (Leased addr) old new add is are goes more same not =
-    to-leasing ipam row r (past ++ e ∷ []) (given ++ addr ∷ []) (done ++ set ∷ []) left new (are ∙ sym (append_assoc done (set ∷ []) left))
+    to-leasing ipam row r (past ++ e ∷ []) (given ++ addr ∷ []) (done ++ set ∷ []) left new
+    (are ∙ sym (append_assoc done (set ∷ []) left))
     (goes-leased ipam row r past e set done left given addr old new add is are goes (more addr refl))
 moves-lease ipam row r past e number set done left given Done old new add is are goes more same not = absurd (not refl)
 moves-lease ipam row r past e number set done left given _ old new add is are goes more same not =
-    to-undoing ipam row r past e _ done given [] r.course.forward old new add goes refl (ap is_granted is) (ap (λ q. leases_in (q ∷ [])) is) (same (λ a leased. cc))
+    to-undoing ipam row r past e _ done given [] r.course.forward old new add goes refl (ap is_granted is)
+    (ap (λ q. leases_in (q ∷ [])) is) (same (λ a leased. cc))
 
 -- ---- a call after the leases
 
-goes-made : (ipam : Option HostLocalConf) (r : Run) (past : List Made) (e : Made) (call : Call) (given : List Addr) (made : List Call) (old new : Host)
+goes-made : (ipam : Option HostLocalConf) (r : Run) (past : List Made) (e : Made) (call : Call) (given : List Addr)
+    (made : List Call) (old new : Host)
     → e.reply ≡ Done → Goes ipam r past r.course.sets given made old
     → share_of (own_att r) new ≡ share_after_call (share_of (own_att r) old) call
     → Goes ipam r (past ++ e ∷ []) r.course.sets given (made ++ call ∷ []) new
@@ -199,32 +233,43 @@ goes-made ipam r past e call given made old new is goes more = record {
   leased = leases-same past e (ap (λ q. leases_in (q ∷ [])) is) ∙ goes.leased;
   each = goes.each;
   pooled = goes.pooled;
-  has = more ∙ ap (λ s. share_after_call s call) goes.has ∙ sym (share_after_calls-append (with_leases (own_att r) given) made (call ∷ []));
+  has =
+      more
+      ∙ ap (λ s. share_after_call s call) goes.has
+      ∙ sym (share_after_calls-append (with_leases (own_att r) given) made (call ∷ []));
 }
 
-pub moves-call : (ipam : Option HostLocalConf) (row : Row) (r : Run) (past : List Made) (e : Made) (number : ℕ) (call : Call) (made left : List Call) (given : List Addr) (reply : Reply) (old new : Host)
+pub moves-call : (ipam : Option HostLocalConf) (row : Row) (r : Run) (past : List Made) (e : Made) (number : ℕ)
+    (call : Call) (made left : List Call) (given : List Addr) (reply : Reply) (old new : Host)
     → IsAdd ipam row r → e.reply ≡ reply → r.course.forward ≡ made ++ call ∷ left
     → Goes ipam r past r.course.sets given made old
     → (reply ≡ Done → share_of (own_att r) new ≡ share_after_call (share_of (own_att r) old) call)
     → ((reply ≡ Done → ⊥) → new ≡ old) → leased_by reply ≡ None
     → AddAt ipam row r (past ++ e ∷ []) (at_call_after number left given reply) new
 moves-call ipam row r past e number call made left given Done old new add is are goes more same none =
-    to-after_leases ipam row r (past ++ e ∷ []) given (made ++ call ∷ []) left new (are ∙ sym (append_assoc made (call ∷ []) left))
+    to-after_leases ipam row r (past ++ e ∷ []) given (made ++ call ∷ []) left new
+    (are ∙ sym (append_assoc made (call ∷ []) left))
     (goes-made ipam r past e call given made old new is goes (more refl))
 moves-call ipam row r past e number call made left given (Leased addr) old new add is are goes more same none = cc
 moves-call ipam row r past e number call made left given _ old new add is are goes more same none =
-    to-undoing ipam row r past e _ r.course.sets given made (call ∷ left) old new add goes are (ap is_granted is) (ap (λ q. leases_in (q ∷ [])) is) (same (λ done. cc))
+    to-undoing ipam row r past e _ r.course.sets given made (call ∷ left) old new add goes are (ap is_granted is)
+    (ap (λ q. leases_in (q ∷ [])) is) (same (λ done. cc))
 
 -- ---- a call of the undoing
 
-pub moves-back : (ipam : Option HostLocalConf) (row : Row) (r : Run) (past : List Made) (number : ℕ) (s : State) (host : Host) (call : Call) (fault : Bool)
+pub moves-back : (ipam : Option HostLocalConf) (row : Row) (r : Run) (past : List Made) (number : ℕ) (s : State)
+    (host : Host) (call : Call) (fault : Bool)
     → IsSound host → next_call r.command s ≡ Some call → (u : Undoes ipam row r past s host)
-    → Undoes ipam row r (past ++ made_on host call fault ∷ []) (advance r.course number s (reply_to host call fault)) (host_on host (made_on host call fault))
+    → Undoes ipam row r (past ++ made_on host call fault ∷ []) (advance r.course number s (reply_to host call fault))
+    (host_on host (made_on host call fault))
 moves-back ipam row r past number s host call fault sound next u =
     let att = own_att r in
     let e = made_on host call fault in
     let step = deletes-on r.course (Refused u.cause) u.later r.command number s host call fault sound next u.left in
-    let part = part-trans (share_of att (host_on host e)) (share_of att host) _ (part-removes att host (host_on host e) step.takes.within.removes) u.part in record {
+    let part =
+    part-trans (share_of att (host_on host e)) (share_of att host) _
+    (part-removes att host (host_on host e) step.takes.within.removes) u.part in
+    record {
       cause = u.cause;
       before = u.before;
       by = u.by;
@@ -233,7 +278,9 @@ moves-back ipam row r past number s host call fault sound next u =
       begun = u.begun;
       granted = u.granted;
       refuses = u.refuses;
-      part = subst (λ l. IsPartOf (share_of att (host_on host e)) (part_of att row l)) (sym (leases-same past e step.leases)) part;
+      part =
+          subst (λ l. IsPartOf (share_of att (host_on host e)) (part_of att row l))
+          (sym (leases-same past e step.leases)) part;
       left = step.left;
       pooled = λ without. leases-same past e step.leases ∙ u.pooled without;
     }

@@ -56,25 +56,33 @@ pub appends-no_lease : (host : Host) (call : Call) → appends call ≡ true →
 appends-no_lease host (VethAdd h i) is =
     by_test LeasesNone (has_named_ns host i.ns) _ _
     (λ _. by_test LeasesNone (master_is_bridge_or_none host h.master) _ _
-    (λ _. by_way LeasesNone (option_map (λ l. l.tag) (option_or (link_at host i.ns i.name) (link_at host h.ns h.name))) host _ (λ t. refl) (λ _. refl))
+    (λ _. by_way LeasesNone (option_map (λ l. l.tag) (option_or (link_at host i.ns i.name) (link_at host h.ns h.name)))
+    host _ (λ t. refl) (λ _. refl))
     (λ _. refl))
     (λ _. refl)
 appends-no_lease host (MacvlanAdd link) is =
     by_test LeasesNone (has_named_ns host link.ns) _ _
     (λ _. by_test LeasesNone (has_master host link.master) _ _
-    (λ _. by_way LeasesNone (option_map (λ l. l.tag) (link_at host link.ns link.name)) host _ (λ t. refl) (λ _. refl)) (λ _. refl))
+    (λ _. by_way LeasesNone (option_map (λ l. l.tag) (link_at host link.ns link.name)) host _ (λ t. refl) (λ _. refl))
+    (λ _. refl))
     (λ _. refl)
 appends-no_lease host (AddrAdd obj) is =
     by_test LeasesNone (has_link_of host obj.ns obj.link obj.tag) _ _
-    (λ _. by_way LeasesNone (option_map (λ a. a.tag) (find (is_same_addr obj) host.addresses)) host _ (λ t. refl) (λ _. refl)) (λ _. refl)
+    (λ _. by_way LeasesNone (option_map (λ a. a.tag) (find (is_same_addr obj) host.addresses)) host _
+    (λ t. refl) (λ _. refl))
+    (λ _. refl)
 appends-no_lease host (RouteAdd obj) is =
     by_test LeasesNone (has_link_of host obj.ns obj.link obj.tag) _ _
-    (λ _. by_way LeasesNone (option_map (λ r. r.tag) (find (is_same_route obj) host.routes)) host _ (λ t. refl) (λ _. refl)) (λ _. refl)
+    (λ _. by_way LeasesNone (option_map (λ r. r.tag) (find (is_same_route obj) host.routes)) host _
+    (λ t. refl) (λ _. refl))
+    (λ _. refl)
 appends-no_lease host (RuleAppend rule) is =
     by_test LeasesNone (list_any (λ r. rule_eq r rule) host.rules) _ _ (λ _. refl) (λ _. refl)
 appends-no_lease host (SettingSet setting) is =
     by_test LeasesNone (has_named_ns host setting.ns) _ _
-    (λ _. by_way LeasesNone (option_map (λ s. s.tag) (find (is_same_setting setting) host.settings)) host _ (λ t. refl) (λ _. refl)) (λ _. refl)
+    (λ _. by_way LeasesNone (option_map (λ s. s.tag) (find (is_same_setting setting) host.settings)) host _
+    (λ t. refl) (λ _. refl))
+    (λ _. refl)
 appends-no_lease host (CachePut att cached) is =
     by_test LeasesNone (list_any (λ c. is_own att c.tag) host.cached) _ _ (λ _. refl) (λ _. refl)
 appends-no_lease host _ is = cc
@@ -82,20 +90,91 @@ appends-no_lease host _ is = cc
 -- ---- a share grows
 
 part-call : (s : Share) (call : Call) → appends call ≡ true → IsPartOf s (share_after_call s call)
-part-call s (VethAdd h i) is = let same = part-same s in record { links = drops-more s.links (h ∷ i ∷ []); addresses = same.addresses; routes = same.routes; rules = same.rules; settings = same.settings; leases = same.leases; cached = same.cached }
-part-call s (MacvlanAdd link) is = let same = part-same s in record { links = drops-more s.links (link ∷ []); addresses = same.addresses; routes = same.routes; rules = same.rules; settings = same.settings; leases = same.leases; cached = same.cached }
-part-call s (AddrAdd obj) is = let same = part-same s in record { links = same.links; addresses = drops-more s.addresses (obj ∷ []); routes = same.routes; rules = same.rules; settings = same.settings; leases = same.leases; cached = same.cached }
-part-call s (RouteAdd obj) is = let same = part-same s in record { links = same.links; addresses = same.addresses; routes = drops-more s.routes (obj ∷ []); rules = same.rules; settings = same.settings; leases = same.leases; cached = same.cached }
-part-call s (RuleAppend rule) is = let same = part-same s in record { links = same.links; addresses = same.addresses; routes = same.routes; rules = drops-more s.rules (rule ∷ []); settings = same.settings; leases = same.leases; cached = same.cached }
-part-call s (SettingSet setting) is = let same = part-same s in record { links = same.links; addresses = same.addresses; routes = same.routes; rules = same.rules; settings = drops-more s.settings (setting ∷ []); leases = same.leases; cached = same.cached }
-part-call s (CachePut att cached) is = let same = part-same s in record { links = same.links; addresses = same.addresses; routes = same.routes; rules = same.rules; settings = same.settings; leases = same.leases; cached = drops-more s.cached _ }
+part-call s (VethAdd h i) is =
+    let same = part-same s in
+    record {
+      links = drops-more s.links (h ∷ i ∷ []);
+      addresses = same.addresses;
+      routes = same.routes;
+      rules = same.rules;
+      settings = same.settings;
+      leases = same.leases;
+      cached = same.cached;
+    }
+part-call s (MacvlanAdd link) is =
+    let same = part-same s in
+    record {
+      links = drops-more s.links (link ∷ []);
+      addresses = same.addresses;
+      routes = same.routes;
+      rules = same.rules;
+      settings = same.settings;
+      leases = same.leases;
+      cached = same.cached;
+    }
+part-call s (AddrAdd obj) is =
+    let same = part-same s in
+    record {
+      links = same.links;
+      addresses = drops-more s.addresses (obj ∷ []);
+      routes = same.routes;
+      rules = same.rules;
+      settings = same.settings;
+      leases = same.leases;
+      cached = same.cached;
+    }
+part-call s (RouteAdd obj) is =
+    let same = part-same s in
+    record {
+      links = same.links;
+      addresses = same.addresses;
+      routes = drops-more s.routes (obj ∷ []);
+      rules = same.rules;
+      settings = same.settings;
+      leases = same.leases;
+      cached = same.cached;
+    }
+part-call s (RuleAppend rule) is =
+    let same = part-same s in
+    record {
+      links = same.links;
+      addresses = same.addresses;
+      routes = same.routes;
+      rules = drops-more s.rules (rule ∷ []);
+      settings = same.settings;
+      leases = same.leases;
+      cached = same.cached;
+    }
+part-call s (SettingSet setting) is =
+    let same = part-same s in
+    record {
+      links = same.links;
+      addresses = same.addresses;
+      routes = same.routes;
+      rules = same.rules;
+      settings = drops-more s.settings (setting ∷ []);
+      leases = same.leases;
+      cached = same.cached;
+    }
+part-call s (CachePut att cached) is =
+    let same = part-same s in
+    record {
+      links = same.links;
+      addresses = same.addresses;
+      routes = same.routes;
+      rules = same.rules;
+      settings = same.settings;
+      leases = same.leases;
+      cached = drops-more s.cached _;
+    }
 part-call s _ is = cc
 
 part-calls : (att : Att) (ks : List Kind) (s : Share) (calls : List Call) → AllByRecursion (IsForward att ks) calls
     → IsPartOf s (share_after_calls s calls)
 part-calls att ks s [] all = part-same s
 part-calls att ks s (x ∷ xs) all =
-    part-trans s (share_after_call s x) (share_after_calls (share_after_call s x) xs) (part-call s x all.0.appends) (part-calls att ks (share_after_call s x) xs all.1)
+    part-trans s (share_after_call s x) (share_after_calls (share_after_call s x) xs) (part-call s x all.0.appends)
+    (part-calls att ks (share_after_call s x) xs all.1)
 
 all-later : {X : Type 0} (P : X → Type 0) (xs ys : List X) → AllByRecursion P (xs ++ ys) → AllByRecursion P ys
 all-later P [] ys all = all
@@ -107,7 +186,8 @@ pub part-first : (att : Att) (ks : List Kind) (s : Share) (calls made left : Lis
     → IsPartOf (share_after_calls s made) (share_after_calls s calls)
 part-first att ks s calls made left all are =
     let both = subst (AllByRecursion (IsForward att ks)) are all in
-    subst (IsPartOf (share_after_calls s made)) (sym (ap (share_after_calls s) are ∙ share_after_calls-append s made left))
+    subst (IsPartOf (share_after_calls s made))
+    (sym (ap (share_after_calls s) are ∙ share_after_calls-append s made left))
     (part-calls att ks (share_after_calls s made) left (all-later (IsForward att ks) made left both))
 
 -- ---- the calls of a row
@@ -119,7 +199,8 @@ kinds-row (Some conf) row k is = list_any-append_left (kind_eq k) row.kinds (kin
 
 kinds-cached : (ipam : Option HostLocalConf) (row : Row) → has_kind kinds.Cached (kinds_back ipam (Some row)) ≡ true
 kinds-cached None row = list_any-append_right (kind_eq kinds.Cached) row.kinds (kinds.Cached ∷ []) refl
-kinds-cached (Some conf) row = list_any-append_right (kind_eq kinds.Cached) row.kinds (kinds.Leases ∷ kinds.Cached ∷ []) refl
+kinds-cached (Some conf) row =
+    list_any-append_right (kind_eq kinds.Cached) row.kinds (kinds.Leases ∷ kinds.Cached ∷ []) refl
 
 of_kinds-row : (ipam : Option HostLocalConf) (row : Row) (call : Call) → is_of_kinds row.kinds call ≡ true
     → is_of_kinds (kinds_back ipam (Some row)) call ≡ true
@@ -210,12 +291,18 @@ beside-calls : (att owner : Att) (ks : List Kind) (given : List Addr) (s : Share
 beside-calls att owner ks given s [] all = refl
 beside-calls att owner ks given s (x ∷ xs) all =
     let both = and_parts (is_own_call owner ks x) (list_all (is_own_call owner ks) xs) all in
-    ap (λ t. share_after_calls t xs) (beside-call att owner ks given s x both.0) ∙ beside-calls att owner ks given (share_after_call s x) xs both.1
+    ap (λ t. share_after_calls t xs) (beside-call att owner ks given s x both.0)
+    ∙ beside-calls att owner ks given (share_after_call s x) xs both.1
 
 makes-if : (att own : Att) (ks : List Kind) (calls : List Call) (cached : Option Cached) (given : List Addr) → own ≡ att
     → list_all (is_own_call att ks) calls ≡ true → (cached ≡ None → calls ≡ [])
-    → share_after_calls (with_leases att given) (forward_by own calls cached) ≡ record (share_after_calls no_objects calls) { leases = map (lease_of att) given; cached = cached_by att cached }
-makes-if att own ks calls None given same all unasked = ap (λ cs. with_both (share_after_calls no_objects cs) att given) (sym (unasked refl))
+    → share_after_calls (with_leases att given) (forward_by own calls cached)
+    ≡ record (share_after_calls no_objects calls) {
+      leases = map (lease_of att) given;
+      cached = cached_by att cached;
+    }
+makes-if att own ks calls None given same all unasked =
+    ap (λ cs. with_both (share_after_calls no_objects cs) att given) (sym (unasked refl))
 makes-if att own ks calls (Some cached) given same all unasked =
     share_after_calls-append (with_leases att given) calls (CachePut own cached ∷ [])
     ∙ ap (λ s. share_after_call s (CachePut own cached)) (beside-calls att att ks given no_objects calls all)
@@ -232,12 +319,15 @@ kinds-leases : (ipam : Option HostLocalConf) (att : Att) (row : Row) (given : Li
     → has_kind kinds.Leases (kinds_back ipam (Some row)) ≡ false → map (lease_of att) given ≡ []
 kinds-leases None att row given pooled none = ap (map (lease_of att)) (pooled refl)
 kinds-leases (Some conf) att row given pooled none =
-    absurd (let there = list_any-append_right (kind_eq kinds.Leases) row.kinds (kinds.Leases ∷ kinds.Cached ∷ []) refl in cc (there, none))
+    absurd (let there =
+    list_any-append_right (kind_eq kinds.Leases) row.kinds (kinds.Leases ∷ kinds.Cached ∷ []) refl in
+    cc (there, none))
 
 kinds-calls : (att : Att) (ks : List Kind) (s : Share) (calls : List Call) → AllByRecursion (IsForward att ks) calls
     → HasKindsAlone ks s → HasKindsAlone ks (share_after_calls s calls)
 kinds-calls att ks s [] all has = has
-kinds-calls att ks s (x ∷ xs) all has = kinds-calls att ks (share_after_call s x) xs all.1 (HasKindsAlone-call ks s x all.0.plugin.of_kinds has)
+kinds-calls att ks s (x ∷ xs) all has =
+    kinds-calls att ks (share_after_call s x) xs all.1 (HasKindsAlone-call ks s x all.0.plugin.of_kinds has)
 
 pub part-of_kinds : (ipam : Option HostLocalConf) (att : Att) (row : Row) (leased : List Addr) (share : Share)
     → IsOwnRow att row → (ipam ≡ None → leased ≡ []) → IsPartOf share (part_of att row leased)
@@ -247,4 +337,10 @@ part-of_kinds ipam att row leased share is pooled part =
     part-kinds ks share (part_of att row leased) part
     (subst (HasKindsAlone ks) (forward-makes att row leased is)
     (kinds-calls att ks (with_leases att leased) (forward_of (Some row)) (forward-all ipam att row is)
-    (record { links = λ _. refl; rules = λ _. refl; settings = λ _. refl; leases = kinds-leases ipam att row leased pooled; cached = λ _. refl })))
+    (record {
+      links = λ _. refl;
+      rules = λ _. refl;
+      settings = λ _. refl;
+      leases = kinds-leases ipam att row leased pooled;
+      cached = λ _. refl;
+    })))

@@ -32,7 +32,8 @@ keeps-deleting r past number s host call fault next was =
 
 deleted : (r : Run) → IsDel r → IsDeleting r r.entries (end_from (ReadingCache Yes) r) (finish r)
 deleted r del =
-    along r.course r.command r.faulty (IsDeleting r) (keeps-deleting r) [] 0 (ReadingCache Yes) r.start r.entries del.run (record {
+    along r.course r.command r.faulty (IsDeleting r) (keeps-deleting r) [] 0 (ReadingCache Yes) r.start r.entries
+    del.run (record {
       left = (refl, del.kinds);
       takes = takes-nothing (own_att r) r.start del.sound;
     })
@@ -43,7 +44,8 @@ not-faulted number is = cc
 pub deleted-gone : EachDeletedIsGone
 deleted-gone r del given is =
     let was = deleted r del in
-    let left : Left r.course Yes r.entries (Over Yes given) (share_of (own_att r) (finish r)) = subst (λ s. Left r.course Yes r.entries s (share_of (own_att r) (finish r))) is was.left in
+    let left : Left r.course Yes r.entries (Over Yes given) (share_of (own_att r) (finish r)) =
+    subst (λ s. Left r.course Yes r.entries s (share_of (own_att r) (finish r))) is was.left in
     elim left [
       | inl none ↦ HasKindsAlone-none (own_att r) (finish r) was.takes.sound none.1
       | inr fault ↦ absurd (not-faulted fault.0 fault.1)

@@ -39,7 +39,9 @@ pub drops-passing : {X : Type 0} (p : X → Bool) (xs ys : List X) → Drops xs 
 drops-passing p [] ys d = ap (filter p) d
 drops-passing p (x ∷ xs) [] d = drops-if (p x) x (filter p xs) [] (drops-passing p xs [] d.1)
 drops-passing p (x ∷ xs) (y ∷ ys) d = elim d [
-  | inl same ↦ subst (λ z. Drops (filter p (x ∷ xs)) (filter p (z ∷ ys))) same.0 (drops-same_if (p x) x (filter p xs) (filter p ys) (drops-passing p xs ys same.1))
+  | inl same ↦
+      subst (λ z. Drops (filter p (x ∷ xs)) (filter p (z ∷ ys))) same.0
+      (drops-same_if (p x) x (filter p xs) (filter p ys) (drops-passing p xs ys same.1))
   | inr gone ↦ drops-if (p x) x (filter p xs) (filter p (y ∷ ys)) (drops-passing p xs (y ∷ ys) gone.1)
 ]
 

@@ -28,7 +28,8 @@ trail-from co c faulty p host (e ∷ es) same run = (
 )
 
 state-is : (co : Course) (p : Point) (es : List Made)
-    → state_from co p.made (Collecting p.work p.faults) (replies es) ≡ Collecting (point_from co.gc p es).work (point_from co.gc p es).faults
+    → state_from co p.made (Collecting p.work p.faults) (replies es)
+    ≡ Collecting (point_from co.gc p es).work (point_from co.gc p es).faults
 unfolding advance
 state-is co p [] = refl
 state-is co p (e ∷ es) = state-is co (point_after co.gc p e.reply) es
@@ -44,7 +45,8 @@ pub record IsDone (jobs : List Job) (sweeps : List Sweep) (faults : List ℕ) (e
 pub work-done : (jobs : List Job) (sweeps : List Sweep) (faults : List ℕ) (ending : Ending)
     → option_map (λ (f : Finish). f.ending) (finish_of_work jobs sweeps faults) ≡ Some ending
     → IsDone jobs sweeps faults ending
-work-done [] [] faults ending over = record { no_jobs = refl; no_sweeps = refl; tells = sym (same_Some (swept faults) ending over) }
+work-done [] [] faults ending over =
+    record { no_jobs = refl; no_sweeps = refl; tells = sym (same_Some (swept faults) ending over) }
 work-done [] (s ∷ sweeps) faults ending over = absurd (none-some ending over)
 work-done (j ∷ jobs) sweeps faults ending over = absurd (none-some ending over)
 
@@ -65,19 +67,23 @@ covered-tag gc t Cached = grind arith
 kept-start : (gc : Gc) (host : Host) → IsSound host → WorkKept gc host [] [] start_work.sweeps host
 kept-start gc host sound = record {
   stays = stays_start gc host sound;
-  covered = λ kind. all_true (is_covered gc [] [] start_work.sweeps kind) (λ t. covered-tag gc t kind) (tags_of host kind);
+  covered = λ kind.
+      all_true (is_covered gc [] [] start_work.sweeps kind) (λ t. covered-tag gc t kind) (tags_of host kind);
   stale = refl;
   well = refl;
 }
 
 abbrev KeptAfter : Gc → Host → List Made → Type 0
-KeptAfter gc host es = WorkKept gc host es (point_from gc start_point es).work.jobs (point_from gc start_point es).work.sweeps (host_from host es)
+KeptAfter gc host es =
+    WorkKept gc host es (point_from gc start_point es).work.jobs (point_from gc start_point es).work.sweeps
+    (host_from host es)
 
 kept-after : (co : Course) (c : Command) (faulty : ℕ → Bool) (host : Host) (es : List Made)
     → co.gc.network ≡ c.network → IsSound host → IsRunFrom co c faulty 0 (Collecting start_work []) host es
     → KeptAfter co.gc host es
 kept-after co c faulty host es same sound run =
-    run_kept co.gc host [] start_point host es (kept-start co.gc host sound) (trail-from co c faulty start_point host es same run)
+    run_kept co.gc host [] start_point host es (kept-start co.gc host sound)
+    (trail-from co c faulty start_point host es same run)
 
 pub gc-removes : CollectionsOnlyRemove
 gc-removes co c faulty host es same sound run =
@@ -85,7 +91,9 @@ gc-removes co c faulty host es same sound run =
     let after = host_from host es in
     record {
       within = stays.within;
-      keeps = subst (λ k. IsWithin k after) (stays.kept ∙ ap (λ network. keep network co.gc.valid host) same) (keep_within co.gc after stays.sound);
+      keeps =
+          subst (λ k. IsWithin k after) (stays.kept ∙ ap (λ network. keep network co.gc.valid host) same)
+          (keep_within co.gc after stays.sound);
       sound = stays.sound;
     }
 
@@ -97,5 +105,9 @@ gc-keeps co c faulty host es same sound ran =
     let kept = kept-after co c faulty host es same sound ran.run in
     let done = done-at end Yes (subst (λ s. IsOver s Yes) (state-is co start_point es) ran.over) in
     let clean = (run_clean gc start_point es (yes_clean end.faults (sym done.tells))).1 in
-    let excused = excused_all gc es after kept.stays.sound (excused_kind gc host es end.work.jobs end.work.sweeps after kept done.no_jobs done.no_sweeps) in
-    sym (keep_all gc es after kept.stays.sound clean excused) ∙ kept.stays.kept ∙ ap (λ network. keep network gc.valid host) same
+    let excused =
+    excused_all gc es after kept.stays.sound
+    (excused_kind gc host es end.work.jobs end.work.sweeps after kept done.no_jobs done.no_sweeps) in
+    sym (keep_all gc es after kept.stays.sound clean excused)
+    ∙ kept.stays.kept
+    ∙ ap (λ network. keep network gc.valid host) same

@@ -40,7 +40,8 @@ stays-refused att kind old mid new end e stays same is co c left ending own =
 one-more : (att : Att) (kind : Kind) (old mid new : JournalView) → StaysAt att kind old mid
     → new ≡ after_entries mid (made_next mid (deletion att kind) ∷ [])
     → (co : Course) (c : Command) (left : List Kind) (ending : Ending) → att_of c ≡ att
-    → GoesTo co c old new (Deleting kind left ending) (at_deletion (mid.made + 1) kind left ending (made_next mid (deletion att kind)).reply)
+    → GoesTo co c old new (Deleting kind left ending)
+    (at_deletion (mid.made + 1) kind left ending (made_next mid (deletion att kind)).reply)
 unfolding next_call advance
 one-more att kind old mid new stays made co c left ending is =
     let so_far = stays co c left ending is in (
@@ -70,7 +71,8 @@ ended-by co c old new kind left ending number (Gone false) end count is went =
     subst (λ (e : KindEnd). KindEndsAs co c old new kind left ending (Ok e)) (same_Some kind_ends.Gone end is) went
 ended-by co c old new kind left ending number Fault end count is went =
     let P : ℕ → Type 0 = λ n. GoesTo co c old new (Deleting kind left ending) (Over (faulted n ending) []) in
-    subst (λ (e : KindEnd). KindEndsAs co c old new kind left ending (Ok e)) (same_Some kind_ends.Fault end is) (subst P count went)
+    subst (λ (e : KindEnd). KindEndsAs co c old new kind left ending (Ok e)) (same_Some kind_ends.Fault end is)
+    (subst P count went)
 ended-by co c old new kind left ending number _ end count is went = absurd (none-some end is)
 
 pub stays-ended : (att : Att) (kind : Kind) (old mid new : JournalView) (end : KindEnd) → StaysAt att kind old mid
@@ -105,16 +107,19 @@ fewer-by : (att : Att) (host new : Host) (r : Reply) (gone : Bool) → r ≡ Gon
     → deletions_of (share_of att (if is_fault r then host else new)) < deletions_of (share_of att host)
 fewer-by att host new r false is none fewer = absurd (none-some kind_ends.Gone (sym none ∙ ap kind_end_by is))
 fewer-by att host new r true is none fewer =
-    let P : Reply → Type 0 = λ q. deletions_of (share_of att (if is_fault q then host else new)) < deletions_of (share_of att host) in
+    let P : Reply → Type 0 = λ q.
+    deletions_of (share_of att (if is_fault q then host else new)) < deletions_of (share_of att host) in
     subst P (sym is) (omega (arith, fewer))
 
 fewer-made : (att : Att) (kind : Kind) (host : Host) (faulty : Bool) → IsSound host
     → kind_end_by (reply_to host (deletion att kind) faulty) ≡ None
-    → deletions_of (share_of att (host_on host (made_on host (deletion att kind) faulty))) < deletions_of (share_of att host)
+    → deletions_of (share_of att (host_on host (made_on host (deletion att kind) faulty)))
+    < deletions_of (share_of att host)
 fewer-made att kind host true sound none = absurd (none-some kind_ends.Fault (sym none))
 fewer-made att kind host false sound none =
     let falls = deletion-falls att kind host sound in
-    fewer-by att host (apply host (deletion att kind)).0 (apply host (deletion att kind)).1 falls.gone falls.reply none falls.fewer
+    fewer-by att host (apply host (deletion att kind)).0 (apply host (deletion att kind)).1 falls.gone falls.reply
+    none falls.fewer
 
 pub deletions-fewer : (att : Att) (kind : Kind) (mid new : JournalView) → IsSound mid.host
     → new ≡ after_entries mid (made_next mid (deletion att kind) ∷ [])

@@ -41,19 +41,23 @@ step-ready : (pools : Pools) (host : Host) (att : Att) (step : Step) (faulty : B
 step-ready pools host att AskCached faulty ready = ready-cache_get pools host att faulty ready
 step-ready pools host att (Delete kind) faulty ready = ready-deletion pools host att kind faulty ready
 
-work-ready : (pools : Pools) (network : List ℕ) (js : List Job) (ss : List Sweep) (host : Host) (call : Call) (faulty : Bool)
+work-ready : (pools : Pools) (network : List ℕ) (js : List Job) (ss : List Sweep) (host : Host)
+    (call : Call) (faulty : Bool)
     → call_of_work network js ss ≡ Some call → IsReady pools host → StaysReady pools host faulty call
 work-ready pools network [] [] host call faulty is ready = absurd (none-some call is)
 work-ready pools network [] (s ∷ ss) host call faulty is ready =
-    subst (StaysReady pools host faulty) (same_Some (OwnersOf network s.kind) call is) (ready-owners_of pools host network s.kind faulty ready)
+    subst (StaysReady pools host faulty) (same_Some (OwnersOf network s.kind) call is)
+    (ready-owners_of pools host network s.kind faulty ready)
 work-ready pools network (j ∷ js) ss host call faulty is ready =
-    subst (StaysReady pools host faulty) (same_Some (step_call j.att j.step) call is) (step-ready pools host j.att j.step faulty ready)
+    subst (StaysReady pools host faulty) (same_Some (step_call j.att j.step) call is)
+    (step-ready pools host j.att j.step faulty ready)
 
 -- a host stays ready over the next call
 pub next-ready : (place : SweepPlace) (a d : JournalView) (call : Call) → IsNextOf place call
     → d ≡ after_entries a (made_next a call ∷ []) → (pools : Pools) → IsReady pools a.host → IsReady pools d.host
 next-ready place a d call next made = λ pools ready.
-    ready-made pools a d call made (work-ready pools next.0 (jobs_left [] place) (sweeps_after [] place.stage) a.host call _ next.1 ready)
+    ready-made pools a d call made
+    (work-ready pools next.0 (jobs_left [] place) (sweeps_after [] place.stage) a.host call _ next.1 ready)
 
 -- ---- one call
 
@@ -62,14 +66,19 @@ gc_by network valid = record { network = network; valid = valid; kinds = [] }
 
 call-falls : (gc : Gc) (js : List Job) (ss : List Sweep) (host : Host) (call : Call) (faulty : Bool)
     → call_of_work gc.network js ss ≡ Some call
-    → collection_left (work_after gc js ss (reply_to host call faulty)) (host_after host call (reply_to host call faulty)) < collection_left (record { jobs = js; sweeps = ss }) host
+    → collection_left (work_after gc js ss (reply_to host call faulty))
+    (host_after host call (reply_to host call faulty))
+    < collection_left (record { jobs = js; sweeps = ss }) host
 call-falls gc js ss host call true is = fault-falls gc js ss host call is
 call-falls gc js ss host call false is =
-    let left : Bool → Type 0 = λ b. collection_left (work_after gc js ss (apply host call).1) (if b then host else (apply host call).0) < collection_left (record { jobs = js; sweeps = ss }) host in
+    let left : Bool → Type 0 = λ b.
+    collection_left (work_after gc js ss (apply host call).1) (if b then host else (apply host call).0)
+    < collection_left (record { jobs = js; sweeps = ss }) host in
     subst left (sym (IsReplyOf-apply host call).no_fault) (work-falls gc js ss host call is)
 
 -- each call lowers what is left
-pub sweep-falls : (place next : SweepPlace) (a d : JournalView) (call : Call) (list : List ValidAtt) → IsNextOf place call
+pub sweep-falls : (place next : SweepPlace) (a d : JournalView) (call : Call) (list : List ValidAtt)
+    → IsNextOf place call
     → d ≡ after_entries a (made_next a call ∷ []) → HasTaken [] list (made_next a call).reply place next
     → collection_left (work_of [] next) d.host < collection_left (work_of [] place) a.host
 sweep-falls place next a d call list is made taken =
@@ -94,7 +103,8 @@ pub swept-none : (network : List ℕ) (valid : List ValidAtt) (a : JournalView) 
     → work_of [] place ≡ start_work → faults ≡ [] → SweptSoFar network valid a a place faults
 swept-none network valid a place faults is none = λ co c of gc.
     let start = Collecting start_work [] in
-    let came : start ≡ Collecting (work_of [] place) faults = ap (λ (w : Work). Collecting w []) (sym is) ∙ ap (Collecting (work_of [] place)) (sym none) in
+    let came : start ≡ Collecting (work_of [] place) faults =
+    ap (λ (w : Work). Collecting w []) (sym is) ∙ ap (Collecting (work_of [] place)) (sym none) in
     ([], subst (λ (t : State). Went co c [] a a start t) came (went-none co c a start))
 
 abbrev pub IsNext : List ℕ → SweepPlace → Call → Type 0
@@ -102,10 +112,13 @@ IsNext network place call = call_of_work network (jobs_left [] place) (sweeps_af
 
 -- the script after one call more
 abbrev after_call : Course → JournalView → SweepPlace → List ℕ → Call → State
-after_call co b place faults call = advance co (b.made + 1) (Collecting (work_of [] place) faults) (made_next b call).reply
+after_call co b place faults call =
+    advance co (b.made + 1) (Collecting (work_of [] place) faults) (made_next b call).reply
 
-call-went : (network : List ℕ) (valid : List ValidAtt) (a b d : JournalView) (place : SweepPlace) (faults : List ℕ) (call : Call)
-    → SweptSoFar network valid a b place faults → IsNext network place call → d ≡ after_entries b (made_next b call ∷ [])
+call-went : (network : List ℕ) (valid : List ValidAtt) (a b d : JournalView) (place : SweepPlace)
+    (faults : List ℕ) (call : Call)
+    → SweptSoFar network valid a b place faults → IsNext network place call
+    → d ≡ after_entries b (made_next b call ∷ [])
     → (co : Course) (c : Command) → c.network ≡ network → co.gc ≡ gc_by network valid
     → (es : List Made) × Went co c es a d (Collecting start_work []) (after_call co b place faults call)
 unfolding next_call
@@ -115,8 +128,10 @@ call-went network valid a b d place faults call so_far is made = λ co c of gc.
     (so.0 ++ made_next b call ∷ [], went-next call d so.1 next made)
 
 -- one call more
-pub swept-more : (network : List ℕ) (valid : List ValidAtt) (a b d : JournalView) (place next : SweepPlace) (faults more : List ℕ) (call : Call)
-    → SweptSoFar network valid a b place faults → IsNext network place call → d ≡ after_entries b (made_next b call ∷ [])
+pub swept-more : (network : List ℕ) (valid : List ValidAtt) (a b d : JournalView) (place next : SweepPlace)
+    (faults more : List ℕ) (call : Call)
+    → SweptSoFar network valid a b place faults → IsNext network place call
+    → d ≡ after_entries b (made_next b call ∷ [])
     → HasTaken [] valid (made_next b call).reply place next
     → more ≡ faults_after d.made faults (is_fault (made_next b call).reply)
     → SweptSoFar network valid a d next more
@@ -131,25 +146,29 @@ swept-more network valid a b d place next faults more call so_far is made taken 
     let met : faults_after (b.made + 1) faults (is_fault reply) ≡ more =
     ap (λ n. faults_after n faults (is_fault reply)) (sym (made-more b d call made)) ∙ sym noted in
     let came : after_call co b place faults call ≡ Collecting (work_of [] next) more =
-    ap (λ (w : Work). Collecting w (faults_after (b.made + 1) faults (is_fault reply))) work ∙ ap (Collecting (work_of [] next)) met in
+    ap (λ (w : Work). Collecting w (faults_after (b.made + 1) faults (is_fault reply))) work
+    ∙ ap (Collecting (work_of [] next)) met in
     (went.0, subst (λ (t : State). Went co c went.0 a d (Collecting start_work []) t) came went.1)
 
 -- ---- the end
 
 -- memory is refused before a call, or after it
-pub swept-failed : (network : List ℕ) (valid : List ValidAtt) (a b d : JournalView) (place : SweepPlace) (faults : List ℕ) (call : Call) (r : Result PartEnd NoMemory)
+pub swept-failed : (network : List ℕ) (valid : List ValidAtt) (a b d : JournalView) (place : SweepPlace)
+    (faults : List ℕ) (call : Call) (r : Result PartEnd NoMemory)
     → SweptSoFar network valid a b place faults → IsNext network place call → MayHaveMade call b d → IsErr r
     → (co : Course) (c : Command) → c.network ≡ network → co.gc ≡ gc_by network valid
     → EndsAs co c a d (Collecting start_work []) r
 swept-failed network valid a b d place faults call r so_far is (inl none) err = λ co c of gc.
     let so = so_far co c of gc in
     failed-ends co c so.0 a d (Collecting start_work []) (Collecting (work_of [] place) faults) r err
-    (subst (λ (j : JournalView). Went co c so.0 a j (Collecting start_work []) (Collecting (work_of [] place) faults)) (sym none) so.1)
+    (subst (λ (j : JournalView). Went co c so.0 a j (Collecting start_work []) (Collecting (work_of [] place) faults))
+    (sym none) so.1)
 swept-failed network valid a b d place faults call r so_far is (inr made) err = λ co c of gc.
     let went = call-went network valid a b d place faults call so_far is made co c of gc in
     failed-ends co c went.0 a d (Collecting start_work []) (after_call co b place faults call) r err went.1
 
-pub swept-unread : (network : List ℕ) (valid : List ValidAtt) (a b : JournalView) (place : SweepPlace) (faults : List ℕ) (r : Result PartEnd NoMemory)
+pub swept-unread : (network : List ℕ) (valid : List ValidAtt) (a b : JournalView) (place : SweepPlace) (faults : List ℕ)
+    (r : Result PartEnd NoMemory)
     → SweptSoFar network valid a b place faults → IsErr r
     → (co : Course) (c : Command) → c.network ≡ network → co.gc ≡ gc_by network valid
     → EndsAs co c a b (Collecting start_work []) r
@@ -164,13 +183,18 @@ work-open network [] (s ∷ ss) faults call is = tt
 work-open network (j ∷ js) ss faults call is = tt
 
 -- a call is left
-pub swept-stopped : (network : List ℕ) (valid : List ValidAtt) (a b : JournalView) (place : SweepPlace) (faults : List ℕ) (call : Call)
+pub swept-stopped : (network : List ℕ) (valid : List ValidAtt) (a b : JournalView) (place : SweepPlace)
+    (faults : List ℕ) (call : Call)
     → SweptSoFar network valid a b place faults → IsNext network place call → may_go b ≡ false
     → (co : Course) (c : Command) → c.network ≡ network → co.gc ≡ gc_by network valid
     → EndsAs co c a b (Collecting start_work []) (Ok parts.Stopped)
 swept-stopped network valid a b place faults call so_far is stopped = λ co c of gc.
-    let so = so_far co c of gc in
-    (so.0, Collecting (work_of [] place) faults, so.1, (work-open network (jobs_left [] place) (sweeps_after [] place.stage) faults call is, stopped))
+    let so = so_far co c of gc in (
+      so.0,
+      Collecting (work_of [] place) faults,
+      so.1,
+      (work-open network (jobs_left [] place) (sweeps_after [] place.stage) faults call is, stopped),
+    )
 
 work-over : (network : List ℕ) (js : List Job) (ss : List Sweep) (faults : List ℕ) → call_of_work network js ss ≡ None
     → IsOver (Collecting (record { jobs = js; sweeps = ss }) faults) (swept faults)
@@ -180,15 +204,21 @@ work-over network [] (s ∷ ss) faults is = absurd (none-some (OwnersOf network 
 work-over network (j ∷ js) ss faults is = absurd (none-some (step_call j.att j.step) (sym is))
 
 -- no call is left
-pub swept-over : (network : List ℕ) (valid : List ValidAtt) (a b : JournalView) (place : SweepPlace) (faults : List ℕ) (ending : Ending)
+pub swept-over : (network : List ℕ) (valid : List ValidAtt) (a b : JournalView) (place : SweepPlace) (faults : List ℕ)
+    (ending : Ending)
     → SweptSoFar network valid a b place faults
     → call_of_work network (jobs_left [] place) (sweeps_after [] place.stage) ≡ None → ending ≡ swept faults
     → (co : Course) (c : Command) → c.network ≡ network → co.gc ≡ gc_by network valid
     → EndsAs co c a b (Collecting start_work []) (Ok (parts.Over ending))
 swept-over network valid a b place faults ending so_far none is = λ co c of gc.
     let so = so_far co c of gc in
-    let over : IsOver (Collecting (work_of [] place) faults) (swept faults) = work-over network (jobs_left [] place) (sweeps_after [] place.stage) faults none in
-    (so.0, Collecting (work_of [] place) faults, so.1, subst (IsOver (Collecting (work_of [] place) faults)) (sym is) over)
+    let over : IsOver (Collecting (work_of [] place) faults) (swept faults) =
+    work-over network (jobs_left [] place) (sweeps_after [] place.stage) faults none in (
+      so.0,
+      Collecting (work_of [] place) faults,
+      so.1,
+      subst (IsOver (Collecting (work_of [] place) faults)) (sym is) over,
+    )
 
 -- ---- what the place told
 

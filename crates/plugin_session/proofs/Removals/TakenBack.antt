@@ -28,7 +28,8 @@ EndsEach att kinds old new end = (co : Course) (c : Command) (ending : Ending) �
 
 -- before the next of the kinds
 leaves-next : (att : Att) (kinds : List Kind) (i : ℕ) (d : Kind) (old mid : JournalView) → i < length kinds
-    → LeavesKinds att kinds (drop i kinds) old mid → LeavesKinds att kinds (get_or kinds i d ∷ drop (i + 1) kinds) old mid
+    → LeavesKinds att kinds (drop i kinds) old mid
+    → LeavesKinds att kinds (get_or kinds i d ∷ drop (i + 1) kinds) old mid
 leaves-next att kinds i d old mid within leaves =
     subst (λ (ks : List Kind). LeavesKinds att kinds ks old mid) (drop_more kinds i d within) leaves
 
@@ -56,7 +57,8 @@ pub each-fault : (att : Att) (kinds : List Kind) (i : ℕ) (d : Kind) (old mid n
     → end ≡ kind_ends.Fault → EndsEach att kinds old new (Ok kind_ends.Fault)
 each-fault att kinds i d old mid new end within leaves ended is = λ co c ending own.
     let before = leaves-next att kinds i d old mid within leaves co c ending own in
-    let one = ends-at att mid new (get_or kinds i d) end kind_ends.Fault ended is co c (drop (i + 1) kinds) ending own in
+    let one =
+    ends-at att mid new (get_or kinds i d) end kind_ends.Fault ended is co c (drop (i + 1) kinds) ending own in
     (before.0 ++ one.0, went-then before.1 one.1)
 
 pub each-stopped : (att : Att) (kinds : List Kind) (i : ℕ) (d : Kind) (old mid new : JournalView) (end : KindEnd)
@@ -64,7 +66,8 @@ pub each-stopped : (att : Att) (kinds : List Kind) (i : ℕ) (d : Kind) (old mid
     → end ≡ kind_ends.Stopped → EndsEach att kinds old new (Ok kind_ends.Stopped)
 each-stopped att kinds i d old mid new end within leaves ended is = λ co c ending own.
     let before = leaves-next att kinds i d old mid within leaves co c ending own in
-    let one = ends-at att mid new (get_or kinds i d) end kind_ends.Stopped ended is co c (drop (i + 1) kinds) ending own in
+    let one =
+    ends-at att mid new (get_or kinds i d) end kind_ends.Stopped ended is co c (drop (i + 1) kinds) ending own in
     (before.0 ++ one.0, Deleting (get_or kinds i d) (drop (i + 1) kinds) ending, went-then before.1 one.1, (tt, one.2))
 
 pub each-refused : (att : Att) (kinds : List Kind) (i : ℕ) (d : Kind) (old mid new : JournalView) (e error : NoMemory)
@@ -74,7 +77,8 @@ each-refused att kinds i d old mid new e error end within leaves ended is = λ c
     let P : Result KindEnd NoMemory → Type 0 = λ r. KindsEndAs co c old new kinds ending r in
     let before = leaves-next att kinds i d old mid within leaves co c ending own in
     let one = ended co c (drop (i + 1) kinds) ending own in
-    subst P (sym is) (before.0 ++ one.0, Deleting (get_or kinds i d) (drop (i + 1) kinds) ending, went-then before.1 one.1)
+    subst P (sym is)
+    (before.0 ++ one.0, Deleting (get_or kinds i d) (drop (i + 1) kinds) ending, went-then before.1 one.1)
 
 -- ---- with how they end
 
@@ -132,7 +136,8 @@ cache-read : (att : Att) (ending : Ending) (old new : JournalView) (t : State)
 unfolding next_call advance
 cache-read att ending old new t made co c own at =
     let P : State → Type 0 = λ s. Went co c (made_next old (CacheGet att) ∷ []) old new (ReadingCache ending) s in
-    subst P at (went-one co c (CacheGet att) old new (ReadingCache ending) (ap (λ (a : Att). Some (CacheGet a)) own) made)
+    subst P at
+    (went-one co c (CacheGet att) old new (ReadingCache ending) (ap (λ (a : Att). Some (CacheGet a)) own) made)
 
 pub back-fault : (att : Att) (kinds : List Kind) (ending told : Ending) (old new : JournalView)
     → new ≡ after_entries old (made_next old (CacheGet att) ∷ []) → is_fault (made_next old (CacheGet att)).reply ≡ true
@@ -147,8 +152,10 @@ back-fault att kinds ending told old new made met is = λ co c own of_kinds.
       over-is (faulted new.made ending) told is,
     )
 
-pub back-then : (att : Att) (kinds : List Kind) (ending : Ending) (old mid new : JournalView) (end : Result PartEnd NoMemory)
-    → mid ≡ after_entries old (made_next old (CacheGet att) ∷ []) → is_fault (made_next old (CacheGet att)).reply ≡ false
+pub back-then : (att : Att) (kinds : List Kind) (ending : Ending) (old mid new : JournalView)
+    (end : Result PartEnd NoMemory)
+    → mid ≡ after_entries old (made_next old (CacheGet att) ∷ [])
+    → is_fault (made_next old (CacheGet att)).reply ≡ false
     → EndsKinds att kinds ending mid new end → EndsBack att kinds ending old new end
 back-then att kinds ending old mid new end made met rest = λ co c own of_kinds.
     let r = (made_next old (CacheGet att)).reply in
@@ -158,4 +165,5 @@ back-then att kinds ending old mid new end made met rest = λ co c own of_kinds.
 pub ready-cache : (att : Att) (old new : JournalView) → new ≡ after_entries old (made_next old (CacheGet att) ∷ [])
     → StaysReady old.host new.host
 ready-cache att old new made = λ pools ready.
-    ready-made pools old new (CacheGet att) made (ready-cache_get pools old.host att (are_after old.made old.faults) ready)
+    ready-made pools old new (CacheGet att) made
+    (ready-cache_get pools old.host att (are_after old.made old.faults) ready)

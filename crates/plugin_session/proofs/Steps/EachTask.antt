@@ -17,17 +17,23 @@ use Rattle.kernel_types.proofs.ListLemmas.{filter_never}
 -- ---- what is numbered
 
 -- a row of the next task
-next-row : (n : ℕ) (more : Option Row) → IfSome more (λ row. row.task ≡ n) → list_all (λ (r : Row). r.task == n) (if_any more) ≡ true
+next-row : (n : ℕ) (more : Option Row) → IfSome more (λ row. row.task ≡ n)
+    → list_all (λ (r : Row). r.task == n) (if_any more) ≡ true
 next-row n None is = refl
 next-row n (Some row) is = ap (λ b. b && true) (eq-eqb row.task n is)
 
 module _ {X : Type 0} (task : X → ℕ) where
   -- with what the next task appends
   numbered-more : (n : ℕ) (before more : List X) → list_all (λ x. is_numbered n (task x)) before ≡ true
-      → list_all (λ x. task x == n + 1) more ≡ true → list_all (λ x. is_numbered (n + 1) (task x)) (before ++ more) ≡ true
+      → list_all (λ x. task x == n + 1) more ≡ true
+      → list_all (λ x. is_numbered (n + 1) (task x)) (before ++ more) ≡ true
   numbered-more n before more old own =
-      let kept = list_all-weaker (λ x. is_numbered n (task x)) (λ x. is_numbered (n + 1) (task x)) (λ x is. grind (arith, nat_tests)) before old in
-      let appended = list_all-weaker (λ x. task x == n + 1) (λ x. is_numbered (n + 1) (task x)) (λ x is. grind (arith, nat_tests)) more own in
+      let kept =
+      list_all-weaker (λ x. is_numbered n (task x)) (λ x. is_numbered (n + 1) (task x))
+      (λ x is. grind (arith, nat_tests)) before old in
+      let appended =
+      list_all-weaker (λ x. task x == n + 1) (λ x. is_numbered (n + 1) (task x))
+      (λ x is. grind (arith, nat_tests)) more own in
       list_all-append (λ x. is_numbered (n + 1) (task x)) before more
       ∙ ap (λ b. b && list_all (λ x. is_numbered (n + 1) (task x)) more) kept ∙ appended
 
@@ -36,14 +42,17 @@ module _ {X : Type 0} (task : X → ℕ) where
       → filter (λ x. nat_le (task x) (n + 1)) (before ++ more) ≡ filter (λ x. nat_le (task x) (n + 1)) before
   upto-before n m before more less own =
       filter-append (λ x. nat_le (task x) (n + 1)) before more
-      ∙ ap (λ l. filter (λ x. nat_le (task x) (n + 1)) before ++ l) (filter_never (λ x. nat_le (task x) (n + 1)) (λ x. task x == m + 1) (λ x is. grind (arith, nat_tests)) more own)
+      ∙ ap (λ l. filter (λ x. nat_le (task x) (n + 1)) before ++ l)
+      (filter_never (λ x. nat_le (task x) (n + 1)) (λ x. task x == m + 1) (λ x is. grind (arith, nat_tests))
+      more own)
       ∙ append-nil (filter (λ x. nat_le (task x) (n + 1)) before)
 
   -- up to the last task all is there
   upto-all : (n m : ℕ) (xs : List X) → m ≡ n + 1 → list_all (λ x. is_numbered m (task x)) xs ≡ true
       → filter (λ x. nat_le (task x) (n + 1)) xs ≡ xs
   upto-all n m xs is all =
-      filter-all_of (λ x. nat_le (task x) (n + 1)) (λ x. is_numbered m (task x)) (λ x in_range. grind (arith, nat_tests)) xs all
+      filter-all_of (λ x. nat_le (task x) (n + 1)) (λ x. is_numbered m (task x))
+      (λ x in_range. grind (arith, nat_tests)) xs all
 
 pub number-more : (old new : SessionView) → Grows old new → number new ≡ number old + 1
 number-more old new grows = ap length grows.answers ∙ length_push old.answers grows.answer
@@ -62,10 +71,12 @@ grown-more old new grown grows =
           ∙ numbered-more (λ (e : Entry). e.task) (number old) old.history grows.entries grown.entries grows.numbered;
       rows = ap (λ n. list_all (λ (r : Row). is_numbered n r.task) new.rows) numbers
           ∙ ap (list_all (λ (r : Row). is_numbered (number old + 1) r.task)) grows.rows
-          ∙ numbered-more (λ (r : Row). r.task) (number old) old.rows (if_any grows.more) grown.rows (next-row (number old + 1) grows.more grows.of_task);
+          ∙ numbered-more (λ (r : Row). r.task) (number old) old.rows (if_any grows.more) grown.rows
+          (next-row (number old + 1) grows.more grows.of_task);
     }
 
-rows-numbered : (n : ℕ) (rows : List Row) → All (IsRowKept n) rows → list_all (λ (r : Row). is_numbered n r.task) rows ≡ true
+rows-numbered : (n : ℕ) (rows : List Row) → All (IsRowKept n) rows
+    → list_all (λ (r : Row). is_numbered n r.task) rows ≡ true
 rows-numbered n [] all = refl
 rows-numbered n (row ∷ rows) all =
     ap (λ b. b && list_all (λ (r : Row). is_numbered n r.task) rows) (All-head (IsRowKept n) row rows all).numbered
@@ -78,12 +89,15 @@ kept-grown s kept = record { entries = kept.entries; rows = rows-numbered (numbe
 
 pub earlier-stays : EarlierTasksStay
 earlier-stays old new n grows less =
-    let history : filter (λ (e : Entry). nat_le e.task (n + 1)) new.history ≡ filter (λ (e : Entry). nat_le e.task (n + 1)) old.history =
+    let history : filter (λ (e : Entry). nat_le e.task (n + 1)) new.history
+    ≡ filter (λ (e : Entry). nat_le e.task (n + 1)) old.history =
     ap (filter (λ (e : Entry). nat_le e.task (n + 1))) grows.history
     ∙ upto-before (λ (e : Entry). e.task) n (number old) old.history grows.entries less grows.numbered in
-    let rows : filter (λ (r : Row). nat_le r.task (n + 1)) new.rows ≡ filter (λ (r : Row). nat_le r.task (n + 1)) old.rows =
+    let rows : filter (λ (r : Row). nat_le r.task (n + 1)) new.rows
+    ≡ filter (λ (r : Row). nat_le r.task (n + 1)) old.rows =
     ap (filter (λ (r : Row). nat_le r.task (n + 1))) grows.rows
-    ∙ upto-before (λ (r : Row). r.task) n (number old) old.rows (if_any grows.more) less (next-row (number old + 1) grows.more grows.of_task) in
+    ∙ upto-before (λ (r : Row). r.task) n (number old) old.rows (if_any grows.more) less
+    (next-row (number old + 1) grows.more grows.of_task) in
     let answers : take (n + 1) new.answers ≡ take (n + 1) old.answers =
     ap (take (n + 1)) grows.answers ∙ take-append-le (n + 1) old.answers (grows.answer ∷ []) (omega arith) in
     λ i. record { conf = grows.conf i; history = history i; rows = rows i; answers = answers i }

@@ -44,7 +44,8 @@ last_row-read rows att (Some k) is = there (find (λ r. att_eq r.att att) (rever
     there (Some row) h = same_Some (slice_get rows k) (Some row) h
 
 -- rows behind it leave it
-place-stays : (rows more : List Row) (place : Option ℕ) (found : Option Row) → option_map (slice_get rows) place ≡ option_map Some found
+place-stays : (rows more : List Row) (place : Option ℕ) (found : Option Row)
+    → option_map (slice_get rows) place ≡ option_map Some found
     → option_map (slice_get (rows ++ more)) place ≡ option_map Some found
 place-stays rows more None found is = is
 place-stays rows more (Some k) None is = absurd cc
@@ -58,37 +59,48 @@ module _ (old : SessionView) (es : List Made) (row : Row) (a : TaskAnswer) where
       → IsLastRow (after_task old es (Some row) a).rows att (Some (length old.rows))
   own-place att same =
       ap Some (slice_get-middle old.rows [] row)
-      ∙ sym (ap (option_map Some) (row_of-after old es (Some row) a att ∙ ap (λ b. option_or (cond b (Some row) None) (row_of old att)) same))
+      ∙ sym (ap (option_map Some)
+      (row_of-after old es (Some row) a att ∙ ap (λ b. option_or (cond b (Some row) None) (row_of old att)) same))
 
   other-place : (att : Att) (place : Option ℕ) → att_eq row.att att ≡ false → IsLastRow old.rows att place
       → IsLastRow (after_task old es (Some row) a).rows att place
   other-place att place differ is =
       place-stays old.rows (row ∷ []) place (row_of old att) is
-      ∙ sym (ap (option_map Some) (row_of-after old es (Some row) a att ∙ ap (λ b. option_or (cond b (Some row) None) (row_of old att)) differ))
+      ∙ sym (ap (option_map Some)
+      (row_of-after old es (Some row) a att ∙ ap (λ b. option_or (cond b (Some row) None) (row_of old att)) differ))
 
-places-some : (old : SessionView) (t : Task) (es : List Made) (row : Row) (a : TaskAnswer) (numbers : List ℕ) (places : List (Option ℕ)) (attachment : ℕ)
+places-some : (old : SessionView) (t : Task) (es : List Made) (row : Row) (a : TaskAnswer) (numbers : List ℕ)
+    (places : List (Option ℕ)) (attachment : ℕ)
     → slice_get old.conf.tasks (number old) ≡ Some t → row.att ≡ att_by old t
     → AreNumbered old.conf.network old.conf.tasks numbers (length places) → AreLastRows old numbers places
     → slice_get numbers (number old) ≡ Some attachment
     → AreLastRows (after_task old es (Some row) a) numbers (set places attachment (Some (length old.rows)))
 places-some old t es row a numbers places attachment there own numbered before at = λ n u m place is its here.
-    let apart : (attachment == m) ≡ att_eq (att_by old t) (att_by old u) = numbered.apart (number old) n t u attachment m there is at its in
-    let with_own : att_eq row.att (att_by old u) ≡ (attachment == m) = ap (λ x. att_eq x (att_by old u)) own ∙ sym apart in
+    let apart : (attachment == m) ≡ att_eq (att_by old t) (att_by old u) =
+    numbered.apart (number old) n t u attachment m there is at its in
+    let with_own : att_eq row.att (att_by old u) ≡ (attachment == m) =
+    ap (λ x. att_eq x (att_by old u)) own ∙ sym apart in
     elim (cases_Bool (attachment == m)) [
       | inl same ↦
           let one : attachment ≡ m = eqb-true attachment m same in
           let below : attachment < length places = numbered.below (number old) attachment at in
           let set_there : Some (length old.rows) ≡ place =
-          same_Some (Some (length old.rows)) place (sym (set-same places attachment (Some (length old.rows)) below) ∙ ap (slice_get (set places attachment (Some (length old.rows)))) one ∙ here) in
+          same_Some (Some (length old.rows)) place
+          (sym (set-same places attachment (Some (length old.rows)) below)
+          ∙ ap (slice_get (set places attachment (Some (length old.rows)))) one
+          ∙ here) in
           subst (IsLastRow (after_task old es (Some row) a).rows (att_by old u)) set_there
           (own-place old es row a (att_by old u) (with_own ∙ same))
       | inr differ ↦
           let was : slice_get places m ≡ Some place =
-          sym (set-other places attachment m (Some (length old.rows)) (λ one. eqb-false attachment m differ (sym one))) ∙ here in
+          sym (set-other places attachment m (Some (length old.rows))
+          (λ one. eqb-false attachment m differ (sym one)))
+          ∙ here in
           other-place old es row a (att_by old u) place (with_own ∙ differ) (before n u m place is its was)
     ]
 
-places-after : (suite : Suite) (old : SessionView) (t : Task) (es : List Made) (more : Option Row) (a : TaskAnswer) (numbers : List ℕ) (places : List (Option ℕ)) (attachment : ℕ)
+places-after : (suite : Suite) (old : SessionView) (t : Task) (es : List Made) (more : Option Row) (a : TaskAnswer)
+    (numbers : List ℕ) (places : List (Option ℕ)) (attachment : ℕ)
     → slice_get old.conf.tasks (number old) ≡ Some t → Ran suite (handed old t) (finish old) es more a
     → AreNumbered old.conf.network old.conf.tasks numbers (length places) → AreLastRows old numbers places
     → slice_get numbers (number old) ≡ Some attachment

@@ -14,7 +14,8 @@ pub slice_get-middle : {X : Type 0} (xs ys : List X) (y : X) → slice_get (xs +
 slice_get-middle [] ys y = refl
 slice_get-middle (x ∷ xs) ys y = slice_get-middle xs ys y
 
-pub filter-all_of : {X : Type 0} (p q : X → Bool) → ((x : X) → q x ≡ true → p x ≡ true) → (xs : List X) → list_all q xs ≡ true
+pub filter-all_of : {X : Type 0} (p q : X → Bool) → ((x : X) → q x ≡ true → p x ≡ true) → (xs : List X)
+    → list_all q xs ≡ true
     → filter p xs ≡ xs
 filter-all_of p q gives [] all = refl
 filter-all_of p q gives (x ∷ xs) all =
@@ -22,26 +23,30 @@ filter-all_of p q gives (x ∷ xs) all =
     let rest : filter p xs ≡ xs = filter-all_of p q gives xs (grind arith) in
     ap (λ b. cond b (x ∷ filter p xs) (filter p xs)) here ∙ ap (λ l. x ∷ l) rest
 
-pub filter-none_all : {X : Type 0} (P : X → Type 0) (p : X → Bool) → ((x : X) → P x → p x ≡ false) → (xs : List X) → All P xs
+pub filter-none_all : {X : Type 0} (P : X → Type 0) (p : X → Bool) → ((x : X) → P x → p x ≡ false) → (xs : List X)
+    → All P xs
     → filter p xs ≡ []
 filter-none_all P p gives [] all = refl
 filter-none_all P p gives (x ∷ xs) all =
     ap (λ b. cond b (x ∷ filter p xs) (filter p xs)) (gives x (All-head P x xs all))
     ∙ filter-none_all P p gives xs (All-tail P x xs all)
 
-at_end : {X : Type 0} (P : X → Type 0) (before : Option X) (b : Bool) (x y : X) → P x → ((z : X) → before ≡ Some z → P z)
+at_end : {X : Type 0} (P : X → Type 0) (before : Option X) (b : Bool) (x y : X) → P x
+    → ((z : X) → before ≡ Some z → P z)
     → option_or before (cond b (Some x) None) ≡ Some y → P y
 at_end P None true x y here there is = let same : x ≡ y = cc in subst P same here
 at_end P None false x y here there is = absurd cc
 at_end P (Some z) b x y here there is = there y is
 
 -- the last element that passes is one of them
-pub last_found : {X : Type 0} (P : X → Type 0) (p : X → Bool) (xs : List X) (y : X) → All P xs → find p (reverse xs) ≡ Some y → P y
+pub last_found : {X : Type 0} (P : X → Type 0) (p : X → Bool) (xs : List X) (y : X) → All P xs
+    → find p (reverse xs) ≡ Some y → P y
 last_found P p [] y all is = absurd cc
 last_found P p (x ∷ xs) y all is =
     let split : find p (reverse (x ∷ xs)) ≡ option_or (find p (reverse xs)) (find p (x ∷ [])) =
     ap (find p) (reverse-append (x ∷ []) xs) ∙ find-append p (reverse xs) (x ∷ []) in
-    at_end P (find p (reverse xs)) (p x) x y (All-head P x xs all) (λ z h. last_found P p xs z (All-tail P x xs all) h) (sym split ∙ is)
+    at_end P (find p (reverse xs)) (p x) x y (All-head P x xs all)
+    (λ z h. last_found P p xs z (All-tail P x xs all) h) (sym split ∙ is)
 
 -- ---- entries
 
@@ -67,7 +72,8 @@ entries_of-append n xs ys =
 pub entries_of-later : (n m : ℕ) (xs : List Entry) → n < m → list_all (λ (x : Entry). is_numbered n x.task) xs ≡ true
     → entries_of m xs ≡ []
 entries_of-later n m xs less all =
-    ap (map made_of) (filter_never (λ (x : Entry). x.task == m) (λ (x : Entry). is_numbered n x.task) (λ x in_range. grind (arith, nat_tests)) xs all)
+    ap (map made_of) (filter_never (λ (x : Entry). x.task == m) (λ (x : Entry). is_numbered n x.task)
+    (λ x in_range. grind (arith, nat_tests)) xs all)
 
 pub map-made : (n : ℕ) (es : List Made) → map made_of (map (entry_of n) es) ≡ es
 map-made n [] = refl
@@ -77,7 +83,8 @@ map-made n (e ∷ es) = ap (λ l. e ∷ l) (map-made n es)
 pub before-all : (n m : ℕ) (xs : List Entry) → n < m → list_all (λ (x : Entry). is_numbered n x.task) xs ≡ true
     → filter (λ (x : Entry). nat_lt x.task m) xs ≡ xs
 before-all n m xs less all =
-    filter-all_of (λ (x : Entry). nat_lt x.task m) (λ (x : Entry). is_numbered n x.task) (λ x in_range. grind (arith, nat_tests)) xs all
+    filter-all_of (λ (x : Entry). nat_lt x.task m) (λ (x : Entry). is_numbered n x.task)
+    (λ x in_range. grind (arith, nat_tests)) xs all
 
 pub before-own : (n : ℕ) (es : List Made) → filter (λ (x : Entry). nat_lt x.task n) (map (entry_of n) es) ≡ []
 before-own n [] = refl
@@ -87,7 +94,8 @@ before-own n (e ∷ es) =
     ap (λ b. cond b (entry_of n e ∷ rest) rest) not_before ∙ before-own n es
 
 -- the numbers of what is appended fit
-pub numbered-own : (n m : ℕ) (es : List Made) → n < m → list_all (λ (x : Entry). is_numbered m x.task) (map (entry_of m) es) ≡ true
+pub numbered-own : (n m : ℕ) (es : List Made) → n < m
+    → list_all (λ (x : Entry). is_numbered m x.task) (map (entry_of m) es) ≡ true
 numbered-own n m [] less = refl
 numbered-own n m (e ∷ es) less =
     let here : is_numbered m m ≡ true = grind (arith, nat_tests) in

@@ -44,7 +44,8 @@ refused-success : (verb : Verb) (cause : Cause) → endings.Refused cause ≡ su
 refused-success verbs.Add cause is = cc
 refused-success _ cause is = cc
 
-pub answers-cause : (c : Command) (verb : Verb) (a : TaskAnswer) (ending : Ending) (late : Option Cause) → Tells c a ending
+pub answers-cause : (c : Command) (verb : Verb) (a : TaskAnswer) (ending : Ending) (late : Option Cause)
+    → Tells c a ending
     → MatchOption late (ending ≡ success_of verb) (λ cause. ending ≡ endings.Refused cause)
     → AnswersBy c verb a (option_map Known late)
 answers-cause c verb (answers.Added r) ending None tells is = success-add verb r (sym tells ∙ is)
@@ -68,26 +69,30 @@ yes-told c answers.OutOfMemory ending tells is = absurd tells
 yes-told c (answers.Stopped calls) ending tells is = absurd tells
 
 pub yes-exact : (c : Command) (a : TaskAnswer) (ending : Ending) (there : Bool) → Tells c a ending
-    → MatchBool there (ending ≡ endings.Yes) (ending ≡ endings.Yes → ⊥) → MatchBool there (a ≡ answers.Yes) (a ≡ answers.Yes → ⊥)
+    → MatchBool there (ending ≡ endings.Yes) (ending ≡ endings.Yes → ⊥)
+    → MatchBool there (a ≡ answers.Yes) (a ≡ answers.Yes → ⊥)
 yes-exact c a ending true tells is = yes-told c a ending tells is
 yes-exact c a ending false tells not = λ yes. not (subst (λ x. Tells c x ending) yes tells)
 
 -- ---- before the first call
 
-pub early-yes : (h : Handed) (es : List Made) (a : TaskAnswer) (cause : TaskCause) → WasEarly h es a cause → a ≡ answers.Yes → ⊥
+pub early-yes : (h : Handed) (es : List Made) (a : TaskAnswer) (cause : TaskCause) → WasEarly h es a cause
+    → a ≡ answers.Yes → ⊥
 early-yes h es a cause was is = elim was.answer [
   | inl refused ↦ cc (refused, is)
   | inr memory ↦ cc (memory, is)
 ]
 
-pub early-added : (h : Handed) (es : List Made) (a : TaskAnswer) (cause : TaskCause) (r : AddResult) → WasEarly h es a cause
+pub early-added : (h : Handed) (es : List Made) (a : TaskAnswer) (cause : TaskCause) (r : AddResult)
+    → WasEarly h es a cause
     → a ≡ answers.Added r → ⊥
 early-added h es a cause r was is = elim was.answer [
   | inl refused ↦ cc (refused, is)
   | inr memory ↦ cc (memory, is)
 ]
 
-pub early-stopped : (h : Handed) (es : List Made) (a : TaskAnswer) (cause : TaskCause) (calls : ℕ) → WasEarly h es a cause
+pub early-stopped : (h : Handed) (es : List Made) (a : TaskAnswer) (cause : TaskCause) (calls : ℕ)
+    → WasEarly h es a cause
     → a ≡ answers.Stopped calls → ⊥
 early-stopped h es a cause calls was is = elim was.answer [
   | inl refused ↦ cc (refused, is)
@@ -105,10 +110,12 @@ early-refused h es a cause was whole = elim was.answer [
 
 -- where a call is left and the stop is reached, the task was stopped there, unless memory was refused
 pub stopped-due : (h : Handed) (es : List Made) (more : Option Row) (s : State) (calls : ℕ) (a : TaskAnswer)
-    → IsAnswerAt h es more s a → h.task.stop ≡ Some calls → IsOpen s → (a ≡ answers.Stopped calls) ⊎ (a ≡ answers.OutOfMemory)
+    → IsAnswerAt h es more s a → h.task.stop ≡ Some calls → IsOpen s
+    → (a ≡ answers.Stopped calls) ⊎ (a ≡ answers.OutOfMemory)
 stopped-due h es more s calls (answers.Added r) is stop goes_on = absurd (open-over s endings.Added is.0 goes_on)
 stopped-due h es more s calls answers.Yes is stop goes_on = absurd (open-over s endings.Yes is goes_on)
-stopped-due h es more s calls (answers.Refused e) is stop goes_on = absurd (open-over s (endings.Refused is.0) is.1 goes_on)
+stopped-due h es more s calls (answers.Refused e) is stop goes_on =
+    absurd (open-over s (endings.Refused is.0) is.1 goes_on)
 stopped-due h es more s calls (answers.Stopped n) is stop goes_on =
     let was = is.1 in let same : n ≡ calls = cc in inl (ap (λ k. answers.Stopped k) same)
 stopped-due h es more s calls answers.OutOfMemory is stop goes_on = inr refl

@@ -14,7 +14,8 @@ use Rattle.plugin_session.specs.{Course.{at_entry, at_lease}, Holds.{has_begun, 
 
 -- ---- only an ADD begins
 
-begun-call : (call : Call) (reply : Reply) → is_begun call reply ≡ true → (att : _) × ((netns : List ℕ) × (call ≡ Begin att netns))
+begun-call : (call : Call) (reply : Reply) → is_begun call reply ≡ true
+    → (att : _) × ((netns : List ℕ) × (call ≡ Begin att netns))
 begun-call (Begin att netns) Done is = (att, (netns, refl))
 begun-call _ _ is = absurd cc
 
@@ -24,7 +25,9 @@ open-work : (jobs : List Job) (sweeps : List Sweep) (faults : List ℕ) (ending 
     → option_map (λ (f : Finish). f.ending) (finish_of_work jobs sweeps faults) ≡ Some ending → IsWork jobs sweeps → ⊥
 open-work jobs sweeps faults ending over work = go (has_no_work jobs sweeps) over work
   where
-    go : (none : Bool) → option_map (λ (f : Finish). f.ending) (then_some none (record { ending = swept faults; given = [] })) ≡ Some ending
+    go : (none : Bool)
+        → option_map (λ (f : Finish). f.ending) (then_some none (record { ending = swept faults; given = [] }))
+        ≡ Some ending
         → MatchBool none ⊥ (Unit {0}) → ⊥
     go true is goes_on = goes_on
     go false is goes_on = cc
@@ -41,7 +44,8 @@ abbrev pub collects : State → Bool
 collects (Collecting work faults) = true
 collects s = false
 
-over-found : (s : State) (ending : Ending) → collects s ≡ false → IsOver s ending → (given : List Addr) × (s ≡ Over ending given)
+over-found : (s : State) (ending : Ending) → collects s ≡ false → IsOver s ending
+    → (given : List Addr) × (s ≡ Over ending given)
 unfolding finish_of
 over-found (Over e given) ending none over = let same : e ≡ ending = cc in (given, ap (λ x. Over x given) same)
 over-found (Collecting work faults) ending none over = absurd cc
@@ -77,7 +81,8 @@ collects-call_after : (number : ℕ) (left : List Call) (given : List Addr) (r :
 collects-call_after number left given Done = collects-after_leases left given
 collects-call_after number left given _ = refl
 
-collects-cache : (co : Course) (number : ℕ) (ending : Ending) (r : Reply) → collects (at_cache co number ending r) ≡ false
+collects-cache : (co : Course) (number : ℕ) (ending : Ending) (r : Reply)
+    → collects (at_cache co number ending r) ≡ false
 collects-cache co number ending Fault = refl
 collects-cache co number ending _ = collects-deleting co.kinds ending
 
@@ -117,7 +122,9 @@ pub ended-found : (co : Course) (s : State) (rs : List Reply) (ending : Ending) 
     → IsOver (state_from co 0 s rs) ending → (given : List Addr) × (state_from co 0 s rs ≡ Over ending given)
 ended-found co s rs ending none over =
     over-found (state_from co 0 s rs) ending
-    (after_replies-keeps (λ t. collects t ≡ false) (advance co) 0 s rs (λ number t r h. collects-advance co number t r h) none) over
+    (after_replies-keeps (λ t. collects t ≡ false) (advance co) 0 s rs
+    (λ number t r h. collects-advance co number t r h) none)
+    over
 
 -- a task whose Begin was granted is an ADD
 pub begun-add : (co : Course) (c : Command) (faulty : ℕ → Bool) (verb : Verb) (host : Host) (es : List Made)
@@ -125,6 +132,9 @@ pub begun-add : (co : Course) (c : Command) (faulty : ℕ → Bool) (verb : Verb
 unfolding next_call
 begun-add co c faulty verb host [] run is = absurd cc
 begun-add co c faulty verbs.Add host (e ∷ es) run is = refl
-begun-add co c faulty verbs.Del host (e ∷ es) run is = let began = begun-call e.call e.reply is in let first = run.0 in absurd (cc began.1.1)
-begun-add co c faulty verbs.Check host (e ∷ es) run is = let began = begun-call e.call e.reply is in let first = run.0 in absurd (cc began.1.1)
-begun-add co c faulty _ host (e ∷ es) run is = let began = begun-call e.call e.reply is in let first = run.0 in absurd (cc began.1.1)
+begun-add co c faulty verbs.Del host (e ∷ es) run is =
+    let began = begun-call e.call e.reply is in let first = run.0 in absurd (cc began.1.1)
+begun-add co c faulty verbs.Check host (e ∷ es) run is =
+    let began = begun-call e.call e.reply is in let first = run.0 in absurd (cc began.1.1)
+begun-add co c faulty _ host (e ∷ es) run is =
+    let began = begun-call e.call e.reply is in let first = run.0 in absurd (cc began.1.1)

@@ -26,7 +26,8 @@ module _ (suite : Suite) (h : Handed) (es : List Made) (row : Row) where
   empty-filled (Some cached) filled = tt
 
 -- a row that a task makes is one that may be kept
-pub kept-new : (suite : Suite) (old : SessionView) (t : Task) (es : List Made) (row : Row) → IsNewRow suite (handed old t) es row
+pub kept-new : (suite : Suite) (old : SessionView) (t : Task) (es : List Made) (row : Row)
+    → IsNewRow suite (handed old t) es row
     → IsRowKept (number old + 1) row
 kept-new suite old t es row is =
     let its = is.task in
@@ -38,9 +39,11 @@ kept-new suite old t es row is =
 
 -- and stays one
 pub kept-later : (n : ℕ) (row : Row) → IsRowKept n row → IsRowKept (n + 1) row
-kept-later n row is = let in_range = is.numbered in record { numbered = grind (arith, nat_tests); own = is.own; empty = is.empty }
+kept-later n row is =
+    let in_range = is.numbered in record { numbered = grind (arith, nat_tests); own = is.own; empty = is.empty }
 
-unasked : (row : Row) (cached : Option Cached) → row.cached ≡ cached → MatchOption cached (row.calls ≡ []) (λ c. Unit {0})
+unasked : (row : Row) (cached : Option Cached) → row.cached ≡ cached
+    → MatchOption cached (row.calls ≡ []) (λ c. Unit {0})
     → cached ≡ None → row.calls ≡ []
 unasked row None at is none = is
 unasked row (Some cached) at is none = absurd cc
@@ -63,11 +66,14 @@ found-att old att row is = att_eq-same row.att att (passes-find (λ r. att_eq r.
 
 -- ---- its calls
 
-forward-no_lease : (att : Att) (row : Row) (cached : Option Cached) → list_all (is_own_call att row.kinds) row.calls ≡ true
+forward-no_lease : (att : Att) (row : Row) (cached : Option Cached)
+    → list_all (is_own_call att row.kinds) row.calls ≡ true
     → list_all (λ call. not (asks_for_lease call)) (forward_by row.att row.calls cached) ≡ true
 forward-no_lease att row None own = refl
 forward-no_lease att row (Some cached) own =
-    let none = list_all-weaker (is_own_call att row.kinds) (λ call. not (asks_for_lease call)) (own-asks_none att row.kinds) row.calls own in
+    let none =
+    list_all-weaker (is_own_call att row.kinds) (λ call. not (asks_for_lease call))
+    (own-asks_none att row.kinds) row.calls own in
     list_all-append (λ call. not (asks_for_lease call)) row.calls _ ∙ ap (λ b. b && true) none
 
 -- no call after the leases asks for one
@@ -81,4 +87,5 @@ row-no_lease n (Some row) is = forward-no_lease row.att row row.cached is.own
 pub ranges-apart : (ipam : Option HostLocalConf) → IsWellFormedIpam ipam → AllByRecursion HasRangesApart (sets_by ipam)
 ranges-apart None is = tt
 ranges-apart (Some conf) is =
-    recursion_from_All HasRangesApart conf.sets (All-weaker IsWellFormedSet HasRangesApart (λ set fits. fits.apart) conf.sets is.sets)
+    recursion_from_All HasRangesApart conf.sets
+    (All-weaker IsWellFormedSet HasRangesApart (λ set fits. fits.apart) conf.sets is.sets)

@@ -65,7 +65,8 @@ unbegun-shrinks _ r att run none fit =
     part-removes att r.start (finish r) gone.within.removes
 
 -- where no Begin was granted, what was ready stays so
-pub unbegun-ready : (verb : Verb) (r : Run) (pools : Pools) → BeginsAt (begins verb) r → has_begun r.entries ≡ false → IsFit r
+pub unbegun-ready : (verb : Verb) (r : Run) (pools : Pools) → BeginsAt (begins verb) r → has_begun r.entries ≡ false
+    → IsFit r
     → IsReady pools r.start → IsReady pools (finish r)
 unbegun-ready verbs.Add r pools run none fit ready = subst (IsReady pools) (sym (unbegun_leaves r run none)) ready
 unbegun-ready verbs.Del r pools run none fit ready =
@@ -86,4 +87,5 @@ pub shrunk-by_row : (old new : SessionView) (att : Att) (o : Option Row) (before
 shrunk-by_row old new att None before after parts shrinks had =
     part-none (share_of att after) (subst (IsPartOf (share_of att after)) had shrinks)
 shrunk-by_row old new att (Some row) before after parts shrinks had =
-    subst (IsPartOf (share_of att after)) (sym (parts row refl)) (part-trans (share_of att after) (share_of att before) (part_by old row) shrinks had)
+    subst (IsPartOf (share_of att after)) (sym (parts row refl))
+    (part-trans (share_of att after) (share_of att before) (part_by old row) shrinks had)

@@ -34,26 +34,33 @@ module _ (old : SessionView) (es : List Made) (more : Option Row) (a : TaskAnswe
     own-after_at : entries_of (number old + 1) (after_task old es more a).history ≡ es
     own-after_at =
         entries_of-after (number old + 1)
-        ∙ ap (λ l. l ++ entries_of (number old + 1) (map (entry_of (number old + 1)) es)) (entries_of-later (number old) (number old + 1) old.history (omega arith) kept.entries)
+        ∙ ap (λ l. l ++ entries_of (number old + 1) (map (entry_of (number old + 1)) es))
+        (entries_of-later (number old) (number old + 1) old.history (omega arith) kept.entries)
         ∙ entries_of-own (number old + 1) es
 
     pub own-after : own (after_task old es more a) ≡ es
     own-after = ap (λ n. entries_of n (after_task old es more a).history) number-after ∙ own-after_at
 
-    start-after_at : filter (λ (e : Entry). nat_lt e.task (number old + 1)) (after_task old es more a).history ≡ old.history
+    start-after_at : filter (λ (e : Entry). nat_lt e.task (number old + 1)) (after_task old es more a).history
+        ≡ old.history
     start-after_at =
         filter-append (λ (e : Entry). nat_lt e.task (number old + 1)) old.history (map (entry_of (number old + 1)) es)
-        ∙ ap (λ l. l ++ filter (λ (e : Entry). nat_lt e.task (number old + 1)) (map (entry_of (number old + 1)) es)) (before-all (number old) (number old + 1) old.history (omega arith) kept.entries)
+        ∙ ap (λ l. l ++ filter (λ (e : Entry). nat_lt e.task (number old + 1)) (map (entry_of (number old + 1)) es))
+        (before-all (number old) (number old + 1) old.history (omega arith) kept.entries)
         ∙ ap (λ l. old.history ++ l) (before-own (number old + 1) es)
         ∙ append-nil old.history
 
     pub start-after : start (after_task old es more a) ≡ finish old
     start-after =
-        ap (λ n. host_from old.conf.opening (map made_of (filter (λ (e : Entry). nat_lt e.task n) (after_task old es more a).history))) number-after
+        ap (λ n.
+        host_from old.conf.opening
+        (map made_of (filter (λ (e : Entry). nat_lt e.task n) (after_task old es more a).history)))
+        number-after
         ∙ ap (λ l. host_from old.conf.opening (map made_of l)) start-after_at
 
     -- what an earlier row's task was leased stays
-    pub leased_to-before : (row : Row) → IsRowKept (number old) row → leased_to (after_task old es more a) row ≡ leased_to old row
+    pub leased_to-before : (row : Row) → IsRowKept (number old) row
+        → leased_to (after_task old es more a) row ≡ leased_to old row
     leased_to-before row is =
         let in_range = is.numbered in
         let differ : number old + 1 ≡ row.task → ⊥ = λ same. grind (arith, nat_tests) in
@@ -62,12 +69,14 @@ module _ (old : SessionView) (es : List Made) (more : Option Row) (a : TaskAnswe
         ∙ append-nil (entries_of row.task old.history))
 
     -- what the task was leased itself
-    pub leased_to-own : (row : Row) → row.task ≡ number old + 1 → leased_to (after_task old es more a) row ≡ leases_in (replies es)
+    pub leased_to-own : (row : Row) → row.task ≡ number old + 1
+        → leased_to (after_task old es more a) row ≡ leases_in (replies es)
     leased_to-own row is =
         ap (λ n. leases_in (replies (entries_of n (after_task old es more a).history))) is
         ∙ ap (λ l. leases_in (replies l)) own-after_at
 
-    leased_by-before : (o : Option Row) → IfSome o (IsRowKept (number old)) → leased_by (after_task old es more a) o ≡ leased_by old o
+    leased_by-before : (o : Option Row) → IfSome o (IsRowKept (number old))
+        → leased_by (after_task old es more a) o ≡ leased_by old o
     leased_by-before None is = refl
     leased_by-before (Some row) is = leased_to-before row is
 
@@ -79,11 +88,14 @@ module _ (old : SessionView) (es : List Made) (more : Option Row) (a : TaskAnswe
         at_row None is = tt
         at_row (Some row) is = last_found (IsRowKept (number old)) (λ r. att_eq r.att att) old.rows row kept.rows is
 
-    pub rows-after : IfSome more (λ row. row.task ≡ number old + 1) → rows_of_task (after_task old es more a) ≡ if_any more
+    pub rows-after : IfSome more (λ row. row.task ≡ number old + 1)
+        → rows_of_task (after_task old es more a) ≡ if_any more
     rows-after of_task =
         ap (λ n. filter (λ (r : Row). r.task == n) (after_task old es more a).rows) number-after
         ∙ filter-append (λ (r : Row). r.task == number old + 1) old.rows (if_any more)
-        ∙ ap (λ l. l ++ filter (λ (r : Row). r.task == number old + 1) (if_any more)) (filter-none_all (IsRowKept (number old)) (λ r. r.task == number old + 1) (λ r is. let in_range = is.numbered in grind (arith, nat_tests)) old.rows kept.rows)
+        ∙ ap (λ l. l ++ filter (λ (r : Row). r.task == number old + 1) (if_any more))
+        (filter-none_all (IsRowKept (number old)) (λ r. r.task == number old + 1)
+        (λ r is. let in_range = is.numbered in grind (arith, nat_tests)) old.rows kept.rows)
         ∙ filter-own more of_task
       where
         filter-own : (o : Option Row) → IfSome o (λ row. row.task ≡ number old + 1)
@@ -99,7 +111,8 @@ reverse-any (Some x) = refl
 pub row_of-after : (old : SessionView) (es : List Made) (more : Option Row) (a : TaskAnswer) (att : Att)
     → row_of (after_task old es more a) att ≡ option_or (find (λ r. att_eq r.att att) (if_any more)) (row_of old att)
 row_of-after old es more a att =
-    ap (find (λ r. att_eq r.att att)) (reverse-append old.rows (if_any more) ∙ ap (λ l. l ++ reverse old.rows) (reverse-any more))
+    ap (find (λ r. att_eq r.att att))
+    (reverse-append old.rows (if_any more) ∙ ap (λ l. l ++ reverse old.rows) (reverse-any more))
     ∙ find-append (λ r. att_eq r.att att) (if_any more) (reverse old.rows)
 
 found-own : (att : Att) (more before : Option Row) → IfSome more (λ row. row.att ≡ att)
@@ -126,7 +139,8 @@ of_task suite old t es (Some row) is = (is.task, is.att)
 leased-after : (old : SessionView) (t : Task) (es : List Made) (more : Option Row) (a : TaskAnswer) → IsViewKept old
     → IfSome more (IsOfTask old t)
     → leased_by (after_task old es more a) (row_after (handed old t) more) ≡ leased_after (handed old t) es more
-leased-after old t es None a kept is = leased_by-before old es None a kept (row_of old (att_by old t)) (row-kept old es None a kept (att_by old t))
+leased-after old t es None a kept is =
+    leased_by-before old es None a kept (row_of old (att_by old t)) (row-kept old es None a kept (att_by old t))
 leased-after old t es (Some row) a kept is = leased_to-own old es (Some row) a kept row is.0
 
 same_seen : (old : SessionView) (t : Task) (es : List Made) (more : Option Row) (a : TaskAnswer)
@@ -135,7 +149,8 @@ same_seen : (old : SessionView) (t : Task) (es : List Made) (more : Option Row) 
     → own (after_task old es more a) ≡ es
     → finish (after_task old es more a) ≡ host_from (finish old) es
     → row_of (after_task old es more a) (att_by old t) ≡ row_after (handed old t) more
-    → leased_by (after_task old es more a) (row_of (after_task old es more a) (att_by old t)) ≡ leased_after (handed old t) es more
+    → leased_by (after_task old es more a) (row_of (after_task old es more a) (att_by old t))
+    ≡ leased_after (handed old t) es more
     → rows_of_task (after_task old es more a) ≡ if_any more
     → seen (after_task old es more a) t ≡ seen_for (handed old t) (finish old) es more
 same_seen old t es more a numbers starts owns finishes row leased rows = λ i. record {
@@ -162,7 +177,8 @@ steps-seen suite old t es more a kept ran =
     let row : row_of (after_task old es more a) (att_by old t) ≡ row_after (handed old t) more =
     row_of-after old es more a (att_by old t)
     ∙ found-own (att_by old t) more (row_of old (att_by old t)) (IfSome_then more own_row (λ r is. is.1)) in
-    same_seen old t es more a (number-after old es more a) (start-after old es more a kept) (own-after old es more a kept)
+    same_seen old t es more a (number-after old es more a) (start-after old es more a kept)
+    (own-after old es more a kept)
     (finish-after old es more a) row
     (ap (leased_by (after_task old es more a)) row ∙ leased-after old t es more a kept own_row)
     (rows-after old es more a kept (IfSome_then more own_row (λ r is. is.0)))

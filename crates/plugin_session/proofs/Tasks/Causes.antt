@@ -48,13 +48,15 @@ adding-leasing co (set ∷ left) given none = tt
 forward-plain : (att : Att) (calls : List Call) (cached : Option Cached) → none_ask_for_lease calls ≡ true
     → none_ask_for_lease (forward_by att calls cached) ≡ true
 forward-plain att calls None plain = refl
-forward-plain att calls (Some cached) plain = list_all-append (λ call. not (asks_for_lease call)) calls (CachePut att cached ∷ []) plain refl
+forward-plain att calls (Some cached) plain =
+    list_all-append (λ call. not (asks_for_lease call)) calls (CachePut att cached ∷ []) plain refl
 
 -- so the course of a row leases by its sets alone
 pub forward-asks_none : (att : Att) (ks : List Kind) (row : Row) → list_all (is_own_call att ks) row.calls ≡ true
     → none_ask_for_lease (forward_of (Some row)) ≡ true
 forward-asks_none att ks row own =
-    forward-plain row.att row.calls row.cached (list_all-weaker (is_own_call att ks) (λ call. not (asks_for_lease call)) (own-asks_none att ks) row.calls own)
+    forward-plain row.att row.calls row.cached
+    (list_all-weaker (is_own_call att ks) (λ call. not (asks_for_lease call)) (own-asks_none att ks) row.calls own)
 
 -- the entry refuses for its cause, or the ADD goes on
 abbrev AddsBy : Option Cause → State → Type 0
@@ -66,7 +68,8 @@ add-begin co number att netns Done none unleased = adding-leasing co co.sets [] 
 add-begin co number att netns (Leased addr) none unleased = cc
 add-begin co number att netns _ none unleased = refl
 
-add-lease : (co : Course) (number : ℕ) (att : Att) (set : RangeSet) (left : List RangeSet) (given : List Addr) (r : Reply)
+add-lease : (co : Course) (number : ℕ) (att : Att) (set : RangeSet) (left : List RangeSet)
+    (given : List Addr) (r : Reply)
     → LeasesBySetsAlone co → is_done r ≡ false
     → AddsBy (add_cause number (LeaseNext att (length given) set) r) (at_lease co number left given r)
 add-lease co number att set left given (Leased addr) none undone = adding-leasing co left (given ++ addr ∷ []) none
@@ -96,18 +99,28 @@ add-step : (co : Course) (c : Command) (number : ℕ) (s : State) (host : Host) 
     → AddsBy (add_cause number call (reply_to host call faulty)) (advance co number s (reply_to host call faulty))
 unfolding advance next_call
 add-step co c number AtBegin host call faulty none adding is =
-    subst (λ x. AddsBy (add_cause number x (reply_to host x faulty)) (at_begin co number (reply_to host x faulty))) (same_Some (Begin (att_of c) c.netns) call is)
-    (add-begin co number (att_of c) c.netns (reply_to host (Begin (att_of c) c.netns) faulty) none (none-reply host (Begin (att_of c) c.netns) faulty refl))
+    subst (λ x. AddsBy (add_cause number x (reply_to host x faulty)) (at_begin co number (reply_to host x faulty)))
+    (same_Some (Begin (att_of c) c.netns) call is)
+    (add-begin co number (att_of c) c.netns (reply_to host (Begin (att_of c) c.netns) faulty) none
+    (none-reply host (Begin (att_of c) c.netns) faulty refl))
 add-step co c number (Leasing set left given) host call faulty none adding is =
     let lease : Call = LeaseNext (att_of c) (length given) set in
-    subst (λ x. AddsBy (add_cause number x (reply_to host x faulty)) (at_lease co number left given (reply_to host x faulty))) (same_Some lease call is)
-    (add-lease co number (att_of c) set left given (reply_to host lease faulty) none (lease-not_done host (att_of c) (length given) set faulty))
+    subst (λ x.
+    AddsBy (add_cause number x (reply_to host x faulty))
+    (at_lease co number left given (reply_to host x faulty)))
+    (same_Some lease call is)
+    (add-lease co number (att_of c) set left given (reply_to host lease faulty) none
+    (lease-not_done host (att_of c) (length given) set faulty))
 add-step co c number (AfterLeases next left given) host call faulty none adding is =
     let each = and_parts (not (asks_for_lease next)) (none_ask_for_lease left) adding in
     let plain = not-asks next each.0 in
-    subst (λ x. AddsBy (add_cause number x (reply_to host x faulty)) (at_call_after number left given (reply_to host x faulty))) (same_Some next call is)
+    subst (λ x.
+    AddsBy (add_cause number x (reply_to host x faulty))
+    (at_call_after number left given (reply_to host x faulty)))
+    (same_Some next call is)
     (add-after number next left given (reply_to host next faulty) plain each.1 (none-reply host next faulty plain))
-add-step co c number (Over ending given) host call faulty none adding is = absurd (over-makes_none c ending given call is)
+add-step co c number (Over ending given) host call faulty none adding is =
+    absurd (over-makes_none c ending given call is)
 add-step co c number _ host call faulty none adding is = absurd adding
 
 add-over : (s : State) (ending : Ending) → IsAdding s → IsOver s ending → ending ≡ Added
@@ -118,16 +131,20 @@ add-over (Leasing next left given) ending adding over = absurd (none-some ending
 add-over (AfterLeases next left given) ending adding over = absurd (none-some ending over)
 add-over _ ending adding over = absurd adding
 
-add-ends : (co : Course) (c : Command) (faulty : ℕ → Bool) (made : ℕ) (s : State) (host : Host) (es : List Made) (ending : Ending)
-    → LeasesBySetsAlone co → IsAdding s → IsRunFrom co c faulty made s host es → IsOver (state_from co made s (replies es)) ending
+add-ends : (co : Course) (c : Command) (faulty : ℕ → Bool) (made : ℕ) (s : State) (host : Host) (es : List Made)
+    (ending : Ending)
+    → LeasesBySetsAlone co → IsAdding s → IsRunFrom co c faulty made s host es
+    → IsOver (state_from co made s (replies es)) ending
     → EndsBy Added ending (first_of_add made es)
 add-ends co c faulty made s host [] ending none adding run over = add-over s ending adding over
 add-ends co c faulty made s host (e ∷ es) ending none adding run over =
     let next = advance co (made + 1) s e.reply in
-    ends-first Added ending (add_cause (made + 1) e.call e.reply) (first_of_add (made + 1) es) (IsAdding next) (λ cause. IsRefusing cause next)
+    ends-first Added ending (add_cause (made + 1) e.call e.reply) (first_of_add (made + 1) es) (IsAdding next)
+    (λ cause. IsRefusing cause next)
     (λ goes. add-ends co c faulty (made + 1) next (host_on host e) es ending none goes run.2 over)
     (λ cause refuses. refusing-ends co cause (made + 1) next (replies es) ending refuses over)
-    (subst (λ r. AddsBy (add_cause (made + 1) e.call r) (advance co (made + 1) s r)) (sym run.1) (add-step co c (made + 1) s host e.call (faulty made) none adding run.0))
+    (subst (λ r. AddsBy (add_cause (made + 1) e.call r) (advance co (made + 1) s r)) (sym run.1)
+    (add-step co c (made + 1) s host e.call (faulty made) none adding run.0))
 
 -- ---- DEL
 
@@ -177,13 +194,15 @@ fault-first : (ending : Ending) (fault : Bool) (cause : Cause) (rest : Option Ca
 fault-first ending true cause rest Goes Refuses goes refuses step = refuses step
 fault-first ending false cause rest Goes Refuses goes refuses step = goes step
 
-del-ends : (co : Course) (c : Command) (faulty : ℕ → Bool) (made : ℕ) (s : State) (host : Host) (es : List Made) (ending : Ending)
+del-ends : (co : Course) (c : Command) (faulty : ℕ → Bool) (made : ℕ) (s : State) (host : Host) (es : List Made)
+    (ending : Ending)
     → IsDeleting s → IsRunFrom co c faulty made s host es → IsOver (state_from co made s (replies es)) ending
     → EndsBy Yes ending (first_fault made es)
 del-ends co c faulty made s host [] ending is run over = del-over s ending is over
 del-ends co c faulty made s host (e ∷ es) ending is run over =
     let next = advance co (made + 1) s e.reply in
-    fault-first ending (is_fault e.reply) (causes.Fault (made + 1)) (first_fault (made + 1) es) (IsDeleting next) (IsRefusing (causes.Fault (made + 1)) next)
+    fault-first ending (is_fault e.reply) (causes.Fault (made + 1)) (first_fault (made + 1) es) (IsDeleting next)
+    (IsRefusing (causes.Fault (made + 1)) next)
     (λ goes. del-ends co c faulty (made + 1) next (host_on host e) es ending goes run.2 over)
     (λ refuses. refusing-ends co (causes.Fault (made + 1)) (made + 1) next (replies es) ending refuses over)
     (del-step co c (made + 1) s e.call e.reply is run.0)
@@ -191,7 +210,8 @@ del-ends co c faulty made s host (e ∷ es) ending is run over =
 -- ---- CHECK
 
 lack-step : (number : ℕ) (q : Question) (qs : List Question) (r : Reply)
-    → MatchOption (lack_by number q r) (at_question number q qs r ≡ asking qs) (λ cause. IsRefusing cause (at_question number q qs r))
+    → MatchOption (lack_by number q r) (at_question number q qs r ≡ asking qs)
+    (λ cause. IsRefusing cause (at_question number q qs r))
 lack-step number q qs (Has true) = refl
 lack-step number q qs (Has false) = refl
 lack-step number q qs _ = refl
@@ -203,8 +223,10 @@ lack-ends co made [] es ending over = over-tells co made Yes [] (replies es) end
 lack-ends co made (q ∷ qs) [] ending over = absurd (none-some ending over)
 lack-ends co made (q ∷ qs) (e ∷ es) ending over =
     let next = at_question (made + 1) q qs e.reply in
-    ends-first Yes ending (lack_by (made + 1) q e.reply) (first_lack (made + 1) qs es) (next ≡ asking qs) (λ cause. IsRefusing cause next)
-    (λ is. lack-ends co (made + 1) qs es ending (subst (λ s. IsOver (state_from co (made + 1) s (replies es)) ending) is over))
+    ends-first Yes ending (lack_by (made + 1) q e.reply) (first_lack (made + 1) qs es) (next ≡ asking qs)
+    (λ cause. IsRefusing cause next)
+    (λ is. lack-ends co (made + 1) qs es ending
+    (subst (λ s. IsOver (state_from co (made + 1) s (replies es)) ending) is over))
     (λ cause refuses. refusing-ends co cause (made + 1) next (replies es) ending refuses over)
     (lack-step (made + 1) q qs e.reply)
 
@@ -220,8 +242,10 @@ unfolding advance finish_of
 check-ends co [] ending over = absurd (none-some ending over)
 check-ends co (e ∷ es) ending over =
     let next = at_entry co 1 e.reply in
-    ends-first Yes ending (entry_cause e.reply) (first_lack 1 co.questions es) (next ≡ asking co.questions) (λ cause. IsRefusing cause next)
-    (λ is. lack-ends co 1 co.questions es ending (subst (λ s. IsOver (state_from co 1 s (replies es)) ending) is over))
+    ends-first Yes ending (entry_cause e.reply) (first_lack 1 co.questions es) (next ≡ asking co.questions)
+    (λ cause. IsRefusing cause next)
+    (λ is.
+    lack-ends co 1 co.questions es ending (subst (λ s. IsOver (state_from co 1 s (replies es)) ending) is over))
     (λ cause refuses. refusing-ends co cause 1 next (replies es) ending refuses over)
     (entry-step co e.reply)
 
@@ -231,9 +255,11 @@ gc-swept : (co : Course) (made : ℕ) (work : Work) (faults : List ℕ) (es : Li
     → IsOver (state_from co made (Collecting work faults) (replies es)) ending
     → ending ≡ swept (faults ++ fault_numbers made es)
 unfolding advance finish_of
-gc-swept co made work faults [] ending over = (work-done work.jobs work.sweeps faults ending over).tells ∙ ap swept (sym (append-nil faults))
+gc-swept co made work faults [] ending over =
+    (work-done work.jobs work.sweeps faults ending over).tells ∙ ap swept (sym (append-nil faults))
 gc-swept co made work faults (e ∷ es) ending over =
-    gc-swept co (made + 1) (work_after co.gc work.jobs work.sweeps e.reply) (faults_after (made + 1) faults (is_fault e.reply)) es ending over
+    gc-swept co (made + 1) (work_after co.gc work.jobs work.sweeps e.reply)
+    (faults_after (made + 1) faults (is_fault e.reply)) es ending over
     ∙ ap swept (noted_rest (made + 1) faults (is_fault e.reply) (fault_numbers (made + 1) es))
 
 swept-cause : (faults : List ℕ) → EndsBy Yes (swept faults) (of_faults faults)
@@ -243,12 +269,16 @@ swept-cause (k ∷ faults) = refl
 gc-ends : (co : Course) (es : List Made) (ending : Ending)
     → IsOver (state_from co 0 (Collecting start_work []) (replies es)) ending
     → EndsBy Yes ending (of_faults (fault_numbers 0 es))
-gc-ends co es ending over = subst (λ x. EndsBy Yes x (of_faults (fault_numbers 0 es))) (sym (gc-swept co 0 start_work [] es ending over)) (swept-cause (fault_numbers 0 es))
+gc-ends co es ending over =
+    subst (λ x. EndsBy Yes x (of_faults (fault_numbers 0 es))) (sym (gc-swept co 0 start_work [] es ending over))
+    (swept-cause (fault_numbers 0 es))
 
 -- ---- all verbs
 
 pub each-cause : EachAnswerHasItsCause
-each-cause verbs.Add co c faulty host es ending none ran = add-ends co c faulty 0 AtBegin host es ending (none refl) tt ran.run ran.over
-each-cause verbs.Del co c faulty host es ending none ran = del-ends co c faulty 0 (ReadingCache Yes) host es ending refl ran.run ran.over
+each-cause verbs.Add co c faulty host es ending none ran =
+    add-ends co c faulty 0 AtBegin host es ending (none refl) tt ran.run ran.over
+each-cause verbs.Del co c faulty host es ending none ran =
+    del-ends co c faulty 0 (ReadingCache Yes) host es ending refl ran.run ran.over
 each-cause verbs.Check co c faulty host es ending none ran = check-ends co es ending ran.over
 each-cause _ co c faulty host es ending none ran = gc-ends co es ending ran.over

@@ -36,7 +36,8 @@ end-faulted : (adds : Bool) (number : ℕ) (ending : Ending) → IsEnd adds endi
 end-faulted adds number (Refused cause) is = tt
 end-faulted adds number _ is = tt
 
-goes-forward : (adds : Bool) (calls : List Call) (given : List Addr) → adds ≡ true → GoesTo adds (after_leases calls given)
+goes-forward : (adds : Bool) (calls : List Call) (given : List Addr) → adds ≡ true
+    → GoesTo adds (after_leases calls given)
 goes-forward adds [] given is = is
 goes-forward adds (call ∷ calls) given is = is
 
@@ -49,7 +50,8 @@ goes-begin : (adds : Bool) (co : Course) (number : ℕ) (r : Reply) → adds ≡
 goes-begin adds co number Done is = goes-leasing adds co co.sets [] is
 goes-begin adds co number _ is = tt
 
-goes-lease : (adds : Bool) (co : Course) (number : ℕ) (left : List RangeSet) (given : List Addr) (r : Reply) → adds ≡ true
+goes-lease : (adds : Bool) (co : Course) (number : ℕ) (left : List RangeSet) (given : List Addr) (r : Reply)
+    → adds ≡ true
     → GoesTo adds (at_lease co number left given r)
 goes-lease adds co number left given (Leased addr) is = goes-leasing adds co left (given ++ addr ∷ []) is
 goes-lease adds co number left given _ is = tt
@@ -59,7 +61,8 @@ goes-call : (adds : Bool) (number : ℕ) (left : List Call) (given : List Addr) 
 goes-call adds number left given Done is = goes-forward adds left given is
 goes-call adds number left given _ is = tt
 
-goes-deleting : (adds : Bool) (kinds : List Kind) (ending : Ending) → IsEnd adds ending → GoesTo adds (deleting kinds ending)
+goes-deleting : (adds : Bool) (kinds : List Kind) (ending : Ending) → IsEnd adds ending
+    → GoesTo adds (deleting kinds ending)
 goes-deleting adds [] ending is = is
 goes-deleting adds (kind ∷ kinds) ending is = is
 
@@ -114,13 +117,15 @@ end-swept adds (number ∷ numbers) is = tt
 
 end-work : (adds none : Bool) (faults : List ℕ) (ending : Ending) → adds ≡ false
     → option_map (λ (f : Finish). f.ending) (then_some none (swept_finish faults)) ≡ Some ending → IsEnd adds ending
-end-work adds true faults ending is over = subst (IsEnd adds) (same_Some (swept faults) ending over) (end-swept adds faults is)
+end-work adds true faults ending is over =
+    subst (IsEnd adds) (same_Some (swept faults) ending over) (end-swept adds faults is)
 end-work adds false faults ending is over = absurd (none-some ending over)
 
 end-over : (adds : Bool) (s : State) (ending : Ending) → GoesTo adds s → IsOver s ending → IsEnd adds ending
 unfolding finish_of
 end-over adds (Over was given) ending is over = subst (IsEnd adds) (same_Some was ending over) is
-end-over adds (Collecting work faults) ending is over = end-work adds (has_no_work work.jobs work.sweeps) faults ending is over
+end-over adds (Collecting work faults) ending is over =
+    end-work adds (has_no_work work.jobs work.sweeps) faults ending is over
 end-over adds _ ending is over = absurd (none-some ending over)
 
 pub goes-ends : (adds : Bool) (co : Course) (made : ℕ) (s : State) (rs : List Reply) (ending : Ending) → GoesTo adds s

@@ -69,7 +69,8 @@ pub refusing-ends : (co : Course) (cause : Cause) (made : ℕ) (s : State) (rs :
     → IsRefusing cause s → IsOver (state_from co made s rs) ending → ending ≡ Refused cause
 refusing-ends co cause made s [] ending is over = refusing-over cause s ending is over
 refusing-ends co cause made s (r ∷ rs) ending is over =
-    refusing-ends co cause (made + 1) (advance co (made + 1) s r) rs ending (refusing-step co cause (made + 1) s r is) over
+    refusing-ends co cause (made + 1) (advance co (made + 1) s r) rs ending
+    (refusing-step co cause (made + 1) s r is) over
 
 -- ---- the first cause
 

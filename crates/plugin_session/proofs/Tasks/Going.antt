@@ -12,14 +12,19 @@ use Rattle.plugin_session.specs.declared.part.PartEnd.TheVariants as parts
 -- ---- entries behind others
 
 -- the counts of calls are equal by arithmetic alone
-run-append : (co : Course) (c : Command) (faulty : ℕ → Bool) (made next : ℕ) (s : State) (host : Host) (es fs : List Made)
+run-append : (co : Course) (c : Command) (faulty : ℕ → Bool) (made next : ℕ) (s : State) (host : Host)
+    (es fs : List Made)
     → next ≡ made + length es → IsRunFrom co c faulty made s host es
     → IsRunFrom co c faulty next (state_from co made s (replies es)) (host_from host es) fs
     → IsRunFrom co c faulty made s host (es ++ fs)
 run-append co c faulty made next s host [] fs is run more =
     subst (λ (k : ℕ). IsRunFrom co c faulty k s host fs) (is ∙ add-zero made) more
-run-append co c faulty made next s host (e ∷ es) fs is run more =
-    (run.0, run.1, run-append co c faulty (made + 1) next (advance co (made + 1) s e.reply) (host_on host e) es fs (omega arith) run.2 more)
+run-append co c faulty made next s host (e ∷ es) fs is run more = (
+  run.0,
+  run.1,
+  run-append co c faulty (made + 1) next (advance co (made + 1) s e.reply) (host_on host e) es fs (omega arith)
+      run.2 more,
+)
 
 state_from-append : (co : Course) (made next : ℕ) (s : State) (es fs : List Made) → next ≡ made + length es
     → state_from co made s (replies (es ++ fs)) ≡ state_from co next (state_from co made s (replies es)) (replies fs)
@@ -29,13 +34,16 @@ state_from-append co made next s (e ∷ es) fs is =
     state_from-append co (made + 1) next (advance co (made + 1) s e.reply) es fs (omega arith)
 
 same_after : (j : JournalView) (h g : Host) (x y : List Entry) (m n : ℕ) → h ≡ g → x ≡ y → m ≡ n
-    → ◌≡◌ {A = JournalView} (record j { host = h; history = x; made = m }) (record j { host = g; history = y; made = n })
+    → ◌≡◌ {A = JournalView} (record j { host = h; history = x; made = m })
+    (record j { host = g; history = y; made = n })
 same_after j h g x y m n hosts histories counts =
     let after : Host → List Entry → ℕ → JournalView = λ k l i. record j { host = k; history = l; made = i } in
     ap (λ (k : Host). after k x m) hosts ∙ ap (λ (l : List Entry). after g l m) histories ∙ ap (after g y) counts
 
 pub after_entries-none : (j : JournalView) → after_entries j [] ≡ j
-after_entries-none j = same_after j j.host j.host (j.history ++ []) j.history (j.made + 0) j.made refl (append-nil j.history) (add-zero j.made)
+after_entries-none j =
+    same_after j j.host j.host (j.history ++ []) j.history (j.made + 0) j.made refl (append-nil j.history)
+    (add-zero j.made)
 
 pub after_entries-append : (j : JournalView) (es fs : List Made)
     → after_entries (after_entries j es) fs ≡ after_entries j (es ++ fs)
@@ -75,7 +83,8 @@ pub went-one : (co : Course) (c : Command) (call : Call) (a d : JournalView) (s 
 went-one co c call a d s is made = record { journal = made; run = (is, refl, tt); state = refl }
 
 -- one call more
-pub went-next : {co : Course} {c : Command} {es : List Made} {a b : JournalView} {s t : State} (call : Call) (d : JournalView)
+pub went-next : {co : Course} {c : Command} {es : List Made} {a b : JournalView} {s t : State} (call : Call)
+    (d : JournalView)
     → Went co c es a b s t → next_call c t ≡ Some call → d ≡ after_entries b (made_next b call ∷ [])
     → Went co c (es ++ made_next b call ∷ []) a d s (advance co (b.made + 1) t (made_next b call).reply)
 went-next {co = co} {c = c} {b = b} {t = t} call d before is made = went-then before (went-one co c call b d t is made)

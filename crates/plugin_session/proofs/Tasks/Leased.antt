@@ -42,13 +42,16 @@ none-appended None host next = refl
 none-appended (Some tag) host next = refl
 
 none-bridge : (host : Host) (o : Option Link) (bridge : Link) → IsNoLease (bridge_or_new host o bridge)
-none-bridge host (Some link) bridge = by_test (λ (r : Reply). is_lease r ≡ false) (is_bridge link.kind) Done (Taken link.tag) (λ _. refl) (λ _. refl)
+none-bridge host (Some link) bridge =
+    by_test (λ (r : Reply). is_lease r ≡ false) (is_bridge link.kind) Done (Taken link.tag) (λ _. refl) (λ _. refl)
 none-bridge host None bridge = refl
 
 none-begin : (host : Host) (att : Att) (netns : List ℕ) → IsNoLease (begin_of host att netns)
 none-begin host att netns =
-    by_test (λ (r : Reply). is_lease r ≡ false) (is_host_or_ns host.namespaces netns) (if has_objects host att then Taken _ else Done) NoNs
-    (λ _. by_test (λ (r : Reply). is_lease r ≡ false) (has_objects host att) (Taken _) Done (λ _. refl) (λ _. refl)) (λ _. refl)
+    by_test (λ (r : Reply). is_lease r ≡ false) (is_host_or_ns host.namespaces netns)
+    (if has_objects host att then Taken _ else Done) NoNs
+    (λ _. by_test (λ (r : Reply). is_lease r ≡ false) (has_objects host att) (Taken _) Done (λ _. refl) (λ _. refl))
+    (λ _. refl)
 
 none-without : (host : Host) (o : Option Link) → IsNoLease (without_link host o)
 none-without host None = refl
@@ -56,30 +59,44 @@ none-without host (Some link) = refl
 
 none-leased : (host : Host) (call : Call) → asks_for_lease call ≡ false → IsNoLease (apply host call)
 none-leased host (Begin att netns) h = none-begin host att netns
-none-leased host (BridgeEnsure name mtu promisc) h = none-bridge host (find (is_host_link name) host.links) (new_bridge name mtu promisc)
+none-leased host (BridgeEnsure name mtu promisc) h =
+    none-bridge host (find (is_host_link name) host.links) (new_bridge name mtu promisc)
 none-leased host (GatewayEnsure bridge cidr) h =
-    none-if (has_host_bridge host bridge) _ _ (none-there (list_any (is_same_addr (new_gateway bridge cidr)) host.addresses) Done host _ refl) refl
-none-leased host (ForwardEnsure family) h = none-there (list_any (is_same_setting (new_forward family)) host.settings) Done host _ refl
+    none-if (has_host_bridge host bridge) _ _
+    (none-there (list_any (is_same_addr (new_gateway bridge cidr)) host.addresses) Done host _ refl) refl
+none-leased host (ForwardEnsure family) h =
+    none-there (list_any (is_same_setting (new_forward family)) host.settings) Done host _ refl
 none-leased host (VethAdd outer inner) h =
     none-if (has_named_ns host inner.ns) _ _
     (none-if (master_is_bridge_or_none host outer.master) _ _
-    (none-appended (option_map (λ l. l.tag) (option_or (link_at host inner.ns inner.name) (link_at host outer.ns outer.name))) host _) refl) refl
+    (none-appended
+    (option_map (λ l. l.tag) (option_or (link_at host inner.ns inner.name) (link_at host outer.ns outer.name)))
+    host _)
+    refl)
+    refl
 none-leased host (MacvlanAdd link) h =
     none-if (has_named_ns host link.ns) _ _
-    (none-if (has_master host link.master) _ _ (none-appended (option_map (λ l. l.tag) (link_at host link.ns link.name)) host _) refl) refl
-none-leased host (LinkSet own key mac mtu tx_qlen promisc allmulti) h = none-if (list_any (is_own_at own key) host.links) _ _ refl refl
+    (none-if (has_master host link.master) _ _
+    (none-appended (option_map (λ l. l.tag) (link_at host link.ns link.name)) host _) refl)
+    refl
+none-leased host (LinkSet own key mac mtu tx_qlen promisc allmulti) h =
+    none-if (list_any (is_own_at own key) host.links) _ _ refl refl
 none-leased host (AddrAdd obj) h =
-    none-if (has_link_of host obj.ns obj.link obj.tag) _ _ (none-appended (option_map (λ a. a.tag) (find (is_same_addr obj) host.addresses)) host _) refl
+    none-if (has_link_of host obj.ns obj.link obj.tag) _ _
+    (none-appended (option_map (λ a. a.tag) (find (is_same_addr obj) host.addresses)) host _) refl
 none-leased host (RouteAdd obj) h =
-    none-if (has_link_of host obj.ns obj.link obj.tag) _ _ (none-appended (option_map (λ r. r.tag) (find (is_same_route obj) host.routes)) host _) refl
+    none-if (has_link_of host obj.ns obj.link obj.tag) _ _
+    (none-appended (option_map (λ r. r.tag) (find (is_same_route obj) host.routes)) host _) refl
 none-leased host (RuleAppend rule) h = none-there (list_any (is_same_rule rule) host.rules) _ host _ refl
 none-leased host (SettingSet s) h =
-    none-if (has_named_ns host s.ns) _ _ (none-appended (option_map (λ x. x.tag) (find (is_same_setting s) host.settings)) host _) refl
+    none-if (has_named_ns host s.ns) _ _
+    (none-appended (option_map (λ x. x.tag) (find (is_same_setting s) host.settings)) host _) refl
 none-leased host (CachePut own cached) h = none-there (list_any (λ c. is_own own c.tag) host.cached) _ host _ refl
 none-leased host (LinkDel att) h = none-without host (find (λ l. is_own att l.tag) host.links)
 none-leased host (NsChange name true) h = none-there (has_named_ns host name) _ host _ refl
 none-leased host (NsChange name false) h = none-if (has_named_ns host name) _ _ refl refl
-none-leased host (Outside (DropLink key)) h = none-if (has_named_ns host key.ns) _ _ (none-without host (link_at host key.ns key.name)) refl
+none-leased host (Outside (DropLink key)) h =
+    none-if (has_named_ns host key.ns) _ _ (none-without host (link_at host key.ns key.name)) refl
 none-leased host (Outside (Flush table)) h = refl
 none-leased host (LeaseNext att number set) h = cc
 none-leased host _ h = refl
@@ -99,4 +116,6 @@ taken-not_done host att number (Some addr) = refl
 pub lease-not_done : (host : Host) (att : Att) (number : ℕ) (set : RangeSet) (faulty : Bool)
     → is_done (reply_to host (LeaseNext att number set) faulty) ≡ false
 lease-not_done host att number set true = refl
-lease-not_done host att number set false = taken-not_done host att number (pick_of set (last_leased host att.network number) (leased_addresses host att.network))
+lease-not_done host att number set false =
+    taken-not_done host att number
+    (pick_of set (last_leased host att.network number) (leased_addresses host att.network))

@@ -14,14 +14,16 @@ use Rattle.plugin_session.specs.Kept.{AreNumbered, att_in}
 
 -- the number that the map has for these names
 abbrev pub at_names : BTreeMap (Bor (List ℕ) × Bor (List ℕ)) ℕ → List ℕ → List ℕ → Option ℕ
-at_names known container ifname = tree.get_by (λ k. ordering_then (slice_cmp nat_cmp container k.0.now) (slice_cmp nat_cmp ifname k.1.now)) known
+at_names known container ifname =
+    tree.get_by (λ k. ordering_then (slice_cmp nat_cmp container k.0.now) (slice_cmp nat_cmp ifname k.1.now)) known
 
 abbrev pub same_names : List ℕ → List ℕ → List ℕ → List ℕ → Bool
 same_names container ifname c i = bytes_eq container c && bytes_eq ifname i
 
 -- what the map's order tells of two pairs of names
 pub names-test : (container ifname c i : List ℕ)
-    → is_eq (ordering_then (slice_cmp nat_cmp container c) (slice_cmp nat_cmp ifname i)) ≡ same_names container ifname c i
+    → is_eq (ordering_then (slice_cmp nat_cmp container c) (slice_cmp nat_cmp ifname i))
+    ≡ same_names container ifname c i
 names-test container ifname c i =
     sym (tied_then (slice_cmp nat_cmp container c) (slice_cmp nat_cmp ifname i))
     ∙ ap (λ b. b && is_eq (slice_cmp nat_cmp ifname i)) (is_eq-slice_cmp container c)
@@ -61,7 +63,8 @@ at_snoc (z ∷ zs) y x (suc i) is = elim (at_snoc zs y x i is) [
 -- each task has the number of its names, with one task more
 each-snoc : (tasks : List Task) (numbers : List ℕ) (known : List ℕ → List ℕ → Option ℕ) (t : Task) (k : ℕ)
     → length numbers ≡ length tasks
-    → ((n l : ℕ) (u : Task) → slice_get tasks n ≡ Some u → slice_get numbers n ≡ Some l → known u.container u.ifname ≡ Some l)
+    → ((n l : ℕ) (u : Task) → slice_get tasks n ≡ Some u → slice_get numbers n ≡ Some l
+    → known u.container u.ifname ≡ Some l)
     → known t.container t.ifname ≡ Some k
     → (n l : ℕ) (u : Task) → slice_get (tasks ++ t ∷ []) n ≡ Some u → slice_get (numbers ++ k ∷ []) n ≡ Some l
     → known u.container u.ifname ≡ Some l
@@ -82,7 +85,8 @@ long-snoc tasks numbers t k long =
     length-append numbers (k ∷ []) ∙ ap (λ n. n + 1) long ∙ sym (length-append tasks (t ∷ []))
 
 -- one more task of known names
-numbered-again : (tasks : List Task) (numbers : List ℕ) (count : ℕ) (known : List ℕ → List ℕ → Option ℕ) (t : Task) (k : ℕ)
+numbered-again : (tasks : List Task) (numbers : List ℕ) (count : ℕ) (known : List ℕ → List ℕ → Option ℕ)
+    (t : Task) (k : ℕ)
     → known t.container t.ifname ≡ Some k → AreNumberedTo tasks numbers count known
     → AreNumberedTo (tasks ++ t ∷ []) (numbers ++ k ∷ []) count known
 numbered-again tasks numbers count known t k is h = record {
@@ -108,11 +112,16 @@ still-known : (known : List ℕ → List ℕ → Option ℕ) (a b c i : List ℕ
     → same_names a b c i ≡ test → known a b ≡ None → known c i ≡ Some k → cond test (Some count) (known c i) ≡ Some k
 still-known known a b c i count k true e none is =
     let both = and_parts (bytes_eq a c) (bytes_eq b i) e in
-    absurd (none-some k (sym none ∙ ap (λ x. known x b) ((bytes_eq-Decides a c).0 both.0) ∙ ap (known c) ((bytes_eq-Decides b i).0 both.1) ∙ is))
+    absurd (none-some k
+    (sym none
+    ∙ ap (λ x. known x b) ((bytes_eq-Decides a c).0 both.0)
+    ∙ ap (known c) ((bytes_eq-Decides b i).0 both.1)
+    ∙ is))
 still-known known a b c i count k false e none is = is
 
 same_names-refl : (a b : List ℕ) → same_names a b a b ≡ true
-same_names-refl a b = and_from (bytes_eq a a) (bytes_eq b b) ((bytes_eq-Decides a a).1 refl) ((bytes_eq-Decides b b).1 refl)
+same_names-refl a b =
+    and_from (bytes_eq a a) (bytes_eq b b) ((bytes_eq-Decides a a).1 refl) ((bytes_eq-Decides b b).1 refl)
 
 -- one more task, of new names
 numbered-new : (tasks : List Task) (numbers : List ℕ) (count : ℕ) (known grown : List ℕ → List ℕ → Option ℕ) (t : Task)
@@ -129,7 +138,13 @@ numbered-new tasks numbers count known grown t none grows h =
     record {
       long = long-snoc tasks numbers t count h.long;
       few = (let few = h.few in let more = length-append numbers (count ∷ []) in omega arith);
-      each = each-snoc tasks numbers grown t count h.long (λ n l u at_u at_l. grows u.container u.ifname ∙ still-known known a b u.container u.ifname count l (same_names a b u.container u.ifname) refl none (h.each n l u at_u at_l)) own;
+      each =
+          each-snoc tasks numbers grown t count h.long
+          (λ n l u at_u at_l.
+          grows u.container u.ifname
+          ∙ still-known known a b u.container u.ifname count l (same_names a b u.container u.ifname) refl none
+          (h.each n l u at_u at_l))
+          own;
       below = λ c i k is. elim (cases c i k is) [
         | inl x ↦ (let same = x.2 in omega arith)
         | inr x ↦ (let less = h.below c i k x in omega arith)
@@ -149,7 +164,8 @@ numbered-new tasks numbers count known grown t none grows h =
 -- ---- turn by turn
 
 -- the next task's names are known, or are new and have the next number
-pub task-again : (tasks : List Task) (n : ℕ) (t : Task) (numbers : List ℕ) (count k : ℕ) (known : List ℕ → List ℕ → Option ℕ)
+pub task-again : (tasks : List Task) (n : ℕ) (t : Task) (numbers : List ℕ) (count k : ℕ)
+    (known : List ℕ → List ℕ → Option ℕ)
     → n < length tasks → t ≡ get_or tasks n t → known t.container t.ifname ≡ Some k
     → AreNumberedTo (take n tasks) numbers count known
     → AreNumberedTo (take (n + 1) tasks) (numbers ++ k ∷ []) count known
@@ -158,7 +174,8 @@ task-again tasks n t numbers count k known within t_is is h =
     (sym (take_more tasks n t within ∙ ap (λ x. take n tasks ++ x ∷ []) (sym t_is)))
     (numbered-again (take n tasks) numbers count known t k is h)
 
-pub task-new : (tasks : List Task) (n : ℕ) (t : Task) (numbers : List ℕ) (count : ℕ) (known grown : List ℕ → List ℕ → Option ℕ)
+pub task-new : (tasks : List Task) (n : ℕ) (t : Task) (numbers : List ℕ) (count : ℕ)
+    (known grown : List ℕ → List ℕ → Option ℕ)
     → n < length tasks → t ≡ get_or tasks n t → known t.container t.ifname ≡ None
     → ((c i : List ℕ) → grown c i ≡ cond (same_names t.container t.ifname c i) (Some count) (known c i))
     → AreNumberedTo (take n tasks) numbers count known
@@ -214,10 +231,12 @@ number-Decides : (network : List ℕ) (count k l : ℕ) (known : List ℕ → Li
     → Decides (att_eq (att_in network t) (att_in network u)) (k ≡ l)
 number-Decides network count k l known t u apart of_t of_u = (
   λ e. let same = att_eq-same (att_in network t) (att_in network u) e in
-      let names : known t.container t.ifname ≡ known u.container u.ifname = ap (λ (a : Att). known a.container a.ifname) same in
+      let names : known t.container t.ifname ≡ known u.container u.ifname =
+      ap (λ (a : Att). known a.container a.ifname) same in
       same_Some k l (sym of_t ∙ names ∙ of_u),
   λ e. let names = apart t.container t.ifname u.container u.ifname k of_t (of_u ∙ ap (λ (m : ℕ). Some m) (sym e)) in
-      ap (λ a. att_eq (att_in network t) a) (sym (same-names network t u names.0 names.1)) ∙ att_eq-refl (att_in network t),
+      ap (λ a. att_eq (att_in network t) a) (sym (same-names network t u names.0 names.1))
+      ∙ att_eq-refl (att_in network t),
 )
 
 pub all-numbered : (tasks : List Task) (n : ℕ) (numbers : List ℕ) (count : ℕ) (known : List ℕ → List ℕ → Option ℕ)
@@ -228,7 +247,9 @@ all-numbered tasks n numbers count known network past part =
     subst (λ ts. AreNumberedTo ts numbers count known) (take_all n tasks past) part in
     record {
       long = h.long;
-      below = λ m k is. (let within : m < length tasks = (let less = slice_get_within numbers m k is in let long = h.long in omega arith) in
+      below = λ m k is.
+          (let within : m < length tasks =
+          (let less = slice_get_within numbers m k is in let long = h.long in omega arith) in
           below-known tasks numbers count known m k (slice_get_some tasks m within) is h);
       apart = λ m o t u k l at_t at_u at_k at_l.
           same_from_decides (k == l) (att_eq (att_in network t) (att_in network u)) (Decides-eqb k l)

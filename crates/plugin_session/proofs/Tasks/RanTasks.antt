@@ -64,7 +64,9 @@ ran-add suite h old new b run turned early runs kept stop =
       ran = record {
         begun = ap (λ (o : Option Begun). is_some (row o)) kept ∙ begun-some b.begun b ∙ runs.begun;
         row = subst (λ o. IfSome o (IsNewRow suite h es)) more (if-begun b.begun b.row (IsNewRow suite h es) runs.row);
-        ran = subst (λ o. MatchOption o (RanByCourse h old.host es (row run.begun) run.answer) (WasEarly h es run.answer)) (sym early)
+        ran =
+            subst (λ o. MatchOption o (RanByCourse h old.host es (row run.begun) run.answer) (WasEarly h es run.answer))
+            (sym early)
             (subst (λ o. RanByCourse h old.host es o run.answer) more runs.ran);
         within = within-by h old new es turned runs.journal stop;
       };
@@ -79,7 +81,8 @@ run-of a = record { answer = a; begun = None }
 
 -- no call is made
 ran-nothing : (suite : Suite) (h : Handed) (j : JournalView) (a : TaskAnswer)
-    → MatchOption (early_for suite h) (RanByCourse h j.host [] None a) (WasEarly h [] a) → RanTask suite h j j (run-of a)
+    → MatchOption (early_for suite h) (RanByCourse h j.host [] None a) (WasEarly h [] a)
+    → RanTask suite h j j (run-of a)
 ran-nothing suite h j a ran = record {
   entries = [];
   history = sym (append-nil j.history);
@@ -88,7 +91,8 @@ ran-nothing suite h j a ran = record {
   given = tt;
 }
 
-early-or-not : (h : Handed) (j : JournalView) (early : Option TaskCause) → RanByCourse h j.host [] None answers.OutOfMemory
+early-or-not : (h : Handed) (j : JournalView) (early : Option TaskCause)
+    → RanByCourse h j.host [] None answers.OutOfMemory
     → MatchOption early (RanByCourse h j.host [] None answers.OutOfMemory) (WasEarly h [] answers.OutOfMemory)
 early-or-not h j None ran = ran
 early-or-not h j (Some cause) ran = record { none = refl; answer = inr refl }
@@ -97,24 +101,34 @@ early-or-not h j (Some cause) ran = record { none = refl; answer = inr refl }
 pub ran-idle : (suite : Suite) (h : Handed) (was new : JournalView) (run : TaskRun) → new.history ≡ was.history
     → new.host ≡ was.host → run ≡ run-of answers.OutOfMemory → RanTask suite h was new run
 ran-idle suite h was new run history host is =
-    let idle : RanByCourse h was.host [] None answers.OutOfMemory = record { state = begins h.task.verb; run = tt; is = refl; answer = tt } in
+    let idle : RanByCourse h was.host [] None answers.OutOfMemory =
+    record { state = begins h.task.verb; run = tt; is = refl; answer = tt } in
     subst (RanTask suite h was new) (sym is) (record {
       entries = [];
       history = history ∙ sym (append-nil was.history);
       host = host;
-      ran = record { begun = refl; row = tt; ran = early-or-not h was (early_for suite h) idle; within = none-within h.task.stop };
+      ran = record {
+        begun = refl;
+        row = tt;
+        ran = early-or-not h was (early_for suite h) idle;
+        within = none-within h.task.stop;
+      };
       given = tt;
     })
 
 -- it is refused for what is wrong of it
 pub ran-wrong : (suite : Suite) (h : Handed) (j : JournalView) (cause : TaskCause) (a : TaskAnswer)
-    → early_for suite h ≡ Some cause → (a ≡ answers.Refused (error_by (command_for h) cause)) ⊎ (a ≡ answers.OutOfMemory)
+    → early_for suite h ≡ Some cause
+    → (a ≡ answers.Refused (error_by (command_for h) cause)) ⊎ (a ≡ answers.OutOfMemory)
     → RanTask suite h j j (run-of a)
 ran-wrong suite h j cause a early answer =
-    ran-nothing suite h j a (subst (λ o. MatchOption o (RanByCourse h j.host [] None a) (WasEarly h [] a)) (sym early) (record { none = refl; answer = answer }))
+    ran-nothing suite h j a
+    (subst (λ o. MatchOption o (RanByCourse h j.host [] None a) (WasEarly h [] a)) (sym early)
+    (record { none = refl; answer = answer }))
 
 -- memory is refused
-pub ran-memory : (suite : Suite) (h : Handed) (j : JournalView) → IsTurnedTo h j → (r : Result TaskRun NoMemory) → IsErr r
+pub ran-memory : (suite : Suite) (h : Handed) (j : JournalView) → IsTurnedTo h j → (r : Result TaskRun NoMemory)
+    → IsErr r
     → RanTask suite h j j (ran_or r)
 ran-memory suite h j turned (Err e) err =
     ran-nothing suite h j answers.OutOfMemory (early-or-not h j (early_for suite h) (ran-none h j turned))
@@ -124,25 +138,30 @@ pub ran-refused : (suite : Suite) (h : Handed) (j : JournalView) (cause : TaskCa
     → early_for suite h ≡ Some cause → e ≡ error_by (command_for h) cause → run ≡ run-of (answers.Refused e)
     → RanTask suite h j j run
 ran-refused suite h j cause e run early is run_is =
-    subst (RanTask suite h j j) (sym run_is) (ran-wrong suite h j cause (answers.Refused e) early (inl (ap answers.Refused is)))
+    subst (RanTask suite h j j) (sym run_is)
+    (ran-wrong suite h j cause (answers.Refused e) early (inl (ap answers.Refused is)))
 
 -- it is refused for its words, unless memory is
-pub ran-words : (suite : Suite) (h : Handed) (c : Command) (j : JournalView) (cause : Cause) (r : Result TaskAnswer NoMemory)
+pub ran-words : (suite : Suite) (h : Handed) (c : Command) (j : JournalView) (cause : Cause)
+    (r : Result TaskAnswer NoMemory)
     (run : TaskRun) → c ≡ command_for h → early_for suite h ≡ Some (Known cause)
     → IfOk r (λ a. a ≡ answer_to c (Refused cause)) → run ≡ run-of (answered r) → RanTask suite h j j run
 ran-words suite h c j cause (Ok a) run command early answer is =
-    subst (RanTask suite h j j) (sym is) (ran-wrong suite h j (Known cause) a early (inl (answer ∙ ap (λ x. answer_to x (Refused cause)) command)))
+    subst (RanTask suite h j j) (sym is)
+    (ran-wrong suite h j (Known cause) a early (inl (answer ∙ ap (λ x. answer_to x (Refused cause)) command)))
 ran-words suite h c j cause (Err e) run command early answer is =
     subst (RanTask suite h j j) (sym is) (ran-wrong suite h j (Known cause) answers.OutOfMemory early (inr refl))
 
 -- ---- a verb that makes no row
 
 -- it makes no Begin
-no-begin : (call made : Call) (r : Reply) → ((s : Reply) → is_begun call s ≡ false) → Some call ≡ Some made → is_begun made r ≡ false
+no-begin : (call made : Call) (r : Reply) → ((s : Reply) → is_begun call s ≡ false) → Some call ≡ Some made
+    → is_begun made r ≡ false
 no-begin call made r not is = subst (λ x. is_begun x r ≡ false) (same_Some call made is) (not r)
 
 not-begun : (co : Course) (c : Command) (f : ℕ → Bool) (call : Call) (s : State) (host : Host) (es : List Made)
-    → next_call c s ≡ Some call → ((r : Reply) → is_begun call r ≡ false) → IsRunFrom co c f 0 s host es → has_begun es ≡ false
+    → next_call c s ≡ Some call → ((r : Reply) → is_begun call r ≡ false) → IsRunFrom co c f 0 s host es
+    → has_begun es ≡ false
 not-begun co c f call s host [] next not run = refl
 not-begun co c f call s host (e ∷ es) next not run = no-begin call e.call e.reply not (sym next ∙ run.0)
 
@@ -150,14 +169,17 @@ begins-otherwise : (co : Course) (c : Command) (f : ℕ → Bool) (verb : Verb) 
     → (verb ≡ verbs.Add → ⊥) → IsRunFrom co c f 0 (begins verb) host es → has_begun es ≡ false
 unfolding next_call
 begins-otherwise co c f verbs.Add host es not run = absurd (not refl)
-begins-otherwise co c f verbs.Del host es not run = not-begun co c f (CacheGet (att_of c)) (ReadingCache Yes) host es refl (λ r. refl) run
-begins-otherwise co c f verbs.Check host es not run = not-begun co c f (CacheGet (att_of c)) FindingEntry host es refl (λ r. refl) run
+begins-otherwise co c f verbs.Del host es not run =
+    not-begun co c f (CacheGet (att_of c)) (ReadingCache Yes) host es refl (λ r. refl) run
+begins-otherwise co c f verbs.Check host es not run =
+    not-begun co c f (CacheGet (att_of c)) FindingEntry host es refl (λ r. refl) run
 begins-otherwise co c f _ host es not run = not-begun co c f _ (Collecting start_work []) host es refl (λ r. refl) run
 
 ends-unbegun : (h : Handed) (wrong : Option Cause) (host : Host) (es : List Made) (a : TaskAnswer)
     → (h.task.verb ≡ verbs.Add → ⊥)
     → MatchOption wrong (RanByCourse h host es None a) (λ cause. WasEarly h es a (Known cause)) → false ≡ has_begun es
-ends-unbegun h None host es a not ran = sym (begins-otherwise (course_for h es None) (command_for h) _ h.task.verb host es not ran.run)
+ends-unbegun h None host es a not ran =
+    sym (begins-otherwise (course_for h es None) (command_for h) _ h.task.verb host es not ran.run)
 ends-unbegun h (Some cause) host es a not ran = ap has_begun (sym ran.none)
 
 known : (h : Handed) (wrong : Option Cause) (host : Host) (es : List Made) (a : TaskAnswer)
@@ -176,14 +198,16 @@ plain suite h wrong old new a turned not early runs stop = record {
   ran = record {
     begun = ends-unbegun h wrong old.host runs.entries a not runs.ran;
     row = tt;
-    ran = subst (λ o. MatchOption o (RanByCourse h old.host runs.entries None a) (WasEarly h runs.entries a)) (sym early)
+    ran =
+        subst (λ o. MatchOption o (RanByCourse h old.host runs.entries None a) (WasEarly h runs.entries a)) (sym early)
         (known h wrong old.host runs.entries a runs.ran);
     within = within-by h old new runs.entries turned runs.journal stop;
   };
   given = tt;
 }
 
-pub ran-plain : (suite : Suite) (h : Handed) (wrong : Option Cause) (old new : JournalView) (a : TaskAnswer) (run : TaskRun)
+pub ran-plain : (suite : Suite) (h : Handed) (wrong : Option Cause) (old new : JournalView)
+    (a : TaskAnswer) (run : TaskRun)
     → IsTurnedTo h old → (h.task.verb ≡ verbs.Add → ⊥) → early_for suite h ≡ option_map Known wrong
     → RunsWithoutRow h wrong old new a → run ≡ run-of a → IfSome new.stop (λ most. new.made ≤ most)
     → RanTask suite h old new run
@@ -226,6 +250,8 @@ ran-from suite h was old new run history host ran = record {
   entries = ran.entries;
   history = ran.history ∙ ap (λ (x : List Entry). x ++ map (entry_of h.number) ran.entries) history;
   host = ran.host ∙ ap (λ (x : Host). host_from x ran.entries) host;
-  ran = subst (λ (x : Host). Ran suite h x ran.entries (option_map (λ (b : Begun). b.row) run.begun) run.answer) host ran.ran;
+  ran =
+      subst (λ (x : Host). Ran suite h x ran.entries (option_map (λ (b : Begun). b.row) run.begun) run.answer)
+      host ran.ran;
   given = ran.given;
 }

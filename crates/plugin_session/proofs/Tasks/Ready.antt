@@ -27,7 +27,8 @@ made_on host call faulty = record { call = call; reply = reply_to host call faul
 -- what holds before the call, and after the kernel made it, holds with and without a fault
 on-made : (P : Host → Type 0) (host : Host) (call : Call) (faulty : Bool) → P host → P (apply host call).0
     → P (host_on host (made_on host call faulty))
-on-made P host call faulty before after = by_test P (is_fault (reply_to host call faulty)) host (apply host call).0 (λ _. before) (λ _. after)
+on-made P host call faulty before after =
+    by_test P (is_fault (reply_to host call faulty)) host (apply host call).0 (λ _. before) (λ _. after)
 
 -- a fault leaves the host, whichever call it answers
 pub ready-fault : (pools : Pools) (host : Host) (call : Call) → IsReady pools host
@@ -107,7 +108,8 @@ ready-has_obj pools host probe faulty ready = ready-call pools host (HasObj prob
 
 pub ready-owners_of : (pools : Pools) (host : Host) (network : List ℕ) (kind : Kind) (faulty : Bool)
     → IsReady pools host → IsReady pools (host_on host (made_on host (OwnersOf network kind) faulty))
-ready-owners_of pools host network kind faulty ready = ready-call pools host (OwnersOf network kind) faulty refl tt ready
+ready-owners_of pools host network kind faulty ready =
+    ready-call pools host (OwnersOf network kind) faulty refl tt ready
 
 -- a deletion may always be made
 pub deletion-allowed : (host : Host) (att : Att) (kind : Kind) → IsAllowed host (deletion att kind)
@@ -127,7 +129,8 @@ deletion-moves_none att kinds.Cached = refl
 pub ready-deletion : (pools : Pools) (host : Host) (att : Att) (kind : Kind) (faulty : Bool) → IsReady pools host
     → IsReady pools (host_on host (made_on host (deletion att kind) faulty))
 ready-deletion pools host att kind faulty ready =
-    ready-call pools host (deletion att kind) faulty (deletion-moves_none att kind) (deletion-allowed host att kind) ready
+    ready-call pools host (deletion att kind) faulty (deletion-moves_none att kind)
+    (deletion-allowed host att kind) ready
 
 plugin-moves_none : (att : Att) (call : Call) → is_plugin_call_of att call ≡ true → moves_last call ≡ false
 plugin-moves_none att (LeaseNext a b d) own = cc
@@ -174,23 +177,33 @@ last-fits pools network number set lasts (Some x) is at all =
 pub lease-allowed : (pools : Pools) (host : Host) (att : Att) (number : ℕ) (set : RangeSet)
     → slice_get pools.sets number ≡ Some set → HasRangesApart set → IsReady pools host
     → IsAllowed host (LeaseNext att number set)
-lease-allowed pools host att number set at apart ready =
-    (apart, last-fits pools att.network number set host.lasts (find (is_of_pool att.network number) host.lasts) refl at ready.lasts)
+lease-allowed pools host att number set at apart ready = (
+  apart,
+  last-fits pools att.network number set host.lasts (find (is_of_pool att.network number) host.lasts) refl
+      at ready.lasts,
+)
 
 moved-one : (pools : Pools) (network : List ℕ) (number : ℕ) (a : Addr) (x : Last) (b : Bool)
     → is_of_pool network number x ≡ b → IsLastOf pools x
     → IsLastOf pools (record { network = network; set = number; addr = a })
     → IsLastOf pools (if b then record x { addr = a } else x)
 moved-one pools network number a x true is old new =
-    record { network = old.network; set = new.set; there = ap (slice_get pools.sets) (same-pool network number x is).1 ∙ new.there; fits = new.fits }
+    record {
+      network = old.network;
+      set = new.set;
+      there = ap (slice_get pools.sets) (same-pool network number x is).1 ∙ new.there;
+      fits = new.fits;
+    }
 moved-one pools network number a x false is old new = old
 
 each-moved : (pools : Pools) (network : List ℕ) (number : ℕ) (a : Addr) (xs : List Last)
     → AllByRecursion (IsLastOf pools) xs → IsLastOf pools (record { network = network; set = number; addr = a })
     → AllByRecursion (IsLastOf pools) (map (moved_last network number a) xs)
 each-moved pools network number a [] all new = tt
-each-moved pools network number a (x ∷ xs) all new =
-    (moved-one pools network number a x (is_of_pool network number x) refl all.0 new, each-moved pools network number a xs all.1 new)
+each-moved pools network number a (x ∷ xs) all new = (
+  moved-one pools network number a x (is_of_pool network number x) refl all.0 new,
+  each-moved pools network number a xs all.1 new,
+)
 
 each-push : (pools : Pools) (xs : List Last) (x : Last) → AllByRecursion (IsLastOf pools) xs → IsLastOf pools x
     → AllByRecursion (IsLastOf pools) (xs ++ x ∷ [])
@@ -199,9 +212,13 @@ each-push pools (y ∷ ys) x all new = (all.0, each-push pools ys x all.1 new)
 
 last-with : (pools : Pools) (host : Host) (network : List ℕ) (number : ℕ) (a : Addr) (b : Bool)
     → AllByRecursion (IsLastOf pools) host.lasts → IsLastOf pools (record { network = network; set = number; addr = a })
-    → AllByRecursion (IsLastOf pools) (if b then record host { lasts = map (moved_last network number a) host.lasts } else record host { lasts = host.lasts ++ record { network = network; set = number; addr = a } ∷ [] }).lasts
+    → AllByRecursion (IsLastOf pools)
+    (if b
+    then record host { lasts = map (moved_last network number a) host.lasts }
+    else record host { lasts = host.lasts ++ record { network = network; set = number; addr = a } ∷ [] }).lasts
 last-with pools host network number a true all new = each-moved pools network number a host.lasts all new
-last-with pools host network number a false all new = each-push pools host.lasts (record { network = network; set = number; addr = a }) all new
+last-with pools host network number a false all new =
+    each-push pools host.lasts (record { network = network; set = number; addr = a }) all new
 
 -- the last address of the set becomes the one that is leased
 lasts-lease : (pools : Pools) (host : Host) (att : Att) (number : ℕ) (set : RangeSet) (o : Option Addr)
@@ -210,7 +227,8 @@ lasts-lease : (pools : Pools) (host : Host) (att : Att) (number : ℕ) (set : Ra
     → AllByRecursion (IsLastOf pools) (lease_taken host att number o).0.lasts
 lasts-lease pools host att number set None network at fits all = all
 lasts-lease pools host att number set (Some a) network at fits all =
-    last-with pools _ att.network number a _ all (record { network = network; set = set; there = at; fits = fits a refl })
+    last-with pools _ att.network number a _ all
+    (record { network = network; set = set; there = at; fits = fits a refl })
 
 leased-by : (host : Host) (att : Att) (number : ℕ) (o : Option Addr) (a : Addr) → o ≡ Some a
     → (lease_taken host att number o).1 ≡ Leased a
@@ -225,5 +243,7 @@ ready-lease pools host att number set faulty network at apart ready =
     let o = pick_of set (last_leased host att.network number) (leased_addresses host att.network) in
     on-made (IsReady pools) host (LeaseNext att number set) faulty ready (record {
       sound = IsSound-apply host (LeaseNext att number set) ready.sound allowed;
-      lasts = lasts-lease pools host att number set o network at (λ a is. leased-candidate host att number set a (leased-by host att number o a is)) ready.lasts;
+      lasts =
+          lasts-lease pools host att number set o network at
+          (λ a is. leased-candidate host att number set a (leased-by host att number o a is)) ready.lasts;
     })

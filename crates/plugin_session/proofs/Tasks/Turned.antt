@@ -18,8 +18,11 @@ use Rattle.plugin_session.proofs.Tasks.{Endings.{GoesTo, IsEnd, goes-ends}, Goin
 run-same : (co : Course) (c : Command) (f g : ℕ → Bool) (made : ℕ) (s : State) (host : Host) (es : List Made)
     → ((k : ℕ) → f k ≡ g k) → IsRunFrom co c f made s host es → IsRunFrom co c g made s host es
 run-same co c f g made s host [] same run = run
-run-same co c f g made s host (e ∷ es) same run =
-    (run.0, run.1 ∙ ap (reply_to host e.call) (same made), run-same co c f g (made + 1) (advance co (made + 1) s e.reply) (host_on host e) es same run.2)
+run-same co c f g made s host (e ∷ es) same run = (
+  run.0,
+  run.1 ∙ ap (reply_to host e.call) (same made),
+  run-same co c f g (made + 1) (advance co (made + 1) s e.reply) (host_on host e) es same run.2,
+)
 
 -- a part of the whole course is the task's run, with an answer to the state that it came to
 pub ran-by : (h : Handed) (es : List Made) (more : Option Row) (a : TaskAnswer) (old new : JournalView) (t : State)
@@ -38,7 +41,8 @@ ran-by h es more a old new t turned went answer =
     }
 
 -- the entries of a part that made them are as many as the journal's calls
-pub made-all : (co : Course) (c : Command) (h : Handed) (es : List Made) (old new : JournalView) (s t : State) (calls : ℕ)
+pub made-all : (co : Course) (c : Command) (h : Handed) (es : List Made) (old new : JournalView)
+    (s t : State) (calls : ℕ)
     → IsTurnedTo h old → Went co c es old new s t → new.made ≡ calls → length es ≡ calls
 made-all co c h es old new s t calls turned went is =
     let all : new.made ≡ old.made + length es = ap (λ (j : JournalView). j.made) went.journal in
@@ -69,19 +73,22 @@ from-begin h es more old new s t begun went =
 -- nothing is done yet, and memory is refused
 pub ran-none : (h : Handed) (j : JournalView) → IsTurnedTo h j → RanByCourse h j.host [] None answers.OutOfMemory
 ran-none h j turned =
-    ran-by h [] None answers.OutOfMemory j j (begins h.task.verb) turned (went-none (course_for h [] None) (command_for h) j (begins h.task.verb)) tt
+    ran-by h [] None answers.OutOfMemory j j (begins h.task.verb) turned
+    (went-none (course_for h [] None) (command_for h) j (begins h.task.verb)) tt
 
 -- ---- a verb that makes no row
 
 wrong-or-not : (h : Handed) (wrong : Option Cause) (j : JournalView) → IsTurnedTo h j
-    → MatchOption wrong (RanByCourse h j.host [] None answers.OutOfMemory) (λ cause. WasEarly h [] answers.OutOfMemory (Known cause))
+    → MatchOption wrong (RanByCourse h j.host [] None answers.OutOfMemory)
+    (λ cause. WasEarly h [] answers.OutOfMemory (Known cause))
 wrong-or-not h None j turned = ran-none h j turned
 wrong-or-not h (Some cause) j turned = record { none = refl; answer = inr refl }
 
 -- memory is refused before its first call
 pub runs-none : (h : Handed) (wrong : Option Cause) (j : JournalView) → IsTurnedTo h j
     → RunsWithoutRow h wrong j j answers.OutOfMemory
-runs-none h wrong j turned = record { entries = []; journal = sym (after_entries-none j); ran = wrong-or-not h wrong j turned }
+runs-none h wrong j turned =
+    record { entries = []; journal = sym (after_entries-none j); ran = wrong-or-not h wrong j turned }
 
 -- it is refused for its words, unless memory is
 pub runs-wrong : (h : Handed) (wrong : Option Cause) (cause : Cause) (j : JournalView) (a : Result TaskAnswer NoMemory)
@@ -96,7 +103,11 @@ runs-wrong h wrong cause j (Ok a) is answer = record {
 runs-wrong h wrong cause j (Err e) is answer = record {
   entries = [];
   journal = sym (after_entries-none j);
-  ran = subst (λ o. MatchOption o (RanByCourse h j.host [] None answers.OutOfMemory) (λ why. WasEarly h [] answers.OutOfMemory (Known why))) (sym is)
+  ran =
+      subst (λ o.
+      MatchOption o (RanByCourse h j.host [] None answers.OutOfMemory)
+      (λ why. WasEarly h [] answers.OutOfMemory (Known why)))
+      (sym is)
       (record { none = refl; answer = inr refl });
 }
 
@@ -114,9 +125,11 @@ runs-course h wrong es old new t a turned is went answer = record {
 -- memory is refused on the way
 pub runs-cut : (h : Handed) (wrong : Option Cause) (old new : JournalView) (s : State) (e : NoMemory)
     (r : Result TaskAnswer NoMemory) → IsTurnedTo h old → wrong ≡ None → begins h.task.verb ≡ s
-    → EndsAs (course_for h [] None) (command_for h) old new s (Err e) → IsErr r → RunsWithoutRow h wrong old new (answered r)
+    → EndsAs (course_for h [] None) (command_for h) old new s (Err e) → IsErr r
+    → RunsWithoutRow h wrong old new (answered r)
 runs-cut h wrong old new s e (Err f) turned is begun ends err =
-    runs-course h wrong ends.0 old new ends.1 answers.OutOfMemory turned is (from-begin h ends.0 None old new s ends.1 begun ends.2) tt
+    runs-course h wrong ends.0 old new ends.1 answers.OutOfMemory turned is
+    (from-begin h ends.0 None old new s ends.1 begun ends.2) tt
 runs-cut h wrong old new s e (Ok a) turned is begun ends err = cc
 
 -- the task's stop is reached where a part is stopped
@@ -134,12 +147,14 @@ runs-ends h wrong old new s (parts.Over ending) (Ok a) turned is begun plain end
     let co = course_for h [] None in
     let es = ends.0 in
     let t = ends.1 in
-    let over : IsOver (state_from co old.made s (replies es)) ending = subst (λ u. IsOver u ending) (sym ends.2.state) ends.3 in
+    let over : IsOver (state_from co old.made s (replies es)) ending =
+    subst (λ u. IsOver u ending) (sym ends.2.state) ends.3 in
     let end = goes-ends false co old.made s (replies es) ending plain over in
     runs-course h wrong es old new t a turned is (from-begin h es None old new s t begun ends.2)
     (subst (IsAnswerAt h es None t) (sym answer) (answer-plain h es t ending end ends.3))
 runs-ends h wrong old new s (parts.Over ending) (Err e) turned is begun plain ends answer =
-    runs-course h wrong ends.0 old new ends.1 answers.OutOfMemory turned is (from-begin h ends.0 None old new s ends.1 begun ends.2) tt
+    runs-course h wrong ends.0 old new ends.1 answers.OutOfMemory turned is
+    (from-begin h ends.0 None old new s ends.1 begun ends.2) tt
 runs-ends h wrong old new s parts.Stopped (Ok a) turned is begun plain ends answer =
     let co = course_for h [] None in
     let c = command_for h in
@@ -151,4 +166,5 @@ runs-ends h wrong old new s parts.Stopped (Ok a) turned is begun plain ends answ
     runs-course h wrong es old new t a turned is (from-begin h es None old new s t begun ends.2)
     (subst (IsAnswerAt h es None t) (sym answer.1) (ends.3.0, stop, all))
 runs-ends h wrong old new s parts.Stopped (Err e) turned is begun plain ends answer =
-    runs-course h wrong ends.0 old new ends.1 answers.OutOfMemory turned is (from-begin h ends.0 None old new s ends.1 begun ends.2) tt
+    runs-course h wrong ends.0 old new ends.1 answers.OutOfMemory turned is
+    (from-begin h ends.0 None old new s ends.1 begun ends.2) tt

@@ -51,7 +51,8 @@ ensured : (host : Host) (name : List ℕ) (o : Option Link) (mtu : ℕ) (promisc
     → find (is_host_link name) host.links ≡ o → (bridge_or_new host o (new_bridge name mtu promisc)).1 ≡ Done
     → has_host_bridge (bridge_or_new host o (new_bridge name mtu promisc)).0 name ≡ true
 ensured host name None mtu promisc found done =
-    list_any-append_right (is_host_bridge name) host.links (new_bridge name mtu promisc ∷ []) (grind (arith, nat_list_eq_equiv.refl name))
+    list_any-append_right (is_host_bridge name) host.links (new_bridge name mtu promisc ∷ [])
+    (grind (arith, nat_list_eq_equiv.refl name))
 ensured host name (Some link) mtu promisc found done =
     let there : is_host_link name link ≡ true = passes-find (is_host_link name) host.links link found in
     let bridge : is_bridge link.kind ≡ true = done-bridge (is_bridge link.kind) link.tag done in
@@ -65,14 +66,16 @@ ensured-made : (bridge : Option (List ℕ)) (host : Host) (call : Call) → ensu
     → (apply host call).1 ≡ Done → master_is_bridge_or_none (apply host call).0 bridge ≡ true
 ensured-made None host call is done = refl
 ensured-made (Some bridge) host (BridgeEnsure name mtu promisc) is done =
-    in-bridge bridge name (apply host (BridgeEnsure name mtu promisc)).0 is (ensured host name (find (is_host_link name) host.links) mtu promisc refl done)
+    in-bridge bridge name (apply host (BridgeEnsure name mtu promisc)).0 is
+    (ensured host name (find (is_host_link name) host.links) mtu promisc refl done)
 ensured-made (Some bridge) host _ is done = cc
 
 ensured-entered : (first : First) (k : Host) (n : ℕ) (call : Call) (faulty : Bool)
     → ensures_bridge (bridge_of first) call ≡ true → reply_to k call faulty ≡ Done
     → BridgeIn first (after_entry k (entry_of k n call faulty))
 ensured-entered first k n call true is done = cc
-ensured-entered first k n call false is done = subst (BridgeIn first) (sym (host-made k n call)) (ensured-made (bridge_of first) k call is done)
+ensured-entered first k n call false is done =
+    subst (BridgeIn first) (sym (host-made k n call)) (ensured-made (bridge_of first) k call is done)
 
 -- the calls before the leases ensure it first
 to-come : (bridge : Option (List ℕ)) (calls : List Call) (host : Host) → is_ensured bridge calls ≡ true
@@ -82,7 +85,8 @@ to-come (Some bridge) calls host h = inl h
 
 comes-before : (first : First) (att : Att) (netns : List ℕ) (host : Host)
     → BridgeComes first (calls_before first att netns) host
-comes-before first att netns host = to-come (bridge_of first) (calls_before first att netns) host ((first_laws first).before att netns).ensured
+comes-before first att netns host =
+    to-come (bridge_of first) (calls_before first att netns) host ((first_laws first).before att netns).ensured
 
 -- ---- one entry
 
@@ -98,7 +102,8 @@ to-leasing list c (x ∷ xs) given host h = h
 
 to-before_leases : (list : NetList) (c : Command) (left : List Call) (host : Host) → BridgeComes list.first left host
     → HasBridge list (before_leases list c left) host
-to-before_leases list c [] host h = elim h [ inl none ↦ cc | inr there ↦ to-leasing list c (sets_of list) [] host there ]
+to-before_leases list c [] host h =
+    elim h [ inl none ↦ cc | inr there ↦ to-leasing list c (sets_of list) [] host there ]
 to-before_leases list c (x ∷ xs) host h = h
 
 to-deleting : (list : NetList) (ks : List Kind) (ending : Ending) (host : Host)
@@ -123,25 +128,34 @@ comes-done first k n x xs faulty stays (inl left) done = elim (cases_Bool (ensur
 ]
 
 bridge-aside : (list : NetList) (st : State) (host : Host) → IsAside st → HasBridge list st host
-bridge-aside list st host = by-aside (λ x. HasBridge list x host) tt (λ next left. tt) (λ change. tt) (λ work faults. tt) (λ ending given none. tt) st
+bridge-aside list st host =
+    by-aside (λ x. HasBridge list x host) tt (λ next left. tt) (λ change. tt) (λ work faults. tt)
+    (λ ending given none. tt) st
 
-bridge-advance : (list : NetList) (c : Command) (number : ℕ) (st : State) (k : Host) (n : ℕ) (call : Call) (faulty : Bool)
+bridge-advance : (list : NetList) (c : Command) (number : ℕ) (st : State) (k : Host) (n : ℕ)
+    (call : Call) (faulty : Bool)
     → turn c st ≡ Calls call → (BridgeIn list.first k → BridgeIn list.first (after_entry k (entry_of k n call faulty)))
     → HasBridge list st k
     → HasBridge list (advance list c number st (reply_to k call faulty)) (after_entry k (entry_of k n call faulty))
 unfolding turn advance
 bridge-advance list c number AtBegin k n call faulty is stays was =
     let host = after_entry k (entry_of k n call faulty) in
-    by-begin (λ st. HasBridge list st host) list c number _ (λ cause. tt) (to-before_leases list c (before_of list c) host (comes-before list.first (att_of c) c.netns host))
+    by-begin (λ st. HasBridge list st host) list c number _ (λ cause. tt)
+    (to-before_leases list c (before_of list c) host (comes-before list.first (att_of c) c.netns host))
 bridge-advance list c number (BeforeLeases x xs) k n call faulty is stays was =
     bridge-before list c number xs _ (after_entry k (entry_of k n call faulty))
-    (λ done. let e : call ≡ x = cc in comes-done list.first k n call xs faulty stays (subst (λ j. BridgeComes list.first (j ∷ xs) k) (sym e) was) done)
+    (λ done.
+    let e : call ≡ x = cc in
+    comes-done list.first k n call xs faulty stays
+    (subst (λ j. BridgeComes list.first (j ∷ xs) k) (sym e) was) done)
 bridge-advance list c number (Leasing set sets given) k n call faulty is stays was =
     let host = after_entry k (entry_of k n call faulty) in
-    by-lease (λ st. HasBridge list st host) list c number sets given _ (λ cause. tt) (λ addr. to-leasing list c sets (given ++ addr ∷ []) host (stays was))
+    by-lease (λ st. HasBridge list st host) list c number sets given _ (λ cause. tt)
+    (λ addr. to-leasing list c sets (given ++ addr ∷ []) host (stays was))
 bridge-advance list c number (AfterLeases x xs given) k n call faulty is stays was =
     let host = after_entry k (entry_of k n call faulty) in
-    by-call_after (λ st. HasBridge list st host) number xs given _ (λ cause. tt) (to-after_leases list xs given host (stays was))
+    by-call_after (λ st. HasBridge list st host) number xs given _ (λ cause. tt)
+    (to-after_leases list xs given host (stays was))
 bridge-advance list c number (ReadingCache ending) k n call faulty is stays was =
     let host = after_entry k (entry_of k n call faulty) in
     by-cache (λ st. HasBridge list st host) list number ending _ tt (to-deleting list (kinds_of list) ending host)
@@ -151,27 +165,33 @@ bridge-advance list c number (Deleting kind ks ending) k n call faulty is stays 
 bridge-advance list c number (Over ending given) k n call faulty is stays was = cc
 bridge-advance list c number st k n call faulty is stays was =
     let r = reply_to k call faulty in
-    bridge-aside list (advance list c number st r) (after_entry k (entry_of k n call faulty)) (aside-advance list c number st r tt)
+    bridge-aside list (advance list c number st r) (after_entry k (entry_of k n call faulty))
+    (aside-advance list c number st r tt)
 
 -- ---- every history
 
 bridge-stands : (list : NetList) (st : State) (old new : Host) → (BridgeIn list.first old → BridgeIn list.first new)
     → HasBridge list st old → HasBridge list st new
 bridge-stands list AtBegin old new stays was = tt
-bridge-stands list (BeforeLeases x xs) old new stays was = elim was [ inl left ↦ inl left | inr there ↦ inr (stays there) ]
+bridge-stands list (BeforeLeases x xs) old new stays was =
+    elim was [ inl left ↦ inl left | inr there ↦ inr (stays there) ]
 bridge-stands list (Leasing set sets given) old new stays was = stays was
 bridge-stands list (AfterLeases x xs given) old new stays was = stays was
 bridge-stands list _ old new stays was = tt
 
 -- the bridge of each run that isn't answered
 abbrev RunBridge : OpenFact
-RunBridge p h m d = (list : NetList) → list_for p d.command ≡ Some list → HasBridge list (state_by list d.command (own_entries m h)) (after p.pods.opening h)
+RunBridge p h m d =
+    (list : NetList) → list_for p d.command ≡ Some list
+    → HasBridge list (state_by list d.command (own_entries m h)) (after p.pods.opening h)
 
 -- a run that has made no call
 bridge-begun : (p : Plan) (h : List Entry) (m : ℕ) (d : Placed) → replies_of m h ≡ [] → RunBridge p h m d
 bridge-begun p h m d none = λ list listed.
     let no_entry : own_entries m h ≡ [] = no-entries (own_entries m h) none in
-    subst (λ es. HasBridge list (state_by list d.command es) (after p.pods.opening h)) (sym no_entry) (by-start (λ st. HasBridge list st (after p.pods.opening h)) list d.command d.command.verb (λ st aside. bridge-aside list st (after p.pods.opening h) aside) tt tt)
+    subst (λ es. HasBridge list (state_by list d.command es) (after p.pods.opening h)) (sym no_entry)
+    (by-start (λ st. HasBridge list st (after p.pods.opening h)) list d.command d.command.verb
+    (λ st aside. bridge-aside list st (after p.pods.opening h) aside) tt tt)
 
 bridge-own : (w : World) (n m : ℕ) (c d : Placed) (list : NetList) (call : Call) (faulty : Bool)
     → GoesOn w n c list call faulty → m ≡ n → slice_get (commands_of w.plan) m ≡ Some d → AllOpen RunBridge w
@@ -182,12 +202,16 @@ bridge-own w n m c d list call faulty on here at was = λ other listed.
     let e = entry_of k n call faulty in
     let es = own_entries n h in
     let now =
-    bridge-advance list c.command (length es + 1) (state_by list c.command es) k n call faulty (own-state w n c list call faulty on).turn_is (bridge-entered list.first w n c list call faulty on)
+    bridge-advance list c.command (length es + 1) (state_by list c.command es) k n call faulty
+    (own-state w n c list call faulty on).turn_is (bridge-entered list.first w n c list call faulty on)
     (was n c on.ready.there on.ready.unanswered list on.listed) in
-    let Q : ℕ → Placed → NetList → Type 0 = λ j x l. HasBridge l (state_by l x.command (own_entries j (h ++ e ∷ []))) (after w.plan.pods.opening (h ++ e ∷ [])) in
+    let Q : ℕ → Placed → NetList → Type 0 = λ j x l.
+    HasBridge l (state_by l x.command (own_entries j (h ++ e ∷ []))) (after w.plan.pods.opening (h ++ e ∷ [])) in
     let mine : Q n c list =
-    subst (λ j. HasBridge list (state_by list c.command (own_entries n (h ++ e ∷ []))) j) (sym (after-append w.plan.pods.opening h e))
-    (subst (λ l. HasBridge list (state_by list c.command l) (after_entry k e)) (sym (own_entries-own n h e (is_of-own n e refl)))
+    subst (λ j. HasBridge list (state_by list c.command (own_entries n (h ++ e ∷ []))) j)
+    (sym (after-append w.plan.pods.opening h e))
+    (subst (λ l. HasBridge list (state_by list c.command l) (after_entry k e))
+    (sym (own_entries-own n h e (is_of-own n e refl)))
     (subst (λ st. HasBridge list st (after_entry k e)) (sym (state_by-append list c.command es e)) now)) in
     at_its_place w n c list call faulty on Q m d other here at listed mine
 
@@ -199,14 +223,18 @@ bridge-other w n m c d list call faulty on differs was = λ other listed.
     let k = host_of w in
     let e = entry_of k n call faulty in
     let far : is_of m e ≡ false = apart-entry w n m call faulty differs in
-    subst (λ l. HasBridge other (state_by other d.command l) (after w.plan.pods.opening (h ++ e ∷ []))) (sym (own_entries-other m h e far))
-    (subst (HasBridge other (state_by other d.command (own_entries m h))) (sym (after-append w.plan.pods.opening h e))
-    (bridge-stands other (state_by other d.command (own_entries m h)) k (after_entry k e) (bridge-entered other.first w n c list call faulty on) (was other listed)))
+    subst (λ l. HasBridge other (state_by other d.command l) (after w.plan.pods.opening (h ++ e ∷ [])))
+    (sym (own_entries-other m h e far))
+    (subst (HasBridge other (state_by other d.command (own_entries m h)))
+    (sym (after-append w.plan.pods.opening h e))
+    (bridge-stands other (state_by other d.command (own_entries m h)) k (after_entry k e)
+    (bridge-entered other.first w n c list call faulty on) (was other listed)))
 
 -- a command with a list has no entry from outside
 bridge-unlisted : (w : World) (n m : ℕ) (c d : Placed) (call : Call) (faulty : Bool) → Changes w n c call faulty → m ≡ n
     → slice_get (commands_of w.plan) m ≡ Some d → (h : List Entry) → RunBridge w.plan h m d
-bridge-unlisted w n m c d call faulty on here at h = λ list listed. absurd (no_list_there w n c call faulty on m d list here at listed)
+bridge-unlisted w n m c d call faulty on here at h = λ list listed.
+    absurd (no_list_there w n c call faulty on m d list here at listed)
 
 bridge-kept : IsOpenKept RunBridge
 bridge-kept w n c call faulty goes was = λ m d at is_open.
@@ -220,7 +248,8 @@ bridge-kept w n c call faulty goes was = λ m d at is_open.
         | inl on ↦ bridge-other w n m c d on.0 call faulty on.1 f.1 (was m d at is_open)
         | inr on ↦
             let far : e.command ≢ m + 1 = other_number e n m refl f.1 in
-            bridge-begun w.plan (w.history ++ e ∷ []) m d (replies_of-other m w.history e far ∙ alone-outside w n m c d call faulty on f.1 at is_open)
+            bridge-begun w.plan (w.history ++ e ∷ []) m d
+            (replies_of-other m w.history e far ∙ alone-outside w n m c d call faulty on f.1 at is_open)
       ]
     ]
 

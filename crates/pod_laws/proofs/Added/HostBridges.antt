@@ -28,7 +28,10 @@ bridge-unowned : (p : Link → Bool) → PassesBridges p → (l : Link) (t : Tag
     → (p l && not (not (is_owned t))) ≡ false
 bridge-unowned p bridges l tags.Outside h = and-false (p l)
 bridge-unowned p bridges l tags.Base h = and-false (p l)
-bridge-unowned p bridges l (tags.Own att) h = and-true (p l) ∙ false_from_ne_true (p l) (λ passes. both_ways (is_bridge l.kind) (owned_no_bridge l.ns l.kind h) (bridges l passes))
+bridge-unowned p bridges l (tags.Own att) h =
+    and-true (p l)
+    ∙ false_from_ne_true (p l)
+    (λ passes. both_ways (is_bridge l.kind) (owned_no_bridge l.ns l.kind h) (bridges l passes))
 
 stays-unshared : (p : Link → Bool) → PassesBridges p → (host : Host) (call : Call) → IsSound host → IsAllowed host call
     → is_from_outside call ≡ false → ensures_shared call ≡ false → list_any p host.links ≡ true
@@ -37,7 +40,8 @@ stays-unshared p bridges host call sound allowed inside own there =
     let new = (apply host call).0 in
     let keeps = KeepsUnowned-Touches call host new inside own (Touches-apply host call sound allowed) in
     let none : list_any (λ l. p l && not (not (is_owned l.tag))) host.links ≡ false =
-    none-by (λ l. link_fits_tag l l.tag) (λ l. p l && not (not (is_owned l.tag))) (λ l h. bridge-unowned p bridges l l.tag h) host.links sound.links.tags in
+    none-by (λ l. link_fits_tag l l.tag) (λ l. p l && not (not (is_owned l.tag)))
+    (λ l h. bridge-unowned p bridges l l.tag h) host.links sound.links.tags in
     let kept = list_any-kept p (λ l. not (is_owned l.tag)) host.links there none in
     any-filtered p (λ l. not (is_owned l.tag)) new.links (ap (list_any p) keeps.links ∙ kept)
 
@@ -56,14 +60,16 @@ bridge-stays p bridges host (BridgeEnsure bridge mtu promisc) sound allowed insi
 bridge-stays p bridges host (GatewayEnsure bridge cidr) sound allowed inside there =
     elim (Touches-apply host (GatewayEnsure bridge cidr) sound allowed) [
       | inl e ↦ same-links p host (apply host (GatewayEnsure bridge cidr)).0 (ap (λ (k : Host). k.links) e) there
-      | inr more ↦ same-links p host (apply host (GatewayEnsure bridge cidr)).0 (ap (λ (k : Host). k.links) more.2) there
+      | inr more ↦
+          same-links p host (apply host (GatewayEnsure bridge cidr)).0 (ap (λ (k : Host). k.links) more.2) there
     ]
 bridge-stays p bridges host (ForwardEnsure family) sound allowed inside there =
     elim (Touches-apply host (ForwardEnsure family) sound allowed) [
       | inl e ↦ same-links p host (apply host (ForwardEnsure family)).0 (ap (λ (k : Host). k.links) e) there
       | inr more ↦ same-links p host (apply host (ForwardEnsure family)).0 (ap (λ (k : Host). k.links) more.2) there
     ]
-bridge-stays p bridges host call sound allowed inside there = stays-unshared p bridges host call sound allowed inside refl there
+bridge-stays p bridges host call sound allowed inside there =
+    stays-unshared p bridges host call sound allowed inside refl there
 
 -- a call of one attachment doesn't come from outside
 pub call-inside : (att : Att) (call : Call) → is_call_of att call ≡ true → is_from_outside call ≡ false
@@ -81,7 +87,8 @@ bridge-in-stays : (o : Option (List ℕ)) (host : Host) (call : Call) → IsSoun
     → is_from_outside call ≡ false → master_is_bridge_or_none host o ≡ true
     → master_is_bridge_or_none (apply host call).0 o ≡ true
 bridge-in-stays None host call sound allowed inside there = refl
-bridge-in-stays (Some name) host call sound allowed inside there = bridge-stays (is_host_bridge name) (passes-host_bridges name) host call sound allowed inside there
+bridge-in-stays (Some name) host call sound allowed inside there =
+    bridge-stays (is_host_bridge name) (passes-host_bridges name) host call sound allowed inside there
 
 -- so is a call that only asks
 question-inside : (call : Call) → is_question call ≡ true → is_from_outside call ≡ false
@@ -100,11 +107,13 @@ deletion-inside att kinds.Cached = refl
 pub turn-inside : (c : Command) (call : Call) → IsTurnOf c call → is_from_outside call ≡ false
 turn-inside c call (inl own) = call-inside (att_of c) call own
 turn-inside c call (inr (inl asked)) = question-inside call asked
-turn-inside c call (inr (inr collected)) = ap is_from_outside (sym collected.deletes) ∙ deletion-inside collected.att collected.kind
+turn-inside c call (inr (inr collected)) =
+    ap is_from_outside (sym collected.deletes) ∙ deletion-inside collected.att collected.kind
 
 pub bridge-entered : (first : First) (w : World) (n : ℕ) (c : Placed) (list : NetList) (call : Call) (faulty : Bool)
     → GoesOn w n c list call faulty → BridgeIn first (host_of w)
     → BridgeIn first (after_entry (host_of w) (entry_of (host_of w) n call faulty))
 bridge-entered first w n c list call faulty on there =
     on-entry (BridgeIn first) (host_of w) n call faulty there
-    (λ f. bridge-in-stays (bridge_of first) (host_of w) call (sound_host w on.legal) (on.allowed f) (turn-inside c.command call (turn-of w n c list call faulty on)) there)
+    (λ f. bridge-in-stays (bridge_of first) (host_of w) call (sound_host w on.legal) (on.allowed f)
+    (turn-inside c.command call (turn-of w n c list call faulty on)) there)

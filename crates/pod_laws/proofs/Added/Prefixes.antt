@@ -55,7 +55,9 @@ among-drops p gone all (x ∷ old) [] d h = tt
 among-drops p gone all (x ∷ old) (y ∷ new) d h =
     let parts = among-if (p x) x (filter p old) all h in
     elim d [
-      | inl same ↦ if-among (p y) y (filter p new) all (λ t. subst (λ z. IsAmong z all) same.0 (parts.0 (ap p same.0 ∙ t))) (among-drops p gone all old new same.1 parts.1)
+      | inl same ↦
+          if-among (p y) y (filter p new) all (λ t. subst (λ z. IsAmong z all) same.0 (parts.0 (ap p same.0 ∙ t)))
+          (among-drops p gone all old new same.1 parts.1)
       | inr drop ↦ among-drops p gone all old (y ∷ new) drop.1 parts.1
     ]
 
@@ -71,7 +73,14 @@ pub record IsPrefix (s t : Share) : Type 0 where
   pub cached : GrowsAtEnd s.cached t.cached
 
 prefix-same : (s : Share) → IsPrefix s s
-prefix-same s = record { addresses = grows-same s.addresses; routes = grows-same s.routes; rules = grows-same s.rules; settings = grows-same s.settings; leases = grows-same s.leases; cached = grows-same s.cached }
+prefix-same s = record {
+  addresses = grows-same s.addresses;
+  routes = grows-same s.routes;
+  rules = grows-same s.rules;
+  settings = grows-same s.settings;
+  leases = grows-same s.leases;
+  cached = grows-same s.cached;
+}
 
 prefix-on : (s t u : Share) → IsPrefix s t → IsPrefix t u → IsPrefix s u
 prefix-on s t u h g = record {
@@ -84,22 +93,67 @@ prefix-on s t u h g = record {
 }
 
 prefix-call : (s : Share) (call : Call) → IsPrefix s (share_after_call s call)
-prefix-call s (AddrAdd obj) = record { addresses = grows-more s.addresses (obj ∷ []); routes = grows-same s.routes; rules = grows-same s.rules; settings = grows-same s.settings; leases = grows-same s.leases; cached = grows-same s.cached }
-prefix-call s (RouteAdd obj) = record { addresses = grows-same s.addresses; routes = grows-more s.routes (obj ∷ []); rules = grows-same s.rules; settings = grows-same s.settings; leases = grows-same s.leases; cached = grows-same s.cached }
-prefix-call s (RuleAppend obj) = record { addresses = grows-same s.addresses; routes = grows-same s.routes; rules = grows-more s.rules (obj ∷ []); settings = grows-same s.settings; leases = grows-same s.leases; cached = grows-same s.cached }
-prefix-call s (SettingSet obj) = record { addresses = grows-same s.addresses; routes = grows-same s.routes; rules = grows-same s.rules; settings = grows-more s.settings (obj ∷ []); leases = grows-same s.leases; cached = grows-same s.cached }
+prefix-call s (AddrAdd obj) = record {
+  addresses = grows-more s.addresses (obj ∷ []);
+  routes = grows-same s.routes;
+  rules = grows-same s.rules;
+  settings = grows-same s.settings;
+  leases = grows-same s.leases;
+  cached = grows-same s.cached;
+}
+prefix-call s (RouteAdd obj) = record {
+  addresses = grows-same s.addresses;
+  routes = grows-more s.routes (obj ∷ []);
+  rules = grows-same s.rules;
+  settings = grows-same s.settings;
+  leases = grows-same s.leases;
+  cached = grows-same s.cached;
+}
+prefix-call s (RuleAppend obj) = record {
+  addresses = grows-same s.addresses;
+  routes = grows-same s.routes;
+  rules = grows-more s.rules (obj ∷ []);
+  settings = grows-same s.settings;
+  leases = grows-same s.leases;
+  cached = grows-same s.cached;
+}
+prefix-call s (SettingSet obj) = record {
+  addresses = grows-same s.addresses;
+  routes = grows-same s.routes;
+  rules = grows-same s.rules;
+  settings = grows-more s.settings (obj ∷ []);
+  leases = grows-same s.leases;
+  cached = grows-same s.cached;
+}
 prefix-call s (CachePut att cached) =
-    record { addresses = grows-same s.addresses; routes = grows-same s.routes; rules = grows-same s.rules; settings = grows-same s.settings; leases = grows-same s.leases; cached = grows-more s.cached (record { cached = cached; tag = Own att } ∷ []) }
-prefix-call s _ = record { addresses = grows-same s.addresses; routes = grows-same s.routes; rules = grows-same s.rules; settings = grows-same s.settings; leases = grows-same s.leases; cached = grows-same s.cached }
+    record {
+      addresses = grows-same s.addresses;
+      routes = grows-same s.routes;
+      rules = grows-same s.rules;
+      settings = grows-same s.settings;
+      leases = grows-same s.leases;
+      cached = grows-more s.cached (record { cached = cached; tag = Own att } ∷ []);
+    }
+prefix-call s _ = record {
+  addresses = grows-same s.addresses;
+  routes = grows-same s.routes;
+  rules = grows-same s.rules;
+  settings = grows-same s.settings;
+  leases = grows-same s.leases;
+  cached = grows-same s.cached;
+}
 
 prefix-calls : (s : Share) (calls : List Call) → IsPrefix s (share_after_calls s calls)
 prefix-calls s [] = prefix-same s
-prefix-calls s (c ∷ cs) = prefix-on s (share_after_call s c) (share_after_calls (share_after_call s c) cs) (prefix-call s c) (prefix-calls (share_after_call s c) cs)
+prefix-calls s (c ∷ cs) =
+    prefix-on s (share_after_call s c) (share_after_calls (share_after_call s c) cs) (prefix-call s c)
+    (prefix-calls (share_after_call s c) cs)
 
 prefix-part : (s t : Share) (all made left : List Call) → all ≡ made ++ left → share_after_calls s all ≡ t
     → IsPrefix (share_after_calls s made) t
 prefix-part s t all made left is makes =
-    let whole : share_after_calls (share_after_calls s made) left ≡ t = sym (share_after_calls-append s made left) ∙ ap (share_after_calls s) (sym is) ∙ makes in
+    let whole : share_after_calls (share_after_calls s made) left ≡ t =
+    sym (share_after_calls-append s made left) ∙ ap (share_after_calls s) (sym is) ∙ makes in
     subst (IsPrefix (share_after_calls s made)) whole (prefix-calls (share_after_calls s made) left)
 
 -- nothing is cached before the last lease
@@ -111,7 +165,9 @@ front-none (x ∷ xs) ys e = cc
 pub none_cached-before : (list : NetList) (c : Command) (made left : List Call) → before_of list c ≡ made ++ left
     → (share_after_calls no_objects made).cached ≡ []
 none_cached-before list c made left part =
-    let front = (prefix-part no_objects (record no_objects { links = links_made list (att_of c) c.netns }) (before_of list c) made left part (adds-links list.first (att_of c) c.netns no_objects)).cached in
+    let front =
+    (prefix-part no_objects (record no_objects { links = links_made list (att_of c) c.netns }) (before_of list c)
+    made left part (adds-links list.first (att_of c) c.netns no_objects)).cached in
     front-none (share_after_calls no_objects made).cached front.0 front.1
 
 -- ---- links
@@ -163,10 +219,18 @@ pub asked-after_leases : (list : NetList) (c : Command) (given : List Addr) (mad
     → back_of list c given ≡ made ++ left → AreAskedFor list c given (share_after_calls (with_leases list c given) made)
 asked-after_leases list c given made left part =
     let s = share_after_calls (with_leases list c given) made in
-    let links : s.links ≡ links_after_part list c made = links-calls (with_leases list c given) (record no_objects { links = links_made list (att_of c) c.netns }) made (links_made-leased list c given) in
+    let links : s.links ≡ links_after_part list c made =
+    links-calls (with_leases list c given) (record no_objects { links = links_made list (att_of c) c.netns }) made
+    (links_made-leased list c given) in
     asked-prefix list c given s
-    (record { made = made; left = left; part = part; among = among-prefix (links_after_part list c made) s.links ([], sym links ∙ sym (append-nil s.links), tt) })
-    (prefix-part (with_leases list c given) (wanted_by list c given) (back_of list c given) made left part (makes-wanted list (att_of c) c.netns (mappings_of list c) given))
+    (record {
+      made = made;
+      left = left;
+      part = part;
+      among = among-prefix (links_after_part list c made) s.links ([], sym links ∙ sym (append-nil s.links), tt);
+    })
+    (prefix-part (with_leases list c given) (wanted_by list c given) (back_of list c given) made left part
+    (makes-wanted list (att_of c) c.netns (mappings_of list c) given))
 
 -- while they are leased
 pub asked-leasing : (list : NetList) (c : Command) (given : List Addr)
@@ -180,7 +244,8 @@ links-appended_all : (s : Share) (calls : List Call) → list_all appends_links 
 links-appended_all s [] h = grows-same s.links
 links-appended_all s (x ∷ xs) h =
     let both = and_parts (appends_links x) (list_all appends_links xs) h in
-    grows-on s.links (share_after_call s x).links (share_after_calls (share_after_call s x) xs).links (links-appended s x both.0) (links-appended_all (share_after_call s x) xs both.1)
+    grows-on s.links (share_after_call s x).links (share_after_calls (share_after_call s x) xs).links
+    (links-appended s x both.0) (links-appended_all (share_after_call s x) xs both.1)
 
 interface-appends : (bridge : Option (List ℕ)) (call : Call) → makes_interface bridge call ≡ true
     → appends_links call ≡ true
@@ -189,32 +254,57 @@ interface-appends bridge _ h = refl
 
 before-appends : (first : First) (att : Att) (netns : List ℕ)
     → list_all appends_links (calls_before first att netns) ≡ true
-before-appends first att netns = list_all-weaker (makes_interface (bridge_of first)) appends_links (interface-appends (bridge_of first)) (calls_before first att netns) ((first_laws first).before att netns).make_interface
+before-appends first att netns =
+    list_all-weaker (makes_interface (bridge_of first)) appends_links (interface-appends (bridge_of first))
+    (calls_before first att netns) ((first_laws first).before att netns).make_interface
 
 pub asked-before_leases : (list : NetList) (c : Command) (made left : List Call) → before_of list c ≡ made ++ left
     → AreAskedFor list c [] (share_after_calls no_objects made)
 asked-before_leases list c made left part =
     let s = share_after_calls no_objects made in
-    let all : list_all appends_links (made ++ left) ≡ true = ap (list_all appends_links) (sym part) ∙ before-appends list.first (att_of c) c.netns in
-    let appends : list_all appends_links left ≡ true = (and_parts (list_all appends_links made) (list_all appends_links left) (sym (list_all-append appends_links made left) ∙ all)).1 in
-    let whole : share_after_calls s left ≡ record no_objects { links = links_made list (att_of c) c.netns } = sym (share_after_calls-append no_objects made left) ∙ ap (share_after_calls no_objects) (sym part) ∙ adds-links list.first (att_of c) c.netns no_objects in
-    let links : GrowsAtEnd s.links (links_made list (att_of c) c.netns) = subst (λ (t : Share). GrowsAtEnd s.links t.links) whole (links-appended_all s left appends) in
+    let all : list_all appends_links (made ++ left) ≡ true =
+    ap (list_all appends_links) (sym part) ∙ before-appends list.first (att_of c) c.netns in
+    let appends : list_all appends_links left ≡ true =
+    (and_parts (list_all appends_links made) (list_all appends_links left)
+    (sym (list_all-append appends_links made left) ∙ all)).1 in
+    let whole : share_after_calls s left ≡ record no_objects { links = links_made list (att_of c) c.netns } =
+    sym (share_after_calls-append no_objects made left)
+    ∙ ap (share_after_calls no_objects) (sym part)
+    ∙ adds-links list.first (att_of c) c.netns no_objects in
+    let links : GrowsAtEnd s.links (links_made list (att_of c) c.netns) =
+    subst (λ (t : Share). GrowsAtEnd s.links t.links) whole (links-appended_all s left appends) in
     asked-prefix list c [] s
-    (record { made = []; left = back_of list c []; part = refl; among = among-prefix (links_made list (att_of c) c.netns) s.links links })
+    (record {
+      made = [];
+      left = back_of list c [];
+      part = refl;
+      among = among-prefix (links_made list (att_of c) c.netns) s.links links;
+    })
     (prefix-on s (with_leases list c []) (wanted_by list c [])
-    (prefix-part no_objects (with_leases list c []) (before_of list c) made left part (no_leases list.first (att_of c) c.netns))
-    (prefix-part (with_leases list c []) (wanted_by list c []) (back_of list c []) [] (back_of list c []) refl (makes-wanted list (att_of c) c.netns (mappings_of list c) [])))
+    (prefix-part no_objects (with_leases list c []) (before_of list c) made left part
+    (no_leases list.first (att_of c) c.netns))
+    (prefix-part (with_leases list c []) (wanted_by list c []) (back_of list c []) [] (back_of list c []) refl
+    (makes-wanted list (att_of c) c.netns (mappings_of list c) [])))
 
 -- ---- what a removal leaves
 
 pub asked-removes : (list : NetList) (c : Command) (given : List Addr) (att : Att) (old new : Host)
     → OnlyRemoves old new → AreAskedFor list c given (share_of att old) → AreAskedFor list c given (share_of att new)
 asked-removes list c given att old new d a = record {
-  links = record { made = a.links.made; left = a.links.left; part = a.links.part; among = among-drops (λ l. is_own att l.tag) (λ l. true) (links_after_part list c a.links.made) old.links new.links d.links a.links.among };
+  links = record {
+    made = a.links.made;
+    left = a.links.left;
+    part = a.links.part;
+    among =
+        among-drops (λ l. is_own att l.tag) (λ l. true) (links_after_part list c a.links.made) old.links new.links
+        d.links a.links.among;
+  };
   addresses = part-left (λ l. is_own att l.tag) (λ l. true) _ old.addresses new.addresses d.addresses a.addresses;
   routes = part-left (λ l. is_own att l.tag) (λ l. true) _ old.routes new.routes d.routes a.routes;
   rules = part-left (λ l. is_own att l.tag) (λ l. true) _ old.rules new.rules d.rules a.rules;
   settings = part-left (λ l. is_own att l.tag) (λ l. true) _ old.settings new.settings d.settings a.settings;
   leases = part-left (λ l. is_own att l.tag) (λ l. true) _ old.leases new.leases d.leases a.leases;
-  cached = part-left (λ l. is_own att l.tag) (λ l. true) (wanted_by list c given).cached old.cached new.cached d.cached a.cached;
+  cached =
+      part-left (λ l. is_own att l.tag) (λ l. true) (wanted_by list c given).cached old.cached new.cached
+      d.cached a.cached;
 }

@@ -8,10 +8,11 @@ not-collecting : (v : Verb) → leaves_others v ≡ true → v ≡ verbs.Gc → 
 not-collecting v leaves gc = let e : true ≡ false = sym leaves ∙ ap leaves_others gc in cc
 
 leaves-now : DoesByVerb (λ v. leaves_others v ≡ true) LeavesOthers
-leaves-now w n c list call faulty on leaves = λ other apart. elim (other-entered w n c list call faulty other on apart) [
-  | inl gc ↦ absurd (not-collecting c.command.verb leaves gc)
-  | inr kept ↦ kept
-]
+leaves-now w n c list call faulty on leaves = λ other apart.
+    elim (other-entered w n c list call faulty other on apart) [
+      | inl gc ↦ absurd (not-collecting c.command.verb leaves gc)
+      | inr kept ↦ kept
+    ]
 
 of-network : (v : Verb) → leaves_others v ≡ true → is_of_network v ≡ true
 of-network v leaves = (and_parts (is_of_network v) (not (is_gc v)) leaves).0

@@ -25,12 +25,16 @@ within-list p q w old new e = sym (filter-within p q w new) ∙ ap (filter p) e 
 keeps-within : (test : Tag → Bool) (old new : Host) → ((t : Tag) → test t ≡ true → not (is_owned t) ≡ true)
     → KeepsUnowned old new → KeepsWhere test old new
 keeps-within test old new w k = record {
-  namespaces = within-list (λ x. test x.tag) (λ x. not (is_owned x.tag)) (λ x. w x.tag) old.namespaces new.namespaces k.namespaces;
+  namespaces =
+      within-list (λ x. test x.tag) (λ x. not (is_owned x.tag)) (λ x. w x.tag) old.namespaces
+      new.namespaces k.namespaces;
   links = within-list (λ x. test x.tag) (λ x. not (is_owned x.tag)) (λ x. w x.tag) old.links new.links k.links;
-  addresses = within-list (λ x. test x.tag) (λ x. not (is_owned x.tag)) (λ x. w x.tag) old.addresses new.addresses k.addresses;
+  addresses =
+      within-list (λ x. test x.tag) (λ x. not (is_owned x.tag)) (λ x. w x.tag) old.addresses new.addresses k.addresses;
   routes = within-list (λ x. test x.tag) (λ x. not (is_owned x.tag)) (λ x. w x.tag) old.routes new.routes k.routes;
   rules = within-list (λ x. test x.tag) (λ x. not (is_owned x.tag)) (λ x. w x.tag) old.rules new.rules k.rules;
-  settings = within-list (λ x. test x.tag) (λ x. not (is_owned x.tag)) (λ x. w x.tag) old.settings new.settings k.settings;
+  settings =
+      within-list (λ x. test x.tag) (λ x. not (is_owned x.tag)) (λ x. w x.tag) old.settings new.settings k.settings;
   leases = within-list (λ x. test x.tag) (λ x. not (is_owned x.tag)) (λ x. w x.tag) old.leases new.leases k.leases;
   cached = within-list (λ x. test x.tag) (λ x. not (is_owned x.tag)) (λ x. w x.tag) old.cached new.cached k.cached;
 }
@@ -66,10 +70,16 @@ record KeepsBoth (old new : Host) : Type 0 where
   shared : KeepsShared old new
 
 rest-unowned : (old new : Host) → KeepsUnowned old new → KeepsBoth old new
-rest-unowned old new k = record { outside = keeps-within is_outside old new outside-unowned k; shared = shared-same old new (keeps-within is_base old new base-unowned k) }
+rest-unowned old new k = record {
+  outside = keeps-within is_outside old new outside-unowned k;
+  shared = shared-same old new (keeps-within is_base old new base-unowned k);
+}
 
 rest-nothing : (host : Host) → KeepsBoth host host
-rest-nothing host = record { outside = KeepsWhere-nothing is_outside host; shared = shared-same host host (KeepsWhere-nothing is_base host) }
+rest-nothing host = record {
+  outside = KeepsWhere-nothing is_outside host;
+  shared = shared-same host host (KeepsWhere-nothing is_base host);
+}
 
 -- ---- one shared object more
 
@@ -80,43 +90,86 @@ shared-nothing host = shared-same host host (KeepsWhere-nothing is_base host)
 shared-adds : {X : Type 0} (tag : X → Tag) (t : Tag) (put : X → Host) (old new : Host)
     → (new ≡ old) ⊎ ((x : X) × (tag x ≡ t) × (new ≡ put x)) → ((x : X) → tag x ≡ t → KeepsShared old (put x))
     → KeepsShared old new
-shared-adds tag t put old new adds keeps = elim adds [ inl e ↦ subst (KeepsShared old) (sym e) (shared-nothing old) | inr more ↦ subst (KeepsShared old) (sym more.2) (keeps more.0 more.1) ]
+shared-adds tag t put old new adds keeps = elim adds [
+  | inl e ↦ subst (KeepsShared old) (sym e) (shared-nothing old)
+  | inr more ↦ subst (KeepsShared old) (sym more.2) (keeps more.0 more.1)
+]
 
 shared-bridge : (old new : Host) → AddsBridge old new → KeepsShared old new
 shared-bridge old new adds =
     let s = shared-nothing old in
     shared-adds (λ (x : Link). x.tag) tags.Base (λ (x : Link). record old { links = old.links ++ x ∷ [] }) old new adds
-    (λ x is. record { namespaces = s.namespaces; links = (x ∷ [], filter-push_kept (λ y. is_base y.tag) old.links x (ap is_base is), tt); addresses = s.addresses; routes = s.routes; rules = s.rules; settings = s.settings; leases = s.leases; cached = s.cached })
+    (λ x is. record {
+      namespaces = s.namespaces;
+      links = (x ∷ [], filter-push_kept (λ y. is_base y.tag) old.links x (ap is_base is), tt);
+      addresses = s.addresses;
+      routes = s.routes;
+      rules = s.rules;
+      settings = s.settings;
+      leases = s.leases;
+      cached = s.cached;
+    })
 
 shared-address : (old new : Host) → AddsAddress old new → KeepsShared old new
 shared-address old new adds =
     let s = shared-nothing old in
-    shared-adds (λ (x : AddrObj). x.tag) tags.Base (λ (x : AddrObj). record old { addresses = old.addresses ++ x ∷ [] }) old new adds
-    (λ x is. record { namespaces = s.namespaces; links = s.links; addresses = (x ∷ [], filter-push_kept (λ y. is_base y.tag) old.addresses x (ap is_base is), tt); routes = s.routes; rules = s.rules; settings = s.settings; leases = s.leases; cached = s.cached })
+    shared-adds (λ (x : AddrObj). x.tag) tags.Base
+    (λ (x : AddrObj). record old { addresses = old.addresses ++ x ∷ [] }) old new adds
+    (λ x is. record {
+      namespaces = s.namespaces;
+      links = s.links;
+      addresses = (x ∷ [], filter-push_kept (λ y. is_base y.tag) old.addresses x (ap is_base is), tt);
+      routes = s.routes;
+      rules = s.rules;
+      settings = s.settings;
+      leases = s.leases;
+      cached = s.cached;
+    })
 
 shared-setting : (old new : Host) → AddsSetting old new → KeepsShared old new
 shared-setting old new adds =
     let s = shared-nothing old in
-    shared-adds (λ (x : Setting). x.tag) tags.Base (λ (x : Setting). record old { settings = old.settings ++ x ∷ [] }) old new adds
-    (λ x is. record { namespaces = s.namespaces; links = s.links; addresses = s.addresses; routes = s.routes; rules = s.rules; settings = (x ∷ [], filter-push_kept (λ y. is_base y.tag) old.settings x (ap is_base is), tt); leases = s.leases; cached = s.cached })
+    shared-adds (λ (x : Setting). x.tag) tags.Base
+    (λ (x : Setting). record old { settings = old.settings ++ x ∷ [] }) old new adds
+    (λ x is. record {
+      namespaces = s.namespaces;
+      links = s.links;
+      addresses = s.addresses;
+      routes = s.routes;
+      rules = s.rules;
+      settings = (x ∷ [], filter-push_kept (λ y. is_base y.tag) old.settings x (ap is_base is), tt);
+      leases = s.leases;
+      cached = s.cached;
+    })
 
 -- ---- each call
 
 rest-unshared : (host : Host) (call : Call) → IsSound host → IsAllowed host call → is_from_outside call ≡ false
     → ensures_shared call ≡ false → KeepsBoth host (apply host call).0
-rest-unshared host call sound allowed inside own = rest-unowned host (apply host call).0 (KeepsUnowned-Touches call host (apply host call).0 inside own (Touches-apply host call sound allowed))
+rest-unshared host call sound allowed inside own =
+    rest-unowned host (apply host call).0
+    (KeepsUnowned-Touches call host (apply host call).0 inside own (Touches-apply host call sound allowed))
 
 rest-call : (host : Host) (call : Call) → IsSound host → IsAllowed host call → is_from_outside call ≡ false
     → KeepsBoth host (apply host call).0
 rest-call host (BridgeEnsure name mtu promisc) sound allowed inside =
     let adds = Touches-apply host (BridgeEnsure name mtu promisc) sound allowed in
-    record { outside = KeepsWhere-AddsBridge is_outside host (apply host (BridgeEnsure name mtu promisc)).0 refl adds; shared = shared-bridge host (apply host (BridgeEnsure name mtu promisc)).0 adds }
+    record {
+      outside = KeepsWhere-AddsBridge is_outside host (apply host (BridgeEnsure name mtu promisc)).0 refl adds;
+      shared = shared-bridge host (apply host (BridgeEnsure name mtu promisc)).0 adds;
+    }
 rest-call host (GatewayEnsure bridge cidr) sound allowed inside =
     let adds = Touches-apply host (GatewayEnsure bridge cidr) sound allowed in
-    record { outside = KeepsWhere-AddsAddress is_outside host (apply host (GatewayEnsure bridge cidr)).0 refl adds; shared = shared-address host (apply host (GatewayEnsure bridge cidr)).0 adds }
+    record {
+      outside = KeepsWhere-AddsAddress is_outside host (apply host (GatewayEnsure bridge cidr)).0 refl adds;
+      shared = shared-address host (apply host (GatewayEnsure bridge cidr)).0 adds;
+    }
 rest-call host (ForwardEnsure family) sound allowed inside =
     let adds = Touches-apply host (ForwardEnsure family) sound allowed in
-    record { outside = KeepsWhere-AddsSetting is_outside host (apply host (ForwardEnsure family)).0 refl adds; shared = shared-setting host (apply host (ForwardEnsure family)).0 adds }
+    record {
+      outside = KeepsWhere-AddsSetting is_outside host (apply host (ForwardEnsure family)).0 refl adds;
+      shared = shared-setting host (apply host (ForwardEnsure family)).0 adds;
+    }
 rest-call host call sound allowed inside = rest-unshared host call sound allowed inside refl
 
 -- ---- changes from outside
@@ -132,14 +185,27 @@ shared-unshared old new d = shared-same old new (KeepsWhere-RemovesUnshared is_b
 shared-namespace : (old new : Host) → AddsNamespace old new → KeepsShared old new
 shared-namespace old new adds =
     let s = shared-nothing old in
-    shared-adds (λ (x : NsObj). x.tag) tags.Outside (λ (x : NsObj). record old { namespaces = old.namespaces ++ x ∷ [] }) old new adds
-    (λ x is. record { namespaces = same-list _ _ (filter-push_dropped (λ y. is_base y.tag) old.namespaces x (ap is_base is)); links = s.links; addresses = s.addresses; routes = s.routes; rules = s.rules; settings = s.settings; leases = s.leases; cached = s.cached })
+    shared-adds (λ (x : NsObj). x.tag) tags.Outside
+    (λ (x : NsObj). record old { namespaces = old.namespaces ++ x ∷ [] }) old new adds
+    (λ x is. record {
+      namespaces = same-list _ _ (filter-push_dropped (λ y. is_base y.tag) old.namespaces x (ap is_base is));
+      links = s.links;
+      addresses = s.addresses;
+      routes = s.routes;
+      rules = s.rules;
+      settings = s.settings;
+      leases = s.leases;
+      cached = s.cached;
+    })
 
 shared-outside : (host : Host) (call : Call) → IsSound host → IsAllowed host call → is_from_outside call ≡ true
     → KeepsShared host (apply host call).0
-shared-outside host (NsChange name true) sound allowed is = shared-namespace host (apply host (NsChange name true)).0 (Touches-apply host (NsChange name true) sound allowed)
-shared-outside host (NsChange name false) sound allowed is = shared-unshared host (apply host (NsChange name false)).0 (Touches-apply host (NsChange name false) sound allowed)
-shared-outside host (Outside change) sound allowed is = shared-unshared host (apply host (Outside change)).0 (Touches-apply host (Outside change) sound allowed)
+shared-outside host (NsChange name true) sound allowed is =
+    shared-namespace host (apply host (NsChange name true)).0 (Touches-apply host (NsChange name true) sound allowed)
+shared-outside host (NsChange name false) sound allowed is =
+    shared-unshared host (apply host (NsChange name false)).0 (Touches-apply host (NsChange name false) sound allowed)
+shared-outside host (Outside change) sound allowed is =
+    shared-unshared host (apply host (Outside change)).0 (Touches-apply host (Outside change) sound allowed)
 shared-outside host _ sound allowed is = cc
 
 -- ---- each entry
@@ -147,14 +213,19 @@ shared-outside host _ sound allowed is = cc
 keep-now : DoesNow KeepsTheRest
 keep-now w n c list call faulty on =
     let x = entry_of (host_of w) n call faulty in
-    let both : KeepsBoth (host_of w) (after_entry (host_of w) x) = on-entry (λ k. KeepsBoth (host_of w) k) (host_of w) n call faulty (rest-nothing (host_of w))
-    (λ f. rest-call (host_of w) call (sound_host w on.legal) (on.allowed f) (turn-inside c.command call (turn-of w n c list call faulty on))) in
+    let both : KeepsBoth (host_of w) (after_entry (host_of w) x) =
+    on-entry (λ k. KeepsBoth (host_of w) k) (host_of w) n call faulty (rest-nothing (host_of w))
+    (λ f. rest-call (host_of w) call (sound_host w on.legal) (on.allowed f)
+    (turn-inside c.command call (turn-of w n c list call faulty on))) in
     record { outside = λ m d at number verb. both.outside; shared = both.shared }
 
 keep-outside : DoesOutside KeepsTheRest
 keep-outside w n c call faulty on = record {
   outside = by-outside (λ v. is_of_network v ≡ true) (λ d. KeepsWhere is_outside) (λ v is. is) w n c call faulty on;
-  shared = on-entry (λ k. KeepsShared (host_of w) k) (host_of w) n call faulty (shared-nothing (host_of w)) (λ f. shared-outside (host_of w) call (sound_host w on.legal) (on.allowed f) (change-of w n c call faulty on).call_is);
+  shared =
+      on-entry (λ k. KeepsShared (host_of w) k) (host_of w) n call faulty (shared-nothing (host_of w))
+      (λ f. shared-outside (host_of w) call (sound_host w on.legal) (on.allowed f)
+      (change-of w n c call faulty on).call_is);
 }
 
 pub each_entry_keeps_the_rest : EachEntryKeepsTheRest

@@ -23,14 +23,19 @@ pub record IsAskedWith (list : NetList) (c : Command) (given : List Addr) (objec
 pub making-now : (w : World) (n : ℕ) (c : Placed) (list : NetList) (call : Call) (faulty : Bool)
     → GoesOn w n c list call faulty → IsUnrefused c.command (own_entries n w.history)
     → is_begin_of (att_of c.command) call ≡ false → (given : List Addr)
-    → leased_in (own_entries n w.history ++ entry_of (host_of w) n call faulty ∷ []) ≡ given → IsAskedWith list c.command given (share_of (att_of c.command) (after_entry (host_of w) (entry_of (host_of w) n call faulty)))
+    → leased_in (own_entries n w.history ++ entry_of (host_of w) n call faulty ∷ []) ≡ given
+    → IsAskedWith list c.command given
+    (share_of (att_of c.command) (after_entry (host_of w) (entry_of (host_of w) n call faulty)))
     → NextAsked w n (att_of c.command) faulty call
 making-now w n c list call faulty on un not given leased asked =
     let h = w.history in
     let e = entry_of (host_of w) n call faulty in
     let att = att_of c.command in
-    let leases : leases_in (replies_of n (h ++ e ∷ [])) ≡ given = ap leased_in (own_entries-own n h e (is_of-own n e refl)) ∙ leased in
-    let now : IsAskedWith list c.command given (objects_after w.plan att (h ++ e ∷ [])) = subst (λ k. IsAskedWith list c.command given (share_of att k)) (sym (after-append w.plan.pods.opening h e)) asked in
+    let leases : leases_in (replies_of n (h ++ e ∷ [])) ≡ given =
+    ap leased_in (own_entries-own n h e (is_of-own n e refl)) ∙ leased in
+    let now : IsAskedWith list c.command given (objects_after w.plan att (h ++ e ∷ [])) =
+    subst (λ k. IsAskedWith list c.command given (share_of att k))
+    (sym (after-append w.plan.pods.opening h e)) asked in
     inr (record {
       place = n;
       by = c;
@@ -39,10 +44,14 @@ making-now w n c list call faulty on un not given leased asked =
       listed = on.listed;
       verb = un.verb;
       attachment = refl;
-      last = last_begun-same att h e (not-begins att e not) ∙ all-last w on.legal n c on.ready.there on.ready.unanswered un.verb un.begun un.go_on;
+      last =
+          last_begun-same att h e (not-begins att e not)
+          ∙ all-last w on.legal n c on.ready.there on.ready.unanswered un.verb un.begun un.go_on;
       so_far = subst (AreCandidatesSoFar (sets_of list)) (sym leases) now.so_far;
       all_leased = λ some. subst (AreCandidates (sets_of list)) (sym leases) (now.all_leased some);
-      objects = subst (λ g. AreAskedFor list c.command g (objects_after w.plan att (h ++ e ∷ []))) (sym leases) now.objects_are;
+      objects =
+          subst (λ g. AreAskedFor list c.command g (objects_after w.plan att (h ++ e ∷ [])))
+          (sym leases) now.objects_are;
     })
 
 -- ---- what is asked for at each call of an ADD
@@ -59,7 +68,8 @@ pub with-leasing : (list : NetList) (c : Command) (given : List Addr) → AreCan
     → IsAskedWith list c given (with_leases list c given)
 with-leasing list c given so_far = record {
   so_far = so_far;
-  all_leased = λ some. absurd (some (none_cached-before list c (before_of list c) [] (sym (append-nil (before_of list c)))));
+  all_leased = λ some.
+      absurd (some (none_cached-before list c (before_of list c) [] (sym (append-nil (before_of list c)))));
   objects_are = asked-leasing list c given;
 }
 

@@ -41,7 +41,8 @@ addresses-again law list att netns addrs fits =
 -- ---- the entry
 
 pub no-entry : (att : Att) (host : Host) → (share_of att host).cached ≡ [] → cached_in host att ≡ None
-no-entry att host none = ap (option_map (λ (c : CachedObj). c.cached)) (find-first (λ c. is_own att c.tag) host.cached ∙ ap first_of none)
+no-entry att host none =
+    ap (option_map (λ (c : CachedObj). c.cached)) (find-first (λ c. is_own att c.tag) host.cached ∙ ap first_of none)
 
 -- a part of one entry is none or that one
 one-entry : (objects : List CachedObj) (o : CachedObj) (cached : Cached) → IsPart objects (o ∷ [])
@@ -54,23 +55,30 @@ one-entry (x ∷ xs) o cached part is = elim part [
 
 -- what the ADD caches with these addresses
 abbrev pub cached_by : (p : Plan) (h : List Entry) (att : Att) → IsAskedFor p h att → Cached
-cached_by p h att a = cached_of a.list att a.by.command.netns (mappings_of a.list a.by.command) (leases_in (replies_of a.place h))
+cached_by p h att a =
+    cached_of a.list att a.by.command.netns (mappings_of a.list a.by.command) (leases_in (replies_of a.place h))
 
 -- so what is cached is what the ADD caches, and it was leased an address of every set
 pub entry_of_its_add : (p : Plan) (h : List Entry) (att : Att) (cached : Cached) → HasNothingUnasked p h att
     → cached_in (after p.pods.opening h) att ≡ Some cached
-    → (a : IsAskedFor p h att) × AreCandidates (sets_of a.list) (leases_in (replies_of a.place h)) × (cached ≡ cached_by p h att a)
-entry_of_its_add p h att cached (inl gone) is = absurd (none-some cached (sym (no-entry att (after p.pods.opening h) (ap (λ (s : Share). s.cached) gone)) ∙ is))
+    → (a : IsAskedFor p h att) × AreCandidates (sets_of a.list) (leases_in (replies_of a.place h))
+    × (cached ≡ cached_by p h att a)
+entry_of_its_add p h att cached (inl gone) is =
+    absurd (none-some cached (sym (no-entry att (after p.pods.opening h) (ap (λ (s : Share). s.cached) gone)) ∙ is))
 entry_of_its_add p h att cached (inr a) is =
     let host = after p.pods.opening h in
     let c = a.by.command in
     let given = leases_in (replies_of a.place h) in
     let mine = (share_of att host).cached in
-    let found : option_map (λ (x : CachedObj). x.cached) (first_of mine) ≡ Some cached = ap (option_map (λ (x : CachedObj). x.cached)) (sym (find-first (λ x. is_own att x.tag) host.cached)) ∙ is in
-    let kept : CachedObj = record { cached = cached_of a.list (att_of c) c.netns (mappings_of a.list c) given; tag = Own (att_of c) } in (
+    let found : option_map (λ (x : CachedObj). x.cached) (first_of mine) ≡ Some cached =
+    ap (option_map (λ (x : CachedObj). x.cached)) (sym (find-first (λ x. is_own att x.tag) host.cached)) ∙ is in
+    let kept : CachedObj =
+    record { cached = cached_of a.list (att_of c) c.netns (mappings_of a.list c) given; tag = Own (att_of c) } in (
       a,
-      a.all_leased (λ none. none-some cached (ap (λ l. option_map (λ (x : CachedObj). x.cached) (first_of l)) (sym none) ∙ found)),
-      one-entry mine kept cached a.objects.cached found ∙ ap (λ (x : Att). cached_of a.list x c.netns (mappings_of a.list c) given) a.attachment,
+      a.all_leased (λ none.
+          none-some cached (ap (λ l. option_map (λ (x : CachedObj). x.cached) (first_of l)) (sym none) ∙ found)),
+      one-entry mine kept cached a.objects.cached found
+          ∙ ap (λ (x : Att). cached_of a.list x c.netns (mappings_of a.list c) given) a.attachment,
     )
 
 result_of_its_add : CandidatesAreGiven
@@ -81,7 +89,9 @@ result_of_its_add law p h att cached a fits entry = record {
   add = a;
   leased = fits;
   entry = entry;
-  addresses = ap (λ (x : Cached). addresses_of_result x.result) entry ∙ addresses-again law a.list att a.by.command.netns (leases_in (replies_of a.place h)) fits;
+  addresses =
+      ap (λ (x : Cached). addresses_of_result x.result) entry
+      ∙ addresses-again law a.list att a.by.command.netns (leases_in (replies_of a.place h)) fits;
 }
 
 pub each_cached_result_is_its_adds : CandidatesAreGiven → EachCachedResultIsItsAdds

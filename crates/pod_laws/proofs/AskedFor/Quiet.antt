@@ -58,11 +58,15 @@ deletion-no_lease k att kind false = gone-no_lease k att kind
 -- ---- changes from outside
 
 namespace-quiet : (k : Host) (name : List ℕ) (add : Bool) → leases_in ((apply k (NsChange name add)).1 ∷ []) ≡ []
-namespace-quiet k name true = by_test (λ (step : Host × Reply). leases_in (step.1 ∷ []) ≡ []) (has_named_ns k name) _ _ (λ _. refl) (λ _. refl)
-namespace-quiet k name false = by_test (λ (step : Host × Reply). leases_in (step.1 ∷ []) ≡ []) (has_named_ns k name) _ _ (λ _. refl) (λ _. refl)
+namespace-quiet k name true =
+    by_test (λ (step : Host × Reply). leases_in (step.1 ∷ []) ≡ []) (has_named_ns k name) _ _ (λ _. refl) (λ _. refl)
+namespace-quiet k name false =
+    by_test (λ (step : Host × Reply). leases_in (step.1 ∷ []) ≡ []) (has_named_ns k name) _ _ (λ _. refl) (λ _. refl)
 
 change-quiet : (k : Host) (change : Change) → leases_in ((apply k (Outside change)).1 ∷ []) ≡ []
-change-quiet k (DropLink key) = by_test (λ (step : Host × Reply). leases_in (step.1 ∷ []) ≡ []) (has_named_ns k key.ns) _ _ (λ _. link-no_lease k (link_at k key.ns key.name)) (λ _. refl)
+change-quiet k (DropLink key) =
+    by_test (λ (step : Host × Reply). leases_in (step.1 ∷ []) ≡ []) (has_named_ns k key.ns) _ _
+    (λ _. link-no_lease k (link_at k key.ns key.name)) (λ _. refl)
 change-quiet k (Flush table) = refl
 
 outside-quiet : (k : Host) (call : Call) → is_from_outside call ≡ true → leases_in ((apply k call).1 ∷ []) ≡ []

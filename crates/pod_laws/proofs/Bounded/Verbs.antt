@@ -40,7 +40,9 @@ length-check : (list : NetList) (c : Command) (cached : Cached)
     → length (check_questions list c cached) ≤ 1 + asked_of (cached_share list c cached)
 unfolding check_questions
 length-check list c cached =
-    let a = length-append (bridge_questions (bridge_of list.first) cached.result.interfaces) (share_questions (cached_share list c cached)) in
+    let a =
+    length-append (bridge_questions (bridge_of list.first) cached.result.interfaces)
+    (share_questions (cached_share list c cached)) in
     let b = length-bridge (bridge_of list.first) cached.result.interfaces in
     let d = length-share (cached_share list c cached) in
     omega arith
@@ -80,19 +82,22 @@ start-add : (most : ℕ) (list : NetList) (c : Command)
     → Starts most list c verbs.Add (λ had. 2 * most + length (kinds_of list) + 1)
 start-add most list c =
     let bound : Share → ℕ = λ had. 2 * most + length (kinds_of list) + 1 in
-    by-unless (λ s. StartsIn most list c s bound) (add_refusal c) AtBegin (λ cause. start-over most list c bound (Refused cause)) (λ none. record { none = tt; few = λ had. omega arith })
+    by-unless (λ s. StartsIn most list c s bound) (add_refusal c) AtBegin
+    (λ cause. start-over most list c bound (Refused cause)) (λ none. record { none = tt; few = λ had. omega arith })
 
 start-del : (most : ℕ) (list : NetList) (c : Command)
     → Starts most list c verbs.Del (λ had. length (kinds_of list) + 1 + deletions_of had)
 start-del most list c =
     let bound : Share → ℕ = λ had. length (kinds_of list) + 1 + deletions_of had in
-    by-unless (λ s. StartsIn most list c s bound) (del_refusal c) (ReadingCache Yes) (λ cause. start-over most list c bound (Refused cause)) (λ none. record { none = tt; few = λ had. omega arith })
+    by-unless (λ s. StartsIn most list c s bound) (del_refusal c) (ReadingCache Yes)
+    (λ cause. start-over most list c bound (Refused cause)) (λ none. record { none = tt; few = λ had. omega arith })
 
 start-status : (most : ℕ) (list : NetList) (c : Command)
     → Starts most list c verbs.Status (λ had. length (status_questions list c))
 start-status most list c =
     let bound : Share → ℕ = λ had. length (status_questions list c) in
-    by-unless_old (λ s. StartsIn most list c s bound) list.version (asking (status_questions list c)) (λ cause. start-over most list c bound (Refused cause)) (start-asking most list c (status_questions list c))
+    by-unless_old (λ s. StartsIn most list c s bound) list.version (asking (status_questions list c))
+    (λ cause. start-over most list c bound (Refused cause)) (start-asking most list c (status_questions list c))
 
 start-outside : (most : ℕ) (list : NetList) (c : Command) (verb : Verb) → is_of_network verb ≡ false
     → Starts most list c verb (λ had. 0)
@@ -112,9 +117,12 @@ starts-by most list c verb bound is starts = subst (λ v. Starts most list c v b
 by-start : (w : World) → Legal w
     → (n : ℕ) (c : Placed) (list : NetList) (bound : Share → ℕ) (before : List Entry) (first : Entry)
     → slice_get (commands_of w.plan) n ≡ Some c → list_for w.plan c.command ≡ Some list
-    → StartsIn (most_calls list c.command) list c.command (start_state list c.command) bound → IsFirst w n before first → length (own_replies w n) ≤ bound (objects_after w.plan (att_of c.command) before)
+    → StartsIn (most_calls list c.command) list c.command (start_state list c.command) bound → IsFirst w n before first
+    → length (own_replies w n) ≤ bound (objects_after w.plan (att_of c.command) before)
 by-start w legal n c list bound before first at listed starts is =
-    let made = (made-within w legal n c list (most_calls list c.command) before is.rest first at listed (adds_in_most_calls list c.command) starts.none is.split is.own is.none_before).0 in
+    let made =
+    (made-within w legal n c list (most_calls list c.command) before is.rest first at listed
+    (adds_in_most_calls list c.command) starts.none is.split is.own is.none_before).0 in
     let few = starts.few (objects_after w.plan (att_of c.command) before) in
     omega arith
 
@@ -133,14 +141,18 @@ over-asks list c ending given r bound = record { none = tt; few = λ had. omega 
 check-asks : (list : NetList) (c : Command) (r : Reply) (bound : ℕ) → AsksIn list c FindingEntry r bound
     → AsksIn list c (start_of list verbs.Check c) r bound
 check-asks list c r bound h =
-    let over : (ending : Ending) → AsksIn list c (Over ending []) r bound = λ ending. over-asks list c ending [] r bound in
-    by-unless (λ s. AsksIn list c s r bound) (del_refusal c) (if list.disable_check then Over (Skipped skips.Check) [] else FindingEntry) (λ cause. over (Refused cause))
-    (λ none. by-either (λ s. AsksIn list c s r bound) list.disable_check (Over (Skipped skips.Check) []) FindingEntry (over (Skipped skips.Check)) h)
+    let over : (ending : Ending) → AsksIn list c (Over ending []) r bound = λ ending.
+    over-asks list c ending [] r bound in
+    by-unless (λ s. AsksIn list c s r bound) (del_refusal c)
+    (if list.disable_check then Over (Skipped skips.Check) [] else FindingEntry) (λ cause. over (Refused cause))
+    (λ none. by-either (λ s. AsksIn list c s r bound) list.disable_check (Over (Skipped skips.Check) [])
+    FindingEntry (over (Skipped skips.Check)) h)
 
 found-asks : (list : NetList) (c : Command) (cached : Cached)
     → AsksIn list c FindingEntry (Found (Some cached)) (length (check_questions list c cached))
 unfolding advance
-found-asks list c cached = record { none = tt; few = left-asking (most_calls list c) list c (check_questions list c cached) }
+found-asks list c cached =
+    record { none = tt; few = left-asking (most_calls list c) list c (check_questions list c cached) }
 
 no-entry : (list : NetList) (c : Command) (o : Option Cached) (had : Share) → ((cached : Cached) → o ≢ Some cached)
     → calls_left (most_calls list c) list c (checking list c o) had ≤ 0
@@ -161,11 +173,15 @@ unknown-asks list c r not = record { none = tt; few = λ had. left-unknown list 
 by-first : (w : World) → Legal w
     → (n : ℕ) (c : Placed) (list : NetList) (bound : ℕ) (before : List Entry) (first : Entry)
     → slice_get (commands_of w.plan) n ≡ Some c → list_for w.plan c.command ≡ Some list → c.command.verb ≡ verbs.Check
-    → AsksIn list c.command FindingEntry first.reply bound → IsFirst w n before first → length (own_replies w n) ≤ 1 + bound
+    → AsksIn list c.command FindingEntry first.reply bound → IsFirst w n before first
+    → length (own_replies w n) ≤ 1 + bound
 by-first w legal n c list bound before first at listed verb asks is =
     let start : AsksIn list c.command (start_state list c.command) first.reply bound =
-    subst (λ v. AsksIn list c.command (start_of list v c.command) first.reply bound) (sym verb) (check-asks list c.command first.reply bound asks) in
-    let made = (made-within w legal n c list (most_calls list c.command) before is.rest first at listed (adds_in_most_calls list c.command) start.none is.split is.own is.none_before).1 in
+    subst (λ v. AsksIn list c.command (start_of list v c.command) first.reply bound) (sym verb)
+    (check-asks list c.command first.reply bound asks) in
+    let made =
+    (made-within w legal n c list (most_calls list c.command) before is.rest first at listed
+    (adds_in_most_calls list c.command) start.none is.split is.own is.none_before).1 in
     let few = start.few (objects_after w.plan (att_of c.command) (before ++ first ∷ [])) in
     omega arith
 
@@ -175,26 +191,43 @@ run_is_bounded w legal n c list at listed =
     let in_most0 = adds_in_most_calls list c.command in
     record {
       add = λ verb most in_most.
-          let starts = starts-by most list c.command verbs.Add (λ had. 2 * most + length (kinds_of list) + 1) verb (start-add most list c.command) in
-          let made = made-below w legal n c list most (2 * most + length (kinds_of list) + 1) at listed in_most starts.none starts.few in
+          let starts =
+          starts-by most list c.command verbs.Add (λ had. 2 * most + length (kinds_of list) + 1) verb
+          (start-add most list c.command) in
+          let made =
+          made-below w legal n c list most (2 * most + length (kinds_of list) + 1) at listed in_most
+          starts.none starts.few in
           omega arith;
       del = λ verb before first is.
           let made = by-start w legal n c list (λ s. length (kinds_of list) + 1 + deletions_of s) before first at listed
-          (starts-by most0 list c.command verbs.Del (λ s. length (kinds_of list) + 1 + deletions_of s) verb (start-del most0 list c.command)) is in
+          (starts-by most0 list c.command verbs.Del (λ s. length (kinds_of list) + 1 + deletions_of s) verb
+          (start-del most0 list c.command))
+          is in
           omega arith;
       check = λ verb before first cached is found.
-          let asks = subst (λ r. AsksIn list c.command FindingEntry r (length (check_questions list c.command cached))) (sym found) (found-asks list c.command cached) in
-          let made = by-first w legal n c list (length (check_questions list c.command cached)) before first at listed verb asks is in
+          let asks =
+          subst (λ r. AsksIn list c.command FindingEntry r (length (check_questions list c.command cached)))
+          (sym found) (found-asks list c.command cached) in
+          let made =
+          by-first w legal n c list (length (check_questions list c.command cached)) before first at listed
+          verb asks is in
           let few = length-check list c.command cached in
           omega arith;
-      unknown = λ verb before first is not. by-first w legal n c list 0 before first at listed verb (unknown-asks list c.command first.reply not) is;
+      unknown = λ verb before first is not.
+          by-first w legal n c list 0 before first at listed verb (unknown-asks list c.command first.reply not) is;
       status = λ verb.
-          let starts = starts-by most0 list c.command verbs.Status (λ had. length (status_questions list c.command)) verb (start-status most0 list c.command) in
-          let made = made-below w legal n c list most0 (length (status_questions list c.command)) at listed in_most0 starts.none starts.few in
+          let starts =
+          starts-by most0 list c.command verbs.Status (λ had. length (status_questions list c.command)) verb
+          (start-status most0 list c.command) in
+          let made =
+          made-below w legal n c list most0 (length (status_questions list c.command)) at listed in_most0
+          starts.none starts.few in
           let few = length-status list c.command in
           omega arith;
       version = λ verb.
-          let starts = starts-by most0 list c.command verbs.Version (λ had. 0) verb (record { none = tt; few = λ had. omega arith }) in
+          let starts =
+          starts-by most0 list c.command verbs.Version (λ had. 0) verb
+          (record { none = tt; few = λ had. omega arith }) in
           let made = made-below w legal n c list most0 0 at listed in_most0 starts.none starts.few in
           nil_from_length (own_replies w n) (omega arith);
     }
@@ -205,7 +238,8 @@ one-by-list : (w : World) → Legal w → (n : ℕ) (c : Placed) (o : Option Net
 one-by-list w legal n c None at is by = one-call w legal n c at by
 one-by-list w legal n c (Some list) at is by =
     let most = most_calls list c.command in
-    let starts : StartsIn most list c.command (start_state list c.command) (λ had. 0) = start-outside most list c.command c.command.verb is in
+    let starts : StartsIn most list c.command (start_state list c.command) (λ had. 0) =
+    start-outside most list c.command c.command.verb is in
     let made = made-below w legal n c list most 0 at by (adds_in_most_calls list c.command) starts.none starts.few in
     omega arith
 

@@ -36,7 +36,9 @@ stays-beside name gone host sound stays there =
     (λ l fits. elim (cases_Bool (is_host_bridge name l)) [
       | inl is ↦
           let parts = and_parts (is_host_link name l) (is_bridge l.kind) is in
-          let kept : gone l ≡ false = stays l (and_parts (is_host_ns l.ns) (bytes_eq l.name name) parts.0).0 (bridge-alone host.links l l.peer fits parts.1) in
+          let kept : gone l ≡ false =
+          stays l (and_parts (is_host_ns l.ns) (bytes_eq l.name name) parts.0).0
+          (bridge-alone host.links l l.peer fits parts.1) in
           grind (arith, is, kept)
       | inr other ↦ grind (arith, other)
     ])
@@ -63,16 +65,22 @@ stays-dropped : (name : List ℕ) (host : Host) (key : LinkKey) (o : Option Link
 stays-dropped name host key None found inner sound there = there
 stays-dropped name host key (Some link) found inner sound there =
     let at : is_at key.ns key.name link ≡ true = passes-find (is_at key.ns key.name) host.links link found in
-    let place : link.ns ≡ key.ns = (bytes_eq-Decides link.ns key.ns).0 (and_parts (bytes_eq link.ns key.ns) (bytes_eq link.name key.name) at).0 in
-    stays-beside name (goes_with link.ns link.name) host sound (stays-at link.ns link.name (ap is_host_ns place ∙ inner)) there
+    let place : link.ns ≡ key.ns =
+    (bytes_eq-Decides link.ns key.ns).0 (and_parts (bytes_eq link.ns key.ns) (bytes_eq link.name key.name) at).0 in
+    stays-beside name (goes_with link.ns link.name) host sound
+    (stays-at link.ns link.name (ap is_host_ns place ∙ inner)) there
 
 stays-outside : (name : List ℕ) (host : Host) (call : Call) → IsSound host → IsAllowed host call
     → is_from_outside call ≡ true → has_host_bridge host name ≡ true → has_host_bridge (apply host call).0 name ≡ true
-stays-outside name host (NsChange ns true) sound allowed from there = by_test (λ (step : Host × Reply). has_host_bridge step.0 name ≡ true) (has_named_ns host ns) _ _ (λ _. there) (λ _. there)
+stays-outside name host (NsChange ns true) sound allowed from there =
+    by_test (λ (step : Host × Reply). has_host_bridge step.0 name ≡ true) (has_named_ns host ns) _ _
+    (λ _. there) (λ _. there)
 stays-outside name host (NsChange ns false) sound allowed from there =
-    by_test (λ (step : Host × Reply). has_host_bridge step.0 name ≡ true) (has_named_ns host ns) _ _ (λ _. stays-beside name (goes_with_ns ns) host sound (stays-in_ns ns allowed) there) (λ _. there)
+    by_test (λ (step : Host × Reply). has_host_bridge step.0 name ≡ true) (has_named_ns host ns) _ _
+    (λ _. stays-beside name (goes_with_ns ns) host sound (stays-in_ns ns allowed) there) (λ _. there)
 stays-outside name host (Outside (DropLink key)) sound allowed from there =
-    by_test (λ (step : Host × Reply). has_host_bridge step.0 name ≡ true) (has_named_ns host key.ns) _ _ (λ _. stays-dropped name host key (link_at host key.ns key.name) refl allowed sound there) (λ _. there)
+    by_test (λ (step : Host × Reply). has_host_bridge step.0 name ≡ true) (has_named_ns host key.ns) _ _
+    (λ _. stays-dropped name host key (link_at host key.ns key.name) refl allowed sound there) (λ _. there)
 stays-outside name host (Outside (Flush table)) sound allowed from there = there
 stays-outside name host _ sound allowed from there = cc
 
@@ -87,4 +95,5 @@ pub bridge-changed : (first : First) (w : World) (n : ℕ) (c : Placed) (call : 
     → BridgeIn first (after_entry (host_of w) (entry_of (host_of w) n call faulty))
 bridge-changed first w n c call faulty on there =
     on-entry (BridgeIn first) (host_of w) n call faulty there
-    (λ f. bridge-outside (bridge_of first) (host_of w) call (sound_host w on.legal) (on.allowed f) (change-of w n c call faulty on).call_is there)
+    (λ f. bridge-outside (bridge_of first) (host_of w) call (sound_host w on.legal) (on.allowed f)
+    (change-of w n c call faulty on).call_is there)

@@ -22,21 +22,72 @@ own-call : (att : Att) (s : Share) (call : Call) → is_call_of att call ≡ tru
     → AreOwn att (share_after_call s call)
 own-call att s (VethAdd h i) own w =
     let both = and_parts (is_own att h.tag) (is_own att i.tag) own in
-    record { links = list_all-append (λ x. is_own att x.tag) s.links (h ∷ i ∷ []) w.links (grind (arith, both.0, both.1)); addresses = w.addresses; routes = w.routes; rules = w.rules; settings = w.settings; leases = w.leases }
-own-call att s (MacvlanAdd l) own w = record { links = list_all-push (λ x. is_own att x.tag) s.links l w.links own; addresses = w.addresses; routes = w.routes; rules = w.rules; settings = w.settings; leases = w.leases }
-own-call att s (LinkSet a key mac mtu tx_qlen promisc allmulti) own w = record {
-  links = list_all-mapped (λ x. is_own att x.tag) (set_link a key mac mtu tx_qlen promisc allmulti) (λ x. is_own att x.tag) (λ l is. set_link-tag a key mac mtu tx_qlen promisc allmulti l att ∙ is) s.links w.links;
+    record {
+      links = list_all-append (λ x. is_own att x.tag) s.links (h ∷ i ∷ []) w.links (grind (arith, both.0, both.1));
+      addresses = w.addresses;
+      routes = w.routes;
+      rules = w.rules;
+      settings = w.settings;
+      leases = w.leases;
+    }
+own-call att s (MacvlanAdd l) own w = record {
+  links = list_all-push (λ x. is_own att x.tag) s.links l w.links own;
   addresses = w.addresses;
   routes = w.routes;
   rules = w.rules;
   settings = w.settings;
   leases = w.leases;
 }
-own-call att s (AddrAdd a) own w = record { links = w.links; addresses = list_all-push (λ x. is_own att x.tag) s.addresses a w.addresses own; routes = w.routes; rules = w.rules; settings = w.settings; leases = w.leases }
-own-call att s (RouteAdd r) own w = record { links = w.links; addresses = w.addresses; routes = list_all-push (λ x. is_own att x.tag) s.routes r w.routes own; rules = w.rules; settings = w.settings; leases = w.leases }
-own-call att s (RuleAppend r) own w = record { links = w.links; addresses = w.addresses; routes = w.routes; rules = list_all-push (λ x. is_own att x.tag) s.rules r w.rules own; settings = w.settings; leases = w.leases }
-own-call att s (SettingSet x) own w = record { links = w.links; addresses = w.addresses; routes = w.routes; rules = w.rules; settings = list_all-push (λ x. is_own att x.tag) s.settings x w.settings own; leases = w.leases }
-own-call att s (CachePut a cached) own w = record { links = w.links; addresses = w.addresses; routes = w.routes; rules = w.rules; settings = w.settings; leases = w.leases }
+own-call att s (LinkSet a key mac mtu tx_qlen promisc allmulti) own w = record {
+  links =
+      list_all-mapped (λ x. is_own att x.tag) (set_link a key mac mtu tx_qlen promisc allmulti) (λ x. is_own att x.tag)
+      (λ l is. set_link-tag a key mac mtu tx_qlen promisc allmulti l att ∙ is) s.links w.links;
+  addresses = w.addresses;
+  routes = w.routes;
+  rules = w.rules;
+  settings = w.settings;
+  leases = w.leases;
+}
+own-call att s (AddrAdd a) own w = record {
+  links = w.links;
+  addresses = list_all-push (λ x. is_own att x.tag) s.addresses a w.addresses own;
+  routes = w.routes;
+  rules = w.rules;
+  settings = w.settings;
+  leases = w.leases;
+}
+own-call att s (RouteAdd r) own w = record {
+  links = w.links;
+  addresses = w.addresses;
+  routes = list_all-push (λ x. is_own att x.tag) s.routes r w.routes own;
+  rules = w.rules;
+  settings = w.settings;
+  leases = w.leases;
+}
+own-call att s (RuleAppend r) own w = record {
+  links = w.links;
+  addresses = w.addresses;
+  routes = w.routes;
+  rules = list_all-push (λ x. is_own att x.tag) s.rules r w.rules own;
+  settings = w.settings;
+  leases = w.leases;
+}
+own-call att s (SettingSet x) own w = record {
+  links = w.links;
+  addresses = w.addresses;
+  routes = w.routes;
+  rules = w.rules;
+  settings = list_all-push (λ x. is_own att x.tag) s.settings x w.settings own;
+  leases = w.leases;
+}
+own-call att s (CachePut a cached) own w = record {
+  links = w.links;
+  addresses = w.addresses;
+  routes = w.routes;
+  rules = w.rules;
+  settings = w.settings;
+  leases = w.leases;
+}
 own-call att s _ own w = w
 
 own-calls : (att : Att) (s : Share) (calls : List Call) → list_all (is_call_of att) calls ≡ true → AreOwn att s
@@ -48,10 +99,19 @@ own-calls att s (x ∷ xs) own w =
 
 own-leases : (att : Att) (given : List Addr) → AreOwn att (only_leases att given)
 own-leases att given =
-    record { links = refl; addresses = refl; routes = refl; rules = refl; settings = refl; leases = list_all-every (λ x. is_own att x.tag) (lease_of att) (λ a. att_eq-refl att) given }
+    record {
+      links = refl;
+      addresses = refl;
+      routes = refl;
+      rules = refl;
+      settings = refl;
+      leases = list_all-every (λ x. is_own att x.tag) (lease_of att) (λ a. att_eq-refl att) given;
+    }
 
 pub own-wanted : (list : NetList) (att : Att) (netns : List ℕ) (mappings : List PortMapping) (addrs : List Addr)
     → AreOwn att (wanted list att netns mappings addrs)
 own-wanted list att netns mappings addrs =
     let of_plugins = make_the_wanted list att netns mappings addrs in
-    subst (AreOwn att) of_plugins.adds (own-calls att (only_leases att addrs) (add_calls list att netns mappings addrs) of_plugins.own (own-leases att addrs))
+    subst (AreOwn att) of_plugins.adds
+    (own-calls att (only_leases att addrs) (add_calls list att netns mappings addrs) of_plugins.own
+    (own-leases att addrs))

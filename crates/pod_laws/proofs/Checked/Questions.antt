@@ -34,19 +34,29 @@ pub record IsSteadyQuestion (c : Command) (q : Question) : Type 0 where
 -- what is the attachment's is among its share
 same-own : {X : Type 0} (p own : X → Bool) → ((x : X) → p x ≡ true → own x ≡ true) → (old new : List X)
     → filter own new ≡ filter own old → list_any p old ≡ true → list_any p new ≡ true
-same-own p own w old new same there = sym (any-filter_same p own true w new) ∙ ap (list_any p) same ∙ any-filter_same p own true w old ∙ there
+same-own p own w old new same there =
+    sym (any-filter_same p own true w new) ∙ ap (list_any p) same ∙ any-filter_same p own true w old ∙ there
 
 and-fifth : (a b d e r : Bool) → (a && (b && (d && (e && r)))) ≡ true → r ≡ true
-and-fifth a b d e r h = (and_parts e r (and_parts d (e && r) (and_parts b (d && (e && r)) (and_parts a (b && (d && (e && r))) h).1).1).1).1
+and-fifth a b d e r h =
+    (and_parts e r (and_parts d (e && r) (and_parts b (d && (e && r)) (and_parts a (b && (d && (e && r))) h).1).1).1).1
 
 pub link-tag : (a b : Link) → link_eq a b ≡ true → tag_eq a.tag b.tag ≡ true
 link-tag a b h =
     let last = a.tx_qlen == b.tx_qlen && tag_eq a.tag b.tag in
     let third = beq a.promisc b.promisc && (beq a.allmulti b.allmulti && last) in
-    let second = option_eq key_eq a.peer b.peer && (mac_eq a.mac b.mac && (a.mtu == b.mtu && (beq a.hairpin b.hairpin && third))) in
-    let is_second : second ≡ true = and-fifth (bytes_eq a.ns b.ns) (bytes_eq a.name b.name) (link_kind_eq a.kind b.kind) (option_eq bytes_eq a.master b.master) second h in
-    let is_third : third ≡ true = and-fifth (option_eq key_eq a.peer b.peer) (mac_eq a.mac b.mac) (a.mtu == b.mtu) (beq a.hairpin b.hairpin) third is_second in
-    (and_parts (a.tx_qlen == b.tx_qlen) (tag_eq a.tag b.tag) (and_parts (beq a.allmulti b.allmulti) last (and_parts (beq a.promisc b.promisc) (beq a.allmulti b.allmulti && last) is_third).1).1).1
+    let second =
+    option_eq key_eq a.peer b.peer
+    && (mac_eq a.mac b.mac && (a.mtu == b.mtu && (beq a.hairpin b.hairpin && third))) in
+    let is_second : second ≡ true =
+    and-fifth (bytes_eq a.ns b.ns) (bytes_eq a.name b.name) (link_kind_eq a.kind b.kind)
+    (option_eq bytes_eq a.master b.master) second h in
+    let is_third : third ≡ true =
+    and-fifth (option_eq key_eq a.peer b.peer) (mac_eq a.mac b.mac) (a.mtu == b.mtu) (beq a.hairpin b.hairpin)
+    third is_second in
+    (and_parts (a.tx_qlen == b.tx_qlen) (tag_eq a.tag b.tag)
+    (and_parts (beq a.allmulti b.allmulti) last
+    (and_parts (beq a.promisc b.promisc) (beq a.allmulti b.allmulti && last) is_third).1).1).1
 
 pub address-tag : (a b : AddrObj) → addr_obj_eq a b ≡ true → tag_eq a.tag b.tag ≡ true
 address-tag a b h = grind (arith, h)
@@ -58,9 +68,15 @@ pub rule-tag : (a b : Rule) → rule_eq a b ≡ true → tag_eq a.tag b.tag ≡ 
 rule-tag a b h =
     let last = target_eq a.target b.target && tag_eq a.tag b.tag in
     let ports = option_eq (λ p q. p == q) a.dport b.dport in
-    let second = beq a.not_dst b.not_dst && (option_eq proto_eq a.protocol b.protocol && (ports && (beq a.established b.established && last))) in
-    let is_second : second ≡ true = and-fifth (table_eq a.table b.table) (chain_eq a.chain b.chain) (option_eq cidr_eq a.src b.src) (option_eq cidr_eq a.dst b.dst) second h in
-    let is_last : last ≡ true = and-fifth (beq a.not_dst b.not_dst) (option_eq proto_eq a.protocol b.protocol) ports (beq a.established b.established) last is_second in
+    let second =
+    beq a.not_dst b.not_dst
+    && (option_eq proto_eq a.protocol b.protocol && (ports && (beq a.established b.established && last))) in
+    let is_second : second ≡ true =
+    and-fifth (table_eq a.table b.table) (chain_eq a.chain b.chain) (option_eq cidr_eq a.src b.src)
+    (option_eq cidr_eq a.dst b.dst) second h in
+    let is_last : last ≡ true =
+    and-fifth (beq a.not_dst b.not_dst) (option_eq proto_eq a.protocol b.protocol) ports
+    (beq a.established b.established) last is_second in
     (and_parts (target_eq a.target b.target) (tag_eq a.tag b.tag) is_last).1
 
 pub setting-tag : (a b : Setting) → setting_eq a b ≡ true → tag_eq a.tag b.tag ≡ true
@@ -70,38 +86,49 @@ pub lease-tag : (a b : Lease) → lease_eq a b ≡ true → tag_eq a.tag b.tag �
 lease-tag a b h = grind (arith, h)
 
 -- a question for an object of the attachment among the objects of one list of the host
-steady-object : {X : Type 0} (c : Command) (equal : X → X → Bool) (tag : X → Tag) (listed : Host → List X) (q : Question) (x : X) (what : Missed)
+steady-object : {X : Type 0} (c : Command) (equal : X → X → Bool) (tag : X → Tag) (listed : Host → List X)
+    (q : Question) (x : X) (what : Missed)
     → ((a b : X) → equal a b ≡ true → tag_eq (tag a) (tag b) ≡ true)
-    → ((old new : Host) → KeepsAsked c old new → filter (λ y. is_own (att_of c) (tag y)) (listed new) ≡ filter (λ y. is_own (att_of c) (tag y)) (listed old))
-    → ((host : Host) → grants host q ≡ list_any (λ y. equal y x) (listed host)) → tells q.call ≡ true → q.lack ≡ Missing what → is_own (att_of c) (tag x) ≡ true → IsSteadyQuestion c q
+    → ((old new : Host) → KeepsAsked c old new
+    → filter (λ y. is_own (att_of c) (tag y)) (listed new) ≡ filter (λ y. is_own (att_of c) (tag y)) (listed old))
+    → ((host : Host) → grants host q ≡ list_any (λ y. equal y x) (listed host)) → tells q.call ≡ true
+    → q.lack ≡ Missing what → is_own (att_of c) (tag x) ≡ true → IsSteadyQuestion c q
 steady-object c equal tag listed q x what same_tag keep asks told lack own = record {
   told = told;
   what = what;
   lack = lack;
   stays = λ old new keeps there.
-      let among = same-own (λ y. equal y x) (λ y. is_own (att_of c) (tag y)) (λ y h. is_own-tag_eq (att_of c) (tag y) (tag x) (same_tag y x h) ∙ own) (listed old) (listed new) (keep old new keeps) in
+      let among =
+      same-own (λ y. equal y x) (λ y. is_own (att_of c) (tag y))
+      (λ y h. is_own-tag_eq (att_of c) (tag y) (tag x) (same_tag y x h) ∙ own) (listed old) (listed new)
+      (keep old new keeps) in
       asks new ∙ among (sym (asks old) ∙ there);
 }
 
 steady-link : (c : Command) (l : Link) → is_own (att_of c) l.tag ≡ true → IsSteadyQuestion c (link_question l)
 steady-link c l own =
-    steady-object c link_eq (λ y. y.tag) (λ host. host.links) (link_question l) l (missed.Link l) link-tag (λ old new keeps. ap (λ (s : Share). s.links) keeps.share) (λ host. refl) refl refl own
+    steady-object c link_eq (λ y. y.tag) (λ host. host.links) (link_question l) l (missed.Link l) link-tag
+    (λ old new keeps. ap (λ (s : Share). s.links) keeps.share) (λ host. refl) refl refl own
 
 steady-address : (c : Command) (a : AddrObj) → is_own (att_of c) a.tag ≡ true → IsSteadyQuestion c (address_question a)
 steady-address c a own =
-    steady-object c addr_obj_eq (λ y. y.tag) (λ host. host.addresses) (address_question a) a (missed.Address a) address-tag (λ old new keeps. ap (λ (s : Share). s.addresses) keeps.share) (λ host. refl) refl refl own
+    steady-object c addr_obj_eq (λ y. y.tag) (λ host. host.addresses) (address_question a) a (missed.Address a)
+    address-tag (λ old new keeps. ap (λ (s : Share). s.addresses) keeps.share) (λ host. refl) refl refl own
 
 steady-route : (c : Command) (r : RouteObj) → is_own (att_of c) r.tag ≡ true → IsSteadyQuestion c (route_question r)
 steady-route c r own =
-    steady-object c route_eq (λ y. y.tag) (λ host. host.routes) (route_question r) r (missed.Route r) route-tag (λ old new keeps. ap (λ (s : Share). s.routes) keeps.share) (λ host. refl) refl refl own
+    steady-object c route_eq (λ y. y.tag) (λ host. host.routes) (route_question r) r (missed.Route r) route-tag
+    (λ old new keeps. ap (λ (s : Share). s.routes) keeps.share) (λ host. refl) refl refl own
 
 steady-setting : (c : Command) (x : Setting) → is_own (att_of c) x.tag ≡ true → IsSteadyQuestion c (setting_question x)
 steady-setting c x own =
-    steady-object c setting_eq (λ y. y.tag) (λ host. host.settings) (setting_question x) x (missed.Setting x) setting-tag (λ old new keeps. ap (λ (s : Share). s.settings) keeps.share) (λ host. refl) refl refl own
+    steady-object c setting_eq (λ y. y.tag) (λ host. host.settings) (setting_question x) x (missed.Setting x)
+    setting-tag (λ old new keeps. ap (λ (s : Share). s.settings) keeps.share) (λ host. refl) refl refl own
 
 steady-lease : (c : Command) (l : Lease) → is_own (att_of c) l.tag ≡ true → IsSteadyQuestion c (lease_question l)
 steady-lease c l own =
-    steady-object c lease_eq (λ y. y.tag) (λ host. host.leases) (lease_question l) l (missed.Lease l) lease-tag (λ old new keeps. ap (λ (s : Share). s.leases) keeps.share) (λ host. refl) refl refl own
+    steady-object c lease_eq (λ y. y.tag) (λ host. host.leases) (lease_question l) l (missed.Lease l) lease-tag
+    (λ old new keeps. ap (λ (s : Share). s.leases) keeps.share) (λ host. refl) refl refl own
 
 steady-rules : (c : Command) (number : ℕ) (rules : List Rule) → list_all (λ r. is_own (att_of c) r.tag) rules ≡ true
     → AllByRecursion (IsSteadyQuestion c) (rule_questions number rules)
@@ -109,7 +136,8 @@ steady-rules c number [] h = tt
 steady-rules c number (r ∷ rs) h =
     let own : is_own (att_of c) r.tag ≡ true = grind (arith, h) in
     let more : list_all (λ x. is_own (att_of c) x.tag) rs ≡ true = grind (arith, h) in (
-      steady-object c rule_eq (λ y. y.tag) (λ host. host.rules) _ r (missed.Rule r number) rule-tag (λ old new keeps. ap (λ (s : Share). s.rules) keeps.share) (λ host. refl) refl refl own,
+      steady-object c rule_eq (λ y. y.tag) (λ host. host.rules) _ r (missed.Rule r number) rule-tag
+          (λ old new keeps. ap (λ (s : Share). s.rules) keeps.share) (λ host. refl) refl refl own,
       steady-rules c (number + 1) rs more,
     )
 
@@ -118,17 +146,31 @@ steady-rules c number (r ∷ rs) h =
 steady-share : (c : Command) (s : Share) → AreOwn (att_of c) s → AllByRecursion (IsSteadyQuestion c) (share_questions s)
 steady-share c s own =
     let P = IsSteadyQuestion c in
-    each-append P (map link_question s.links) _ (each-map_of P link_question (λ x. is_own (att_of c) x.tag) (steady-link c) s.links own.links)
-    (each-append P (map address_question s.addresses) _ (each-map_of P address_question (λ x. is_own (att_of c) x.tag) (steady-address c) s.addresses own.addresses)
-    (each-append P (map route_question s.routes) _ (each-map_of P route_question (λ x. is_own (att_of c) x.tag) (steady-route c) s.routes own.routes)
+    each-append P (map link_question s.links) _
+    (each-map_of P link_question (λ x. is_own (att_of c) x.tag) (steady-link c) s.links own.links)
+    (each-append P (map address_question s.addresses) _
+    (each-map_of P address_question (λ x. is_own (att_of c) x.tag) (steady-address c) s.addresses own.addresses)
+    (each-append P (map route_question s.routes) _
+    (each-map_of P route_question (λ x. is_own (att_of c) x.tag) (steady-route c) s.routes own.routes)
     (each-append P (rule_questions 1 s.rules) _ (steady-rules c 1 s.rules own.rules)
-    (each-append P (map setting_question s.settings) (map lease_question s.leases) (each-map_of P setting_question (λ x. is_own (att_of c) x.tag) (steady-setting c) s.settings own.settings)
-    (each-map_of P lease_question (λ x. is_own (att_of c) x.tag) (steady-lease c) s.leases own.leases)))))
+    (each-append P (map setting_question s.settings) (map lease_question s.leases)
+    (each-map_of P setting_question (λ x. is_own (att_of c) x.tag) (steady-setting c)
+    s.settings own.settings)
+    (each-map_of P lease_question (λ x. is_own (att_of c) x.tag) (steady-lease c)
+    s.leases own.leases)))))
 
 steady-mac : (c : Command) (name : List ℕ) (mac : Option Mac)
     → AllByRecursion (IsSteadyQuestion c) (bridge_by_mac name mac)
 steady-mac c name None = tt
-steady-mac c name (Some mac) = (record { told = refl; what = missed.Bridge name; lack = refl; stays = λ old new keeps there. keeps.bridges name mac there }, tt)
+steady-mac c name (Some mac) = (
+  record {
+    told = refl;
+    what = missed.Bridge name;
+    lack = refl;
+    stays = λ old new keeps there. keeps.bridges name mac there;
+  },
+  tt,
+)
 
 steady-interfaces : (c : Command) (interfaces : List Interface)
     → AllByRecursion (IsSteadyQuestion c) (first_interface interfaces)
@@ -144,8 +186,10 @@ pub steady-questions : (list : NetList) (c : Command) (cached : Cached)
     → AllByRecursion (IsSteadyQuestion c) (check_questions list c cached)
 unfolding check_questions
 steady-questions list c cached =
-    each-append (IsSteadyQuestion c) (bridge_questions (bridge_of list.first) cached.result.interfaces) (share_questions (cached_share list c cached)) (steady-bridge c (bridge_of list.first) cached.result.interfaces)
-    (steady-share c (cached_share list c cached) (own-wanted list (att_of c) cached.netns cached.mappings (addresses_of_result cached.result)))
+    each-append (IsSteadyQuestion c) (bridge_questions (bridge_of list.first) cached.result.interfaces)
+    (share_questions (cached_share list c cached)) (steady-bridge c (bridge_of list.first) cached.result.interfaces)
+    (steady-share c (cached_share list c cached)
+    (own-wanted list (att_of c) cached.netns cached.mappings (addresses_of_result cached.result)))
 
 -- ---- all are granted where the host holds what the cached result says
 
@@ -157,16 +201,23 @@ all-parts p xs ys a b h g = list_all-append p xs ys ∙ ap (λ t. t && list_all 
 granted-rules : (host : Host) (number : ℕ) (rules : List Rule)
     → list_all (grants host) (rule_questions number rules) ≡ are_in rule_eq rules host.rules
 granted-rules host number [] = refl
-granted-rules host number (r ∷ rs) = ap (λ b. list_any (λ y. rule_eq y r) host.rules && b) (granted-rules host (number + 1) rs)
+granted-rules host number (r ∷ rs) =
+    ap (λ b. list_any (λ y. rule_eq y r) host.rules && b) (granted-rules host (number + 1) rs)
 
 granted-share : (host : Host) (s : Share) → list_all (grants host) (share_questions s) ≡ has_objects_of host s
 granted-share host s =
     let p = grants host in
-    all-parts p (map link_question s.links) _ (are_in link_eq s.links host.links) _ (lists.list_all-map p link_question s.links)
-    (all-parts p (map address_question s.addresses) _ (are_in addr_obj_eq s.addresses host.addresses) _ (lists.list_all-map p address_question s.addresses)
-    (all-parts p (map route_question s.routes) _ (are_in route_eq s.routes host.routes) _ (lists.list_all-map p route_question s.routes)
-    (all-parts p (rule_questions 1 s.rules) _ (are_in rule_eq s.rules host.rules) _ (granted-rules host 1 s.rules)
-    (all-parts p (map setting_question s.settings) (map lease_question s.leases) (are_in setting_eq s.settings host.settings) (are_in lease_eq s.leases host.leases) (lists.list_all-map p setting_question s.settings)
+    all-parts p (map link_question s.links) _ (are_in link_eq s.links host.links) _
+    (lists.list_all-map p link_question s.links)
+    (all-parts p (map address_question s.addresses) _ (are_in addr_obj_eq s.addresses host.addresses) _
+    (lists.list_all-map p address_question s.addresses)
+    (all-parts p (map route_question s.routes) _ (are_in route_eq s.routes host.routes) _
+    (lists.list_all-map p route_question s.routes)
+    (all-parts p (rule_questions 1 s.rules) _ (are_in rule_eq s.rules host.rules) _
+    (granted-rules host 1 s.rules)
+    (all-parts p (map setting_question s.settings) (map lease_question s.leases)
+    (are_in setting_eq s.settings host.settings) (are_in lease_eq s.leases host.leases)
+    (lists.list_all-map p setting_question s.settings)
     (lists.list_all-map p lease_question s.leases)))))
 
 granted-mac : (host : Host) (name : List ℕ) (mac : Option Mac)
@@ -188,7 +239,9 @@ pub granted-check : (list : NetList) (c : Command) (cached : Cached) (host : Hos
     → list_all (grants host) (check_questions list c cached) ≡ holds_cached list c cached host
 unfolding check_questions
 granted-check list c cached host =
-    all-parts (grants host) (bridge_questions (bridge_of list.first) cached.result.interfaces) (share_questions (cached_share list c cached)) _ _ (granted-bridge host (bridge_of list.first) cached.result.interfaces)
+    all-parts (grants host) (bridge_questions (bridge_of list.first) cached.result.interfaces)
+    (share_questions (cached_share list c cached)) _ _
+    (granted-bridge host (bridge_of list.first) cached.result.interfaces)
     (granted-share host (cached_share list c cached))
 
 -- ---- what stays
@@ -206,4 +259,7 @@ pub cached-stays : (c : Command) (old new : Host) → KeepsAsked c old new
     → cached_in new (att_of c) ≡ cached_in old (att_of c)
 cached-stays c old new keeps =
     let own : CachedObj → Bool = λ x. is_own (att_of c) x.tag in
-    ap (option_map (λ x. x.cached)) (find-first own new.cached ∙ ap (λ (s : Share). first_of s.cached) keeps.share ∙ sym (find-first own old.cached))
+    ap (option_map (λ x. x.cached))
+    (find-first own new.cached
+    ∙ ap (λ (s : Share). first_of s.cached) keeps.share
+    ∙ sym (find-first own old.cached))

@@ -43,7 +43,8 @@ filter-drops : {X : Type 0} (p : X → Bool) (old new : List X) → DropsOnly (�
 filter-drops p [] new d = ap (filter p) d
 filter-drops p (x ∷ old) [] d = filter-drop-if (p x) x (filter p old) [] (filter-drops p old [] d.1)
 filter-drops p (x ∷ old) (y ∷ new) d = elim d [
-  | inl same ↦ filter-same-if (p x) (p y) x y (filter p old) (filter p new) same.0 (ap p same.0) (filter-drops p old new same.1)
+  | inl same ↦
+      filter-same-if (p x) (p y) x y (filter p old) (filter p new) same.0 (ap p same.0) (filter-drops p old new same.1)
   | inr drop ↦ filter-drop-if (p x) x (filter p old) (filter p (y ∷ new)) (filter-drops p old (y ∷ new) drop.1)
 ]
 
@@ -62,10 +63,12 @@ kept-same c old new b =
     host_of_parts (keep c.network c.valid new) (keep c.network c.valid old)
     (ap (filter (λ n. stays c.network c.valid n.tag)) b.upper.namespaces)
     (between (λ l. stays c.network c.valid l.tag) old.links new.links b.lower.removes.links b.upper.removes.links)
-    (between (λ a. stays c.network c.valid a.tag) old.addresses new.addresses b.lower.removes.addresses b.upper.removes.addresses)
+    (between (λ a. stays c.network c.valid a.tag) old.addresses new.addresses b.lower.removes.addresses
+    b.upper.removes.addresses)
     (between (λ r. stays c.network c.valid r.tag) old.routes new.routes b.lower.removes.routes b.upper.removes.routes)
     (between (λ r. stays c.network c.valid r.tag) old.rules new.rules b.lower.removes.rules b.upper.removes.rules)
-    (between (λ s. stays c.network c.valid s.tag) old.settings new.settings b.lower.removes.settings b.upper.removes.settings)
+    (between (λ s. stays c.network c.valid s.tag) old.settings new.settings b.lower.removes.settings
+    b.upper.removes.settings)
     (between (λ l. stays c.network c.valid l.tag) old.leases new.leases b.lower.removes.leases b.upper.removes.leases)
     (between (λ x. stays c.network c.valid x.tag) old.cached new.cached b.lower.removes.cached b.upper.removes.cached)
     b.upper.lasts
@@ -79,20 +82,31 @@ clean-of list c es old new (inl (inr (inr (inr faulty)))) = absurd (let e = faul
 clean-of list c es old new (inr cut) = absurd (let e : false ≡ true = cut in cc)
 
 pub collections_fill_their_rounds : CollectionsFillTheirRounds
-collections_fill_their_rounds w legal n c at gc some = (start-round w legal n c at (ap is_exclusive_verb gc) some, end-round w legal n c at (ap is_exclusive_verb gc) some)
+collections_fill_their_rounds w legal n c at gc some =
+    (start-round w legal n c at (ap is_exclusive_verb gc) some, end-round w legal n c at (ap is_exclusive_verb gc) some)
 
 pub collections_in_a_row_keep : CollectionsInARowKeep
 collections_in_a_row_keep w legal m n d c at_m at_n row answered =
     let found = listed_network w legal n c at_n (ap is_of_network row.second) in
-    let clean = clean-of found.0 c.command (own_entries n w.history) (host_at_start w n) (host_at_end w n) (collections_are_answered w legal n c answers.Yes at_n row.second answered found.0 found.1) in
-    let P : List ℕ → List ValidAtt → Type 0 = λ network valid. host_at_end w n ≡ keep network valid (host_at_start w n) in
-    let ended : P d.command.network d.command.valid = subst (λ x. P x d.command.valid) (sym row.network) (subst (P c.command.network) (sym row.valid) clean.leaves) in
+    let clean =
+    clean-of found.0 c.command (own_entries n w.history) (host_at_start w n) (host_at_end w n)
+    (collections_are_answered w legal n c answers.Yes at_n row.second answered found.0 found.1) in
+    let P : List ℕ → List ValidAtt → Type 0 = λ network valid.
+    host_at_end w n ≡ keep network valid (host_at_start w n) in
+    let ended : P d.command.network d.command.valid =
+    subst (λ x. P x d.command.valid) (sym row.network) (subst (P c.command.network) (sym row.valid) clean.leaves) in
     let kept : Host → Host = keep d.command.network d.command.valid in
-    let same : kept (host_at_start w n) ≡ kept (host_at_round w d.round) = elim (none-or-some (own_entries m w.history)) [
-      | inl none ↦ ap kept (start-after w legal m n d c at_m at_n (ap is_exclusive_verb row.first) (ap is_exclusive_verb row.second) row.round none clean.called)
+    let same : kept (host_at_start w n) ≡ kept (host_at_round w d.round) =
+    elim (none-or-some (own_entries m w.history)) [
+      | inl none ↦
+          ap kept (start-after w legal m n d c at_m at_n (ap is_exclusive_verb row.first)
+          (ap is_exclusive_verb row.second) row.round none clean.called)
       | inr some ↦
           let first = collections_fill_their_rounds w legal m d at_m row.first some in
           let second = collections_fill_their_rounds w legal n c at_n row.second clean.called in
-          ap kept (second.0 ∙ ap (host_at_round w) row.round ∙ sym first.1) ∙ kept-same d.command (host_at_start w m) (host_at_end w m) (collections_are_bounded w legal m d at_m row.first some) ∙ ap kept first.0
+          ap kept (second.0 ∙ ap (host_at_round w) row.round ∙ sym first.1)
+          ∙ kept-same d.command (host_at_start w m) (host_at_end w m)
+          (collections_are_bounded w legal m d at_m row.first some)
+          ∙ ap kept first.0
     ] in
     ended ∙ same

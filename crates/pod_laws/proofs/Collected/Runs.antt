@@ -18,7 +18,9 @@ no-if false rest x xs ys h g = g h
 
 pub no-faults : (made : ℕ) (es : List Entry) → has_fault es ≡ false → fault_numbers made (made_in es) ≡ []
 no-faults made [] h = refl
-no-faults made (e ∷ es) h = no-if (is_fault e.reply) (has_fault es) (made + 1) (fault_numbers (made + 1) (made_in es)) (fault_numbers (made + 1) (made_in es)) h (λ g. no-faults (made + 1) es g)
+no-faults made (e ∷ es) h =
+    no-if (is_fault e.reply) (has_fault es) (made + 1) (fault_numbers (made + 1) (made_in es))
+    (fault_numbers (made + 1) (made_in es)) h (λ g. no-faults (made + 1) es g)
 
 abbrev IsSome : List ℕ → Type 0
 IsSome ns = (x : ℕ) × (xs : List ℕ) × (ns ≡ x ∷ xs)
@@ -30,4 +32,6 @@ some-if false rest x xs ys h g = g h
 
 pub some-faults : (made : ℕ) (es : List Entry) → has_fault es ≡ true → IsSome (fault_numbers made (made_in es))
 some-faults made [] h = cc
-some-faults made (e ∷ es) h = some-if (is_fault e.reply) (has_fault es) (made + 1) (fault_numbers (made + 1) (made_in es)) (fault_numbers (made + 1) (made_in es)) h (λ g. some-faults (made + 1) es g)
+some-faults made (e ∷ es) h =
+    some-if (is_fault e.reply) (has_fault es) (made + 1) (fault_numbers (made + 1) (made_in es))
+    (fault_numbers (made + 1) (made_in es)) h (λ g. some-faults (made + 1) es g)

@@ -17,7 +17,9 @@ use Rattle.pod_laws.proofs.Refused.Undoing.{undone-step}
 prefix-granted : (granted later : List Entry) (by y : Entry) (ys : List Entry) → granted ≢ []
     → y ∷ ys ≡ granted ++ by ∷ later → list_all lets_go_on granted ≡ true → lets_go_on y ≡ true
 prefix-granted [] later by y ys some are go_on = absurd (some refl)
-prefix-granted (z ∷ zs) later by y ys some are go_on = ap lets_go_on (cons_parts y z ys (zs ++ by ∷ later) are).0 ∙ (and_parts (lets_go_on z) (list_all lets_go_on zs) go_on).0
+prefix-granted (z ∷ zs) later by y ys some are go_on =
+    ap lets_go_on (cons_parts y z ys (zs ++ by ∷ later) are).0
+    ∙ (and_parts (lets_go_on z) (list_all lets_go_on zs) go_on).0
 
 lead-granted : (c : Command) (y : Entry) (ys : List Entry) (ending : Ending) → c.verb ≡ verbs.Add
     → Leads c (y ∷ ys) ending → lets_go_on y ≡ true
@@ -25,15 +27,19 @@ lead-granted c y ys Added verb h = absurd h
 lead-granted c y ys Yes verb h = absurd (not-both c verb h.verb)
 lead-granted c y ys (Skipped skip) verb h = absurd h
 lead-granted c y ys Versions verb h = absurd h
-lead-granted c y ys (Refused cause) verb h = let f = h.first.refuses in prefix-granted f.past f.later h.first.by y ys h.begun f.are f.pass
+lead-granted c y ys (Refused cause) verb h =
+    let f = h.first.refuses in prefix-granted f.past f.later h.first.by y ys h.begun f.are f.pass
 
 first-granted : (list : NetList) (c : Command) (y : Entry) (ys : List Entry) (st : State) (s : Share) (call : Call)
     → c.verb ≡ verbs.Add → turn c st ≡ Calls call → Undoing list c (y ∷ ys) st s → lets_go_on y ≡ true
 unfolding turn
 first-granted list c y ys AtBegin s call verb is was = let none = was.none in cc
-first-granted list c y ys (BeforeLeases x xs) s call verb is was = (and_parts (lets_go_on y) (list_all lets_go_on ys) was.go_on).0
-first-granted list c y ys (Leasing set sets given) s call verb is was = (and_parts (lets_go_on y) (list_all lets_go_on ys) was.go_on).0
-first-granted list c y ys (AfterLeases x xs given) s call verb is was = (and_parts (lets_go_on y) (list_all lets_go_on ys) was.go_on).0
+first-granted list c y ys (BeforeLeases x xs) s call verb is was =
+    (and_parts (lets_go_on y) (list_all lets_go_on ys) was.go_on).0
+first-granted list c y ys (Leasing set sets given) s call verb is was =
+    (and_parts (lets_go_on y) (list_all lets_go_on ys) was.go_on).0
+first-granted list c y ys (AfterLeases x xs given) s call verb is was =
+    (and_parts (lets_go_on y) (list_all lets_go_on ys) was.go_on).0
 first-granted list c y ys (ReadingCache ending) s call verb is was = lead-granted c y ys ending verb was
 first-granted list c y ys (Deleting kind ks ending) s call verb is was = lead-granted c y ys ending verb was.0
 first-granted list c y ys (Over ending given) s call verb is was = cc
@@ -44,22 +50,30 @@ first-granted list c y ys _ s call verb is was = absurd (subst IsOtherVerb verb 
 -- the first is a Begin, and the only one where it was not done
 abbrev pub BeginsFirst : Command → List Entry → Type 0
 BeginsFirst c [] = Unit {0}
-BeginsFirst c (e ∷ es) = (e.call ≡ Begin (att_of c) c.netns) × IsPluginReply e.reply × ((is_done e.reply ≡ true) ⊎ (es ≡ []))
+BeginsFirst c (e ∷ es) =
+    (e.call ≡ Begin (att_of c) c.netns) × IsPluginReply e.reply × ((is_done e.reply ≡ true) ⊎ (es ≡ []))
 
 abbrev AddBegins : NetList → Command → List Entry → State → Share → Type 0
 AddBegins list c es st s = c.verb ≡ verbs.Add → BeginsFirst c es
 
-begins-more : (list : NetList) (c : Command) (n : ℕ) (w : World) (es : List Entry) (st : State) (s : Share) (call : Call) (faulty : Bool)
+begins-more : (list : NetList) (c : Command) (n : ℕ) (w : World) (es : List Entry) (st : State) (s : Share)
+    (call : Call) (faulty : Bool)
     → c.verb ≡ verbs.Add → turn c st ≡ Calls call → Undoing list c es st s → BeginsFirst c es
     → BeginsFirst c (es ++ entry_of (host_of w) n call faulty ∷ [])
 begins-more list c n w [] st s call faulty verb is un was =
-    let first : call ≡ Begin (att_of c) c.netns = first-call list c [] st s call verb refl is un in
-    (first, subst (λ j. IsPluginReply (reply_to (host_of w) j faulty)) (sym first) (begin-may (att_of c) c.netns (host_of w) faulty), inr refl)
-begins-more list c n w (y ∷ ys) st s call faulty verb is un was = (was.0, was.1, inl (granted-done y.reply was.1 (first-granted list c y ys st s call verb is un)))
+    let first : call ≡ Begin (att_of c) c.netns = first-call list c [] st s call verb refl is un in (
+      first,
+      subst (λ j. IsPluginReply (reply_to (host_of w) j faulty)) (sym first)
+          (begin-may (att_of c) c.netns (host_of w) faulty),
+      inr refl,
+    )
+begins-more list c n w (y ∷ ys) st s call faulty verb is un was =
+    (was.0, was.1, inl (granted-done y.reply was.1 (first-granted list c y ys st s call verb is un)))
 
 begins-step : IsRunFact AddBegins
 begins-step w n c list call faulty on was = λ verb.
-    begins-more list c.command n w (own_entries n w.history) _ (share_of (att_of c.command) (host_of w)) call faulty verb (own-state w n c list call faulty on).turn_is
+    begins-more list c.command n w (own_entries n w.history) _ (share_of (att_of c.command) (host_of w)) call faulty
+    verb (own-state w n c list call faulty on).turn_is
     (every-run-now Undoing undone-start undone-step w n c list call faulty on) (was verb)
 
 begins-start : StartsWith AddBegins

@@ -9,7 +9,8 @@ use Rattle.pod_laws.proofs.Histories.Steps.{ChangesKeep, EntriesKeep, Goes, IsOp
 
 -- the command at place n is another one of the same container
 abbrev IsBeside : Plan → ℕ → ℕ → Placed → Type 0
-IsBeside p n m d = (c : Placed) × (slice_get (commands_of p) n ≡ Some c) × (n ≢ m) × (d.command.container ≡ c.command.container)
+IsBeside p n m d =
+    (c : Placed) × (slice_get (commands_of p) n ≡ Some c) × (n ≢ m) × (d.command.container ≡ c.command.container)
 
 -- ---- while a command isn't answered, it has made none up to the last one of the other
 
@@ -25,13 +26,15 @@ clear-kept w k x call faulty goes was = λ m d at is_open n beside.
       | inl t ↦
           let far : m ≢ k = λ same. beside.2 (t.1 ∙ sym same) in
           let mine : own_entries m (until_last n (h ++ e ∷ [])) ≡ own_entries m h =
-          ap (own_entries m) (until_last-own n h e (is_of-own n e (ap (λ j. j + 1) (sym t.1)))) ∙ own_entries-other m h e (apart-entry w k m call faulty far) in
+          ap (own_entries m) (until_last-own n h e (is_of-own n e (ap (λ j. j + 1) (sym t.1))))
+          ∙ own_entries-other m h e (apart-entry w k m call faulty far) in
           let same : beside.0 ≡ x = ready_is w k n x beside.0 ready t.1 beside.1 in
           elim (apart w (legal-of w k x call faulty goes) m k d x ready far at is_open) [
             | inl none ↦ mine ∙ no-entries (own_entries m h) none
             | inr other ↦ absurd (other (beside.3 ∙ ap (λ (y : Placed). y.command.container) same))
           ]
-      | inr f ↦ ap (own_entries m) (until_last-other n h e (apart-entry w k n call faulty f.1)) ∙ was m d at is_open n beside
+      | inr f ↦
+          ap (own_entries m) (until_last-other n h e (apart-entry w k n call faulty f.1)) ∙ was m d at is_open n beside
     ]
 
 all-clear : (w : World) → Legal w → AllOpen IsClear w
@@ -41,7 +44,9 @@ all-clear w legal = by-open IsClear (λ p m d n beside. refl) clear-kept w legal
 
 -- one has no entry up to the last one of the other, or none after it
 abbrev AllInTurn : Plan → List Entry → Type 0
-AllInTurn p h = (n m : ℕ) (d : Placed) → slice_get (commands_of p) m ≡ Some d → IsBeside p n m d → (own_entries m (until_last n h) ≡ []) ⊎ (own_entries m h ≡ own_entries m (until_last n h))
+AllInTurn p h =
+    (n m : ℕ) (d : Placed) → slice_get (commands_of p) m ≡ Some d → IsBeside p n m d
+    → (own_entries m (until_last n h) ≡ []) ⊎ (own_entries m h ≡ own_entries m (until_last n h))
 
 turn-kept : (w : World) (k : ℕ) (x : Placed) (call : Call) (faulty : Bool) → Goes w k x call faulty
     → AllInTurn w.plan w.history → AllInTurn w.plan (w.history ++ entry_of (host_of w) k call faulty ∷ [])
@@ -51,11 +56,14 @@ turn-kept w k x call faulty goes was = λ n m d at beside.
     elim (eqb_tells n k) [
       | inl t ↦ inr (ap (own_entries m) (sym (until_last-own n h e (is_of-own n e (ap (λ j. j + 1) (sym t.1))))))
       | inr f ↦
-          let past : own_entries m (until_last n (h ++ e ∷ [])) ≡ own_entries m (until_last n h) = ap (own_entries m) (until_last-other n h e (apart-entry w k n call faulty f.1)) in
+          let past : own_entries m (until_last n (h ++ e ∷ [])) ≡ own_entries m (until_last n h) =
+          ap (own_entries m) (until_last-other n h e (apart-entry w k n call faulty f.1)) in
           elim (eqb_tells m k) [
             | inl t ↦
                 let P : ℕ → Type 0 = λ j. slice_get w.answers j ≡ Some None in
-                inl (past ∙ all-clear w (legal-of w k x call faulty goes) m d at (subst P (sym t.1) (ready-of w k x call faulty goes).unanswered) n beside)
+                inl (past
+                ∙ all-clear w (legal-of w k x call faulty goes) m d at
+                (subst P (sym t.1) (ready-of w k x call faulty goes).unanswered) n beside)
             | inr g ↦ elim (was n m d at beside) [
               | inl none ↦ inl (past ∙ none)
               | inr all ↦ inr (own_entries-other m h e (apart-entry w k m call faulty g.1) ∙ all ∙ sym past)
@@ -72,4 +80,6 @@ turn-changed w n c call faulty on was = turn-kept w n c call faulty (inr on) was
 pub in_turn : (w : World) → Legal w → (n m : ℕ) (c d : Placed) → slice_get (commands_of w.plan) n ≡ Some c
     → slice_get (commands_of w.plan) m ≡ Some d → n ≢ m → d.command.container ≡ c.command.container
     → (own_entries m (until_last n w.history) ≡ []) ⊎ (own_entries m w.history ≡ own_entries m (until_last n w.history))
-in_turn w legal n m c d at_n at_m far same = by-entries AllInTurn (λ p well i j y at beside. inl refl) turn-listed turn-changed w legal n m d at_m (c, at_n, far, same)
+in_turn w legal n m c d at_n at_m far same =
+    by-entries AllInTurn (λ p well i j y at beside. inl refl) turn-listed turn-changed w legal n m d at_m
+    (c, at_n, far, same)

@@ -25,7 +25,8 @@ removes-question k call asked = subst (OnlyRemoves k) (sym (question-leaves k ca
 
 removes-aside : (c : Command) (k : Host) (call : Call) → IsSound k → AsksOrCollects c call → RemovesBy k call
 removes-aside c k call sound (inl asked) = removes-question k call asked
-removes-aside c k call sound (inr collected) = subst (RemovesBy k) collected.deletes (removes-deletion collected.att k collected.kind sound)
+removes-aside c k call sound (inr collected) =
+    subst (RemovesBy k) collected.deletes (removes-deletion collected.att k collected.kind sound)
 
 turn-removes : (list : NetList) (c : Command) (es : List Entry) (st : State) (s : Share) (k : Host) (call : Call)
     → c.verb ≢ verbs.Add → IsSound k → LeftFit list c st → turn c st ≡ Calls call → Undoing list c es st s
@@ -35,12 +36,18 @@ turn-removes list c es AtBegin s k call not sound fit is was = absurd (not was.v
 turn-removes list c es (BeforeLeases x xs) s k call not sound fit is was = absurd (not was.verb)
 turn-removes list c es (Leasing set sets given) s k call not sound fit is was = absurd (not was.verb)
 turn-removes list c es (AfterLeases x xs given) s k call not sound fit is was = absurd (not was.verb)
-turn-removes list c es (ReadingCache ending) s k call not sound fit is was = subst (RemovesBy k) (let e : CacheGet (att_of c) ≡ call = cc in e) (removes-nothing k)
-turn-removes list c es (Deleting kind ks ending) s k call not sound fit is was = subst (RemovesBy k) (let e : deletion (att_of c) kind ≡ call = cc in e) (removes-deletion (att_of c) k kind sound)
-turn-removes list c es FindingEntry s k call not sound fit is was = subst (RemovesBy k) (let e : CacheGet (att_of c) ≡ call = cc in e) (removes-nothing k)
-turn-removes list c es (Asking q qs) s k call not sound fit is was = subst (RemovesBy k) (let e : q.call ≡ call = cc in e) (removes-question k q.call (asked-is_question list q.call fit.0))
+turn-removes list c es (ReadingCache ending) s k call not sound fit is was =
+    subst (RemovesBy k) (let e : CacheGet (att_of c) ≡ call = cc in e) (removes-nothing k)
+turn-removes list c es (Deleting kind ks ending) s k call not sound fit is was =
+    subst (RemovesBy k) (let e : deletion (att_of c) kind ≡ call = cc in e) (removes-deletion (att_of c) k kind sound)
+turn-removes list c es FindingEntry s k call not sound fit is was =
+    subst (RemovesBy k) (let e : CacheGet (att_of c) ≡ call = cc in e) (removes-nothing k)
+turn-removes list c es (Asking q qs) s k call not sound fit is was =
+    subst (RemovesBy k) (let e : q.call ≡ call = cc in e)
+    (removes-question k q.call (asked-is_question list q.call fit.0))
 turn-removes list c es (Changing change) s k call not sound fit is was = absurd fit
-turn-removes list c es (Collecting work faults) s k call not sound fit is was = removes-aside c k call sound (work-turn c work.jobs work.sweeps faults call fit is)
+turn-removes list c es (Collecting work faults) s k call not sound fit is was =
+    removes-aside c k call sound (work-turn c work.jobs work.sweeps faults call fit is)
 turn-removes list c es (Over ending given) s k call not sound fit is was = cc
 
 pub removes-entered : (w : World) (n : ℕ) (c : Placed) (list : NetList) (call : Call) (faulty : Bool)
@@ -49,7 +56,8 @@ pub removes-entered : (w : World) (n : ℕ) (c : Placed) (list : NetList) (call 
 removes-entered w n c list call faulty on not =
     let own = own-state w n c list call faulty on in
     on-entry (OnlyRemoves (host_of w)) (host_of w) n call faulty (removes-nothing (host_of w))
-    (λ f. turn-removes list c.command (own_entries n w.history) _ (share_of (att_of c.command) (host_of w)) (host_of w) call not (sound_host w on.legal) own.fits own.turn_is
+    (λ f. turn-removes list c.command (own_entries n w.history) _ (share_of (att_of c.command) (host_of w)) (host_of w)
+    call not (sound_host w on.legal) own.fits own.turn_is
     (every-run-now Undoing undone-start undone-step w n c list call faulty on))
 
 -- ---- an entry of an ADD that makes nothing only removes
@@ -62,7 +70,9 @@ removes-refused : (att : Att) (k : Host) (call : Call) → IsSound k → is_call
     → is_granted (apply k call).1 ≡ false → RemovesBy k call
 removes-refused att k (Begin a netns) sound own not = removes-nothing k
 removes-refused att k (LeaseNext a number set) sound own not =
-    subst (OnlyRemoves k) (sym (refused-lease k a number set (λ addr is. let e : true ≡ false = ap is_granted (sym is) ∙ not in cc))) (removes-nothing k)
+    subst (OnlyRemoves k)
+    (sym (refused-lease k a number set (λ addr is. let e : true ≡ false = ap is_granted (sym is) ∙ not in cc)))
+    (removes-nothing k)
 removes-refused att k (LinkDel a) sound own not = removes-deletion a k kinds.Links sound
 removes-refused att k (RuleDel a) sound own not = removes-deletion a k kinds.Rules sound
 removes-refused att k (SettingDel a) sound own not = removes-deletion a k kinds.Settings sound
@@ -75,7 +85,9 @@ removes-refused att k (PoolFree network set) sound own not = cc
 removes-refused att k (NsChange name add) sound own not = cc
 removes-refused att k (Outside change) sound own not = cc
 removes-refused att k call sound own not =
-    subst (OnlyRemoves k) (sym (refused-same att k call own (λ is. let e : true ≡ false = ap is_granted (sym is) ∙ not in cc))) (removes-nothing k)
+    subst (OnlyRemoves k)
+    (sym (refused-same att k call own (λ is. let e : true ≡ false = ap is_granted (sym is) ∙ not in cc)))
+    (removes-nothing k)
 
 removes-turn : (c : Command) (k : Host) (call : Call) → IsSound k → IsTurnOf c call
     → is_granted (apply k call).1 ≡ false → RemovesBy k call
@@ -96,4 +108,5 @@ pub quiet-entered : (w : World) (n : ℕ) (c : Placed) (list : NetList) (call : 
     → OnlyRemoves (host_of w) (after_entry (host_of w) (entry_of (host_of w) n call faulty))
 quiet-entered w n c list call faulty att on quiet =
     on-entry (OnlyRemoves (host_of w)) (host_of w) n call faulty (removes-nothing (host_of w))
-    (λ f. quiet-removes att c.command (host_of w) n call (sound_host w on.legal) (turn-of w n c list call faulty on) (ap (λ b. makes_nothing att (entry_of (host_of w) n call b)) (sym f) ∙ quiet))
+    (λ f. quiet-removes att c.command (host_of w) n call (sound_host w on.legal) (turn-of w n c list call faulty on)
+    (ap (λ b. makes_nothing att (entry_of (host_of w) n call b)) (sym f) ∙ quiet))

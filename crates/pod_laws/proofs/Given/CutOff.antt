@@ -16,11 +16,15 @@ over-by w legal n c list a at listed is whole = elim (answer-due w legal n c lis
 ]
 
 -- where it leased nothing, and is no GC, its ending is what holds of its last state
-pub answered-by : (list : NetList) (c : Command) (st : State) (a : Answer) (At : State → Type 0) (Ends : Ending → Type 0)
+pub answered-by : (list : NetList) (c : Command) (st : State) (a : Answer) (At : State → Type 0)
+    (Ends : Ending → Type 0)
     → ((ending : Ending) (given : List Addr) → At (Over ending given) → (given ≡ []) × Ends ending)
-    → ((work : Work) (faults : List ℕ) → At (Collecting work faults) → ⊥) → IsOver list c st a → At st → (ending : Ending) × (a ≡ answer_of_ending list c ending []) × Ends ending
+    → ((work : Work) (faults : List ℕ) → At (Collecting work faults) → ⊥) → IsOver list c st a → At st
+    → (ending : Ending) × (a ≡ answer_of_ending list c ending []) × Ends ending
 unfolding answer_of
 answered-by list c st a At Ends ends none over at = elim over.state_is [
-  | inl is ↦ (let e = ends over.ending over.given (subst At is at) in (over.ending, over.answer_is ∙ ap (answer_of_ending list c over.ending) e.0, e.1))
+  | inl is ↦
+      (let e = ends over.ending over.given (subst At is at) in
+      (over.ending, over.answer_is ∙ ap (answer_of_ending list c over.ending) e.0, e.1))
   | inr swept ↦ absurd (none swept.work swept.faults (subst At swept.collecting at))
 ]

@@ -31,15 +31,19 @@ EndsBy st finish = (st ≡ Over finish.ending finish.given) ⊎ IsSwept st finis
 
 work-over : (c : Command) (jobs : List Job) (sweeps : List Sweep) (faults : List ℕ) (finish : Finish)
     → turn_of_work c.network jobs sweeps faults ≡ Finishes finish
-    → (finish.ending ≡ swept faults) × (finish_of_work jobs sweeps faults ≡ Some (record { ending = swept faults; given = [] }))
+    → (finish.ending ≡ swept faults)
+    × (finish_of_work jobs sweeps faults ≡ Some (record { ending = swept faults; given = [] }))
 work-over c [] [] faults finish is = (let e : swept faults ≡ finish.ending = cc in sym e, refl)
 work-over c [] (s ∷ sweeps) faults finish is = cc
 work-over c (j ∷ jobs) sweeps faults finish is = cc
 
 turn-over : (c : Command) (st : State) (finish : Finish) → turn c st ≡ Finishes finish → EndsBy st finish
 unfolding turn
-turn-over c (Over ending given) finish is = let e : ending ≡ finish.ending = cc in let g : given ≡ finish.given = cc in inl cc
-turn-over c (Collecting work faults) finish is = let over = work-over c work.jobs work.sweeps faults finish is in inr (record { work = work; faults = faults; collecting = refl; ends = over.0; finished = over.1 })
+turn-over c (Over ending given) finish is =
+    let e : ending ≡ finish.ending = cc in let g : given ≡ finish.given = cc in inl cc
+turn-over c (Collecting work faults) finish is =
+    let over = work-over c work.jobs work.sweeps faults finish is in
+    inr (record { work = work; faults = faults; collecting = refl; ends = over.0; finished = over.1 })
 turn-over c AtBegin finish is = cc
 turn-over c (BeforeLeases next left) finish is = cc
 turn-over c (Leasing next left given) finish is = cc
@@ -56,8 +60,14 @@ by-scripts : (w : World) (n : ℕ) (c : Placed) (list : NetList) (a : Answer) �
 by-scripts w n c list a listed due =
     let finish = due.0 in
     let rs = own_replies w n in
-    let turn_is : turn c.command (state_after list c.command rs) ≡ Finishes finish = ap (λ p. turn_by p c.command rs) (sym listed) ∙ due.1 in
-    record { ending = finish.ending; given = finish.given; state_is = turn-over c.command (state_after list c.command rs) finish turn_is; answer_is = due.2 ∙ ap (λ p. answer_by p c.command finish) listed }
+    let turn_is : turn c.command (state_after list c.command rs) ≡ Finishes finish =
+    ap (λ p. turn_by p c.command rs) (sym listed) ∙ due.1 in
+    record {
+      ending = finish.ending;
+      given = finish.given;
+      state_is = turn-over c.command (state_after list c.command rs) finish turn_is;
+      answer_is = due.2 ∙ ap (λ p. answer_by p c.command finish) listed;
+    }
 
 pub answer-due : (w : World) → Legal w → (n : ℕ) (c : Placed) (list : NetList) (a : Answer)
     → slice_get (commands_of w.plan) n ≡ Some c → list_for w.plan c.command ≡ Some list

@@ -55,10 +55,14 @@ pub record IsEnded (w : World) (n : ℕ) (c : Command) (list : NetList) (a : Ans
   pub ends : Ends c (own_entries n w.history) ending (share_of (att_of c) (host_at_end w n))
 
 -- what a run's last state says of its ending, where a GC says as much of each ending without a result
-at-over : (F : RunFact) (list : NetList) (c : Command) (es : List Entry) (st : State) (ending : Ending) (given : List Addr) (s : Share)
-    → ((work : Work) (faults : List ℕ) → F list c es (Collecting work faults) s → IsNoResult ending → F list c es (Over ending given) s) → (st ≡ Over ending given) ⊎ IsSwept st ending → F list c es st s → F list c es (Over ending given) s
+at-over : (F : RunFact) (list : NetList) (c : Command) (es : List Entry) (st : State) (ending : Ending)
+    (given : List Addr) (s : Share)
+    → ((work : Work) (faults : List ℕ) → F list c es (Collecting work faults) s → IsNoResult ending
+    → F list c es (Over ending given) s)
+    → (st ≡ Over ending given) ⊎ IsSwept st ending → F list c es st s → F list c es (Over ending given) s
 at-over F list c es st ending given s collected (inl is) h = subst (λ u. F list c es u s) is h
-at-over F list c es st ending given s collected (inr swept) h = collected swept.work swept.faults (subst (λ u. F list c es u s) swept.collecting h) (swept-ending st ending swept)
+at-over F list c es st ending given s collected (inr swept) h =
+    collected swept.work swept.faults (subst (λ u. F list c es u s) swept.collecting h) (swept-ending st ending swept)
 
 ended : (w : World) → Legal w → (n : ℕ) (c : Placed) (list : NetList) (a : Answer)
     → slice_get (commands_of w.plan) n ≡ Some c → list_for w.plan c.command ≡ Some list
@@ -74,21 +78,30 @@ ended w legal n c list a at listed is whole =
       ending = ending;
       given = given;
       says = says list c.command given ending a over.answer_is;
-      achieved = at-over Achieved list c.command es _ ending given s (λ work faults h none. achieved-end list c.command es ending given s none) over.state_is (every-run Achieved achieved-start achieved-step w legal n c list at listed);
-      ends = at-over Undoing list c.command es _ ending given s (λ work faults other none. undone-end c.command es ending s other none) over.state_is (every-run Undoing undone-start undone-step w legal n c list at listed);
+      achieved =
+          at-over Achieved list c.command es _ ending given s
+          (λ work faults h none. achieved-end list c.command es ending given s none) over.state_is
+          (every-run Achieved achieved-start achieved-step w legal n c list at listed);
+      ends =
+          at-over Undoing list c.command es _ ending given s
+          (λ work faults other none. undone-end c.command es ending s other none) over.state_is
+          (every-run Undoing undone-start undone-step w legal n c list at listed);
     }
 
 -- ---- answers by the verb
 
 -- an answer is so, or a refusal, where each ending of such a run says so
 each-answered : (verb : Verb) (Is : Answer → Type 0) → is_of_network verb ≡ true
-    → ((c : Command) (list : NetList) (es : List Entry) (s : Share) (a : Answer) (ending : Ending) (given : List Addr) → c.verb ≡ verb → Says list c given ending a → Ends c es ending s → Is a ⊎ IsRefusedAnswer a) → EachIsOrRefused verb Is
+    → ((c : Command) (list : NetList) (es : List Entry) (s : Share) (a : Answer) (ending : Ending) (given : List Addr)
+    → c.verb ≡ verb → Says list c given ending a → Ends c es ending s → Is a ⊎ IsRefusedAnswer a)
+    → EachIsOrRefused verb Is
 each-answered verb Is network by w legal n c a at is_verb is = elim (cases_Bool (is_cut_off a)) [
   | inl cut ↦ inl (inr cut)
   | inr whole ↦
       let found = listed_network w legal n c at (ap is_of_network is_verb ∙ network) in
       let e = ended w legal n c found.0 a at found.1 is whole in
-      elim (by c.command found.0 (own_entries n w.history) (share_of (att_of c.command) (host_at_end w n)) a e.ending e.given is_verb e.says e.ends) [
+      elim (by c.command found.0 (own_entries n w.history) (share_of (att_of c.command) (host_at_end w n)) a e.ending
+      e.given is_verb e.says e.ends) [
         | inl so ↦ inl (inl so)
         | inr refused ↦ inr refused
       ]
@@ -106,33 +119,41 @@ refused-ending list c given (Refused cause) error says = (cause, let e = says in
 
 -- a refusal is for what the ending of such a run says
 each-refused : (verb : Verb) (IsFor : Command → List Entry → Share → Cause → Type 0)
-    → ((c : Command) (es : List Entry) (s : Share) (cause : Cause) → c.verb ≡ verb → Ends c es (Refused cause) s → IsFor c es s cause)
+    → ((c : Command) (es : List Entry) (s : Share) (cause : Cause) → c.verb ≡ verb → Ends c es (Refused cause) s
+    → IsFor c es s cause)
     → EachRefusal verb IsFor
 each-refused verb IsFor why w legal n c a at is_verb is = λ list listed error refused.
     let es = own_entries n w.history in
     let s = share_of (att_of c.command) (host_at_end w n) in
     let e = ended w legal n c list a at listed is (ap is_cut_off refused) in
-    let r = refused-ending list c.command e.given e.ending error (subst (Says list c.command e.given e.ending) refused e.says) in
+    let r =
+    refused-ending list c.command e.given e.ending error
+    (subst (Says list c.command e.given e.ending) refused e.says) in
     (r.0, r.1, why c.command es s r.0 is_verb (subst (λ x. Ends c.command es x s) r.2 e.ends))
 
 -- what no cause goes with is answered so
-each-where : (verb : Verb) (AreGood : Command → List Entry → Type 0) (Is : Answer → Type 0) (IsFor : Command → List Entry → Share → Cause → Type 0)
+each-where : (verb : Verb) (AreGood : Command → List Entry → Type 0) (Is : Answer → Type 0)
+    (IsFor : Command → List Entry → Share → Cause → Type 0)
     → is_of_network verb ≡ true → EachIsOrRefused verb Is → EachRefusal verb IsFor
-    → ((c : Command) (es : List Entry) (s : Share) (cause : Cause) → AreGood c es → IsFor c es s cause → ⊥) → EachIsWhere verb AreGood Is
+    → ((c : Command) (es : List Entry) (s : Share) (cause : Cause) → AreGood c es → IsFor c es s cause → ⊥)
+    → EachIsWhere verb AreGood Is
 each-where verb AreGood Is IsFor network answered refused never w legal n c a at is_verb is = λ good.
     elim (answered w legal n c a at is_verb is) [
       | inl so ↦ so
       | inr r ↦
           let found = listed_network w legal n c at (ap is_of_network is_verb ∙ network) in
           let why = refused w legal n c a at is_verb is found.0 found.1 r.0 r.1 in
-          absurd (never c.command (own_entries n w.history) (share_of (att_of c.command) (host_at_end w n)) why.0 good why.2)
+          absurd (never c.command (own_entries n w.history) (share_of (att_of c.command) (host_at_end w n)) why.0
+          good why.2)
     ]
 
 -- ---- ADD
 
 added-by : (w : World) (n : ℕ) (c : Command) (list : NetList) (r : AddResult) (ending : Ending) (given : List Addr)
     → Says list c given ending (answers.Added r)
-    → IsAddedWith list c (own_entries n w.history) ending given (share_of (att_of c) (host_at_end w n)) → IsSound (host_at_end w n) → Ends c (own_entries n w.history) ending (share_of (att_of c) (host_at_end w n)) → HasMade w n c list r
+    → IsAddedWith list c (own_entries n w.history) ending given (share_of (att_of c) (host_at_end w n))
+    → IsSound (host_at_end w n) → Ends c (own_entries n w.history) ending (share_of (att_of c) (host_at_end w n))
+    → HasMade w n c list r
 added-by w n c list r Added given says was sound ends =
     let same : r ≡ result_of_add list (att_of c) c.netns given = let e = says in cc in
     let leased : leases_in (own_replies w n) ≡ given = was.0 in
@@ -140,7 +161,9 @@ added-by w n c list r Added given says was sound ends =
       verb = ends.verb;
       unrefused = (ends.fields, ends.go_on);
       leased = subst (AreCandidates (sets_of list)) (sym leased) was.1;
-      apart = ap (distinct addr_eq) leased ∙ leases-distinct (att_of c) (host_at_end w n) given sound (ap (λ (s : Share). s.leases) was.2);
+      apart =
+          ap (distinct addr_eq) leased
+          ∙ leases-distinct (att_of c) (host_at_end w n) given sound (ap (λ (s : Share). s.leases) was.2);
       result = same ∙ ap (result_of_add list (att_of c) c.netns) (sym leased);
       objects = was.2 ∙ ap (wanted list (att_of c) c.netns (mappings_of list c)) (sym leased);
     }
@@ -154,10 +177,12 @@ was_added w legal n c list r at listed is =
     let e = ended w legal n c list (answers.Added r) at listed is refl in
     added-by w n c.command list r e.ending e.given e.says e.achieved (sound-at_end w legal n) e.ends
 
-answer-add : (c : Command) (list : NetList) (es : List Entry) (s : Share) (a : Answer) (ending : Ending) (given : List Addr)
+answer-add : (c : Command) (list : NetList) (es : List Entry) (s : Share) (a : Answer) (ending : Ending)
+    (given : List Addr)
     → c.verb ≡ verbs.Add → Says list c given ending a → Ends c es ending s → IsResult a ⊎ IsRefusedAnswer a
 answer-add c list es s a Added given verb says ends = inl (_, says)
-answer-add c list es s a Yes given verb says ends = elim ends [ inl del ↦ absurd (not-both c verb del.verb) | inr other ↦ absurd (subst IsOtherVerb verb other) ]
+answer-add c list es s a Yes given verb says ends =
+    elim ends [ inl del ↦ absurd (not-both c verb del.verb) | inr other ↦ absurd (subst IsOtherVerb verb other) ]
 answer-add c list es s a (Skipped skip) given verb says ends = absurd (subst IsOtherVerb verb ends)
 answer-add c list es s a Versions given verb says ends = absurd (subst IsOtherVerb verb ends)
 answer-add c list es s a (Refused cause) given verb says ends = inr (_, says)
@@ -177,14 +202,16 @@ pub was_refused : WasRefused
 was_refused = each-refused verbs.Add IsRefusedFor why-refused
 
 pub begin_leaves_the_host : BeginLeavesTheHost
-begin_leaves_the_host host att netns n reply = by_test (λ (k : Host). k ≡ host) (is_fault reply) host host (λ _. refl) (λ _. refl)
+begin_leaves_the_host host att netns n reply =
+    by_test (λ (k : Host). k ≡ host) (is_fault reply) host host (λ _. refl) (λ _. refl)
 
 -- ---- DEL
 
 deleted-by : (c : Command) (list : NetList) (es : List Entry) (s : Share) (ending : Ending) (given : List Addr)
     → c.verb ≡ verbs.Del → Says list c given ending answers.Yes → Ends c es ending s → HasDeleted c es s
 deleted-by c list es s Added given verb says ends = cc
-deleted-by c list es s Yes given verb says ends = elim ends [ inl del ↦ del.gone | inr other ↦ absurd (subst IsOtherVerb verb other) ]
+deleted-by c list es s Yes given verb says ends =
+    elim ends [ inl del ↦ del.gone | inr other ↦ absurd (subst IsOtherVerb verb other) ]
 deleted-by c list es s (Skipped skip) given verb says ends = cc
 deleted-by c list es s Versions given verb says ends = cc
 deleted-by c list es s (Refused cause) given verb says ends = cc
@@ -193,9 +220,11 @@ pub was_deleted : WasDeleted
 was_deleted w legal n c a at verb is = λ yes.
     let found = listed_network w legal n c at (ap is_of_network verb) in
     let e = ended w legal n c found.0 a at found.1 is (ap is_cut_off yes) in
-    deleted-by c.command found.0 (own_entries n w.history) (share_of (att_of c.command) (host_at_end w n)) e.ending e.given verb (subst (Says found.0 c.command e.given e.ending) yes e.says) e.ends
+    deleted-by c.command found.0 (own_entries n w.history) (share_of (att_of c.command) (host_at_end w n)) e.ending
+    e.given verb (subst (Says found.0 c.command e.given e.ending) yes e.says) e.ends
 
-answer-del : (c : Command) (list : NetList) (es : List Entry) (s : Share) (a : Answer) (ending : Ending) (given : List Addr)
+answer-del : (c : Command) (list : NetList) (es : List Entry) (s : Share) (a : Answer) (ending : Ending)
+    (given : List Addr)
     → c.verb ≡ verbs.Del → Says list c given ending a → Ends c es ending s → IsYes a ⊎ IsRefusedAnswer a
 answer-del c list es s a Added given verb says ends = absurd (not-both c ends.verb verb)
 answer-del c list es s a Yes given verb says ends = inl says
@@ -231,16 +260,21 @@ never-refused : (c : Command) (es : List Entry) (s : Share) (cause : Cause) → 
     → IsRefusedFor c es s cause → ⊥
 never-refused c es s cause good (inl r) = none-some cause (sym good.0 ∙ r.fields)
 never-refused c es s cause good (inr (inl r)) =
-    both_ways (lets_go_on r.by) (cause-refuses 1 r.by.call r.by.reply cause r.decides) (middle-passes lets_go_on [] r.by [] (ap (list_all lets_go_on) (sym r.alone) ∙ good.1))
+    both_ways (lets_go_on r.by) (cause-refuses 1 r.by.call r.by.reply cause r.decides)
+    (middle-passes lets_go_on [] r.by [] (ap (list_all lets_go_on) (sym r.alone) ∙ good.1))
 never-refused c es s cause good (inr (inr r)) = first-fails lets_go_on es r.first.by r.first.refuses good.1
 
 pub unrefused_is_added : UnrefusedIsAdded
-unrefused_is_added = each-where verbs.Add NothingRefuses IsResult IsRefusedFor refl answers_of_add was_refused never-refused
+unrefused_is_added =
+    each-where verbs.Add NothingRefuses IsResult IsRefusedFor refl answers_of_add was_refused never-refused
 
 never-fails : (c : Command) (es : List Entry) (s : Share) (cause : Cause) → NothingFails c es
     → IsUndeletedFor c es cause → ⊥
 never-fails c es s cause good (inl r) = none-some cause (sym good.0 ∙ r.fields)
-never-fails c es s cause good (inr r) = both_ways (has_fault es) good.1 (ap has_fault r.are ∙ fault-last r.past r.by (ap is_fault r.fault))
+never-fails c es s cause good (inr r) =
+    both_ways (has_fault es) good.1 (ap has_fault r.are ∙ fault-last r.past r.by (ap is_fault r.fault))
 
 pub unfailed_is_deleted : UnfailedIsDeleted
-unfailed_is_deleted = each-where verbs.Del NothingFails IsYes (λ c es s. IsUndeletedFor c es) refl answers_of_del was_not_deleted never-fails
+unfailed_is_deleted =
+    each-where verbs.Del NothingFails IsYes (λ c es s. IsUndeletedFor c es) refl answers_of_del
+    was_not_deleted never-fails

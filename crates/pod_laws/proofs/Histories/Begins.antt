@@ -34,15 +34,18 @@ last_begun-push : (att : Att) (h : List Entry) (e : Entry)
 last_begun-push att [] e = begun-step (begins att e) e.command
 last_begun-push att (x ∷ xs) e =
     ap (λ o. option_or o (if begins att x then Some x.command else None)) (last_begun-push att xs e)
-    ∙ or-assoc (if begins att e then Some e.command else None) (last_begun att xs) (if begins att x then Some x.command else None)
+    ∙ or-assoc (if begins att e then Some e.command else None) (last_begun att xs)
+    (if begins att x then Some x.command else None)
 
 pub last_begun-same : (att : Att) (h : List Entry) (e : Entry) → begins att e ≡ false
     → last_begun att (h ++ e ∷ []) ≡ last_begun att h
-last_begun-same att h e not = last_begun-push att h e ∙ ap (λ b. option_or (if b then Some e.command else None) (last_begun att h)) not
+last_begun-same att h e not =
+    last_begun-push att h e ∙ ap (λ b. option_or (if b then Some e.command else None) (last_begun att h)) not
 
 last_begun-new : (att : Att) (h : List Entry) (e : Entry) → begins att e ≡ true
     → last_begun att (h ++ e ∷ []) ≡ Some e.command
-last_begun-new att h e is = last_begun-push att h e ∙ ap (λ b. option_or (if b then Some e.command else None) (last_begun att h)) is
+last_begun-new att h e is =
+    last_begun-push att h e ∙ ap (λ b. option_or (if b then Some e.command else None) (last_begun att h)) is
 
 -- a call of one attachment begins no other
 pub begin-apart : (att other : Att) (call : Call) → att_eq att other ≡ false → is_call_of att call ≡ true
@@ -72,7 +75,8 @@ outside-no_begin other _ is = refl
 
 pub aside-no_begin : (other : Att) (c : Command) (call : Call) → AsksOrCollects c call → is_begin_of other call ≡ false
 aside-no_begin other c call (inl asked) = question-no_begin other call asked
-aside-no_begin other c call (inr collected) = ap (is_begin_of other) (sym collected.deletes) ∙ deletion-no_begin collected.att other collected.kind
+aside-no_begin other c call (inr collected) =
+    ap (is_begin_of other) (sym collected.deletes) ∙ deletion-no_begin collected.att other collected.kind
 
 -- a run begins no other attachment than its own
 pub turn-no_begin : (other : Att) (c : Command) (call : Call) → att_eq (att_of c) other ≡ false → IsTurnOf c call
@@ -90,7 +94,8 @@ no-lead c es Added verb none h = h
 no-lead c es Yes verb none h = not-both c verb h.verb
 no-lead c es (Skipped skip) verb none h = h
 no-lead c es Versions verb none h = h
-no-lead c es (Refused cause) verb none h = let f = h.first.refuses in split_nil f.past f.later h.first.by (sym none ∙ f.are)
+no-lead c es (Refused cause) verb none h =
+    let f = h.first.refuses in split_nil f.past f.later h.first.by (sym none ∙ f.are)
 
 pub first-call : (list : NetList) (c : Command) (es : List Entry) (st : State) (s : Share) (call : Call)
     → c.verb ≡ verbs.Add → es ≡ [] → turn c st ≡ Calls call → Undoing list c es st s → call ≡ Begin (att_of c) c.netns
@@ -112,11 +117,16 @@ later-call : (list : NetList) (c : Command) (es : List Entry) (st : State) (s : 
     → BeginsNone att call
 unfolding turn
 later-call list c es AtBegin s att call verb some left is was = absurd (some was.none)
-later-call list c es (BeforeLeases x xs) s att call verb some left is was = subst (BeginsNone att) (let e : x ≡ call = cc in e) (plugin-no_begin (att_of c) att x left.0.0.0)
-later-call list c es (Leasing set sets given) s att call verb some left is was = subst (BeginsNone att) (let e : LeaseNext (att_of c) (length given) set ≡ call = cc in e) refl
-later-call list c es (AfterLeases x xs given) s att call verb some left is was = subst (BeginsNone att) (let e : x ≡ call = cc in e) (plugin-no_begin (att_of c) att x left.0.0)
-later-call list c es (ReadingCache ending) s att call verb some left is was = subst (BeginsNone att) (let e : CacheGet (att_of c) ≡ call = cc in e) refl
-later-call list c es (Deleting kind ks ending) s att call verb some left is was = subst (BeginsNone att) (let e : deletion (att_of c) kind ≡ call = cc in e) (deletion-no_begin (att_of c) att kind)
+later-call list c es (BeforeLeases x xs) s att call verb some left is was =
+    subst (BeginsNone att) (let e : x ≡ call = cc in e) (plugin-no_begin (att_of c) att x left.0.0.0)
+later-call list c es (Leasing set sets given) s att call verb some left is was =
+    subst (BeginsNone att) (let e : LeaseNext (att_of c) (length given) set ≡ call = cc in e) refl
+later-call list c es (AfterLeases x xs given) s att call verb some left is was =
+    subst (BeginsNone att) (let e : x ≡ call = cc in e) (plugin-no_begin (att_of c) att x left.0.0)
+later-call list c es (ReadingCache ending) s att call verb some left is was =
+    subst (BeginsNone att) (let e : CacheGet (att_of c) ≡ call = cc in e) refl
+later-call list c es (Deleting kind ks ending) s att call verb some left is was =
+    subst (BeginsNone att) (let e : deletion (att_of c) kind ≡ call = cc in e) (deletion-no_begin (att_of c) att kind)
 later-call list c es (Over ending given) s att call verb some left is was = cc
 later-call list c es _ s att call verb some left is was = absurd (subst IsOtherVerb verb was)
 
@@ -128,7 +138,9 @@ granted-done (Leased addr) may h = absurd may
 granted-done _ may h = cc
 
 abbrev IsLast : OpenFact
-IsLast p h m d = d.command.verb ≡ verbs.Add → own_entries m h ≢ [] → list_all lets_go_on (own_entries m h) ≡ true → last_begun (att_of d.command) h ≡ Some (m + 1)
+IsLast p h m d =
+    d.command.verb ≡ verbs.Add → own_entries m h ≢ [] → list_all lets_go_on (own_entries m h) ≡ true
+    → last_begun (att_of d.command) h ≡ Some (m + 1)
 
 -- the entry of a ready ADD that is granted
 last-own : (w : World) (n : ℕ) (c : Placed) (list : NetList) (call : Call) (faulty : Bool)
@@ -138,19 +150,30 @@ last-own w n c list call faulty on last = λ verb some go_on.
     let e = entry_of (host_of w) n call faulty in
     let es = own_entries n w.history in
     let att = att_of c.command in
-    let pushed : own_entries n (w.history ++ e ∷ []) ≡ es ++ e ∷ [] = own_entries-own n w.history e (is_of-own n e refl) in
+    let pushed : own_entries n (w.history ++ e ∷ []) ≡ es ++ e ∷ [] =
+    own_entries-own n w.history e (is_of-own n e refl) in
     let all : list_all lets_go_on (es ++ e ∷ []) ≡ true = ap (list_all lets_go_on) (sym pushed) ∙ go_on in
-    let both = and_parts (list_all lets_go_on es) (list_all lets_go_on (e ∷ [])) (sym (list_all-append lets_go_on es (e ∷ [])) ∙ all) in
+    let both =
+    and_parts (list_all lets_go_on es) (list_all lets_go_on (e ∷ []))
+    (sym (list_all-append lets_go_on es (e ∷ [])) ∙ all) in
     let own = own-state w n c list call faulty on in
     let was = every-run-now Undoing undone-start undone-step w n c list call faulty on in
     elim (none-or-some es) [
       | inl none ↦
-          let first : call ≡ Begin att c.command.netns = first-call list c.command es _ _ call verb none own.turn_is was in
-          let done : is_done e.reply ≡ true = granted-done e.reply (subst (λ j. IsPluginReply (reply_to (host_of w) j faulty)) (sym first) (begin-may att c.command.netns (host_of w) faulty)) (and_parts (lets_go_on e) true both.1).0 in
+          let first : call ≡ Begin att c.command.netns =
+          first-call list c.command es _ _ call verb none own.turn_is was in
+          let done : is_done e.reply ≡ true =
+          granted-done e.reply
+          (subst (λ j. IsPluginReply (reply_to (host_of w) j faulty)) (sym first)
+          (begin-may att c.command.netns (host_of w) faulty))
+          (and_parts (lets_go_on e) true both.1).0 in
           let mine : is_begin_of att call ≡ true = ap (is_begin_of att) first ∙ att_eq-refl att in
           last_begun-new att w.history e (grind (arith, done, mine))
       | inr more ↦
-          last_begun-same att w.history e (not-begins att e (later-call list c.command es _ _ att call verb more own.of_plugins own.turn_is was)) ∙ last n c on.ready.there on.ready.unanswered verb more both.0
+          last_begun-same att w.history e
+          (not-begins att e
+          (later-call list c.command es _ _ att call verb more own.of_plugins own.turn_is was))
+          ∙ last n c on.ready.there on.ready.unanswered verb more both.0
     ]
 
 -- an entry of another command
@@ -160,13 +183,17 @@ last-other : (w : World) (n m : ℕ) (c d : Placed) (list : NetList) (call : Cal
     → IsLast w.plan (w.history ++ entry_of (host_of w) n call faulty ∷ []) m d
 last-other w n m c d list call faulty on differs at is_open last = λ verb some go_on.
     let e = entry_of (host_of w) n call faulty in
-    let mine : own_entries m (w.history ++ e ∷ []) ≡ own_entries m w.history = own_entries-other m w.history e (apart-entry w n m call faulty differs) in
+    let mine : own_entries m (w.history ++ e ∷ []) ≡ own_entries m w.history =
+    own_entries-other m w.history e (apart-entry w n m call faulty differs) in
     let there : own_entries m w.history ≢ [] = λ none. some (mine ∙ none) in
     elim (apart w on.legal m n d c on.ready differs at is_open) [
       | inl none ↦ absurd (there (no-entries (own_entries m w.history) none))
       | inr other ↦
-          let differ : att_eq (att_of c.command) (att_of d.command) ≡ false = other_att (att_of c.command) (att_of d.command) (λ q. other (sym q)) in
-          last_begun-same (att_of d.command) w.history e (not-begins (att_of d.command) e (turn-no_begin (att_of d.command) c.command call differ (turn-of w n c list call faulty on)))
+          let differ : att_eq (att_of c.command) (att_of d.command) ≡ false =
+          other_att (att_of c.command) (att_of d.command) (λ q. other (sym q)) in
+          last_begun-same (att_of d.command) w.history e
+          (not-begins (att_of d.command) e
+          (turn-no_begin (att_of d.command) c.command call differ (turn-of w n c list call faulty on)))
           ∙ last verb there (ap (list_all lets_go_on) (sym mine) ∙ go_on)
     ]
 
@@ -180,9 +207,13 @@ last-changed : (w : World) (n m : ℕ) (c d : Placed) (call : Call) (faulty : Bo
 last-changed w n m c d call faulty on at last = λ verb some go_on.
     let e = entry_of (host_of w) n call faulty in
     let change = change-of w n c call faulty on in
-    let differs : m ≢ n = λ here. not-add c.command.verb (ap (λ (x : Placed). x.command.verb) (sym (ready_is w n m c d on.ready here at)) ∙ verb) change.verb_is in
-    let mine : own_entries m (w.history ++ e ∷ []) ≡ own_entries m w.history = own_entries-other m w.history e (apart-entry w n m call faulty differs) in
-    last_begun-same (att_of d.command) w.history e (not-begins (att_of d.command) e (outside-no_begin (att_of d.command) call change.call_is))
+    let differs : m ≢ n = λ here.
+    not-add c.command.verb (ap (λ (x : Placed). x.command.verb) (sym (ready_is w n m c d on.ready here at)) ∙ verb)
+    change.verb_is in
+    let mine : own_entries m (w.history ++ e ∷ []) ≡ own_entries m w.history =
+    own_entries-other m w.history e (apart-entry w n m call faulty differs) in
+    last_begun-same (att_of d.command) w.history e
+    (not-begins (att_of d.command) e (outside-no_begin (att_of d.command) call change.call_is))
     ∙ last verb (λ none. some (mine ∙ none)) (ap (list_all lets_go_on) (sym mine) ∙ go_on)
 
 last-kept : IsOpenKept IsLast

@@ -23,7 +23,8 @@ pushed es e = λ none. split_nil es [] e (sym none)
 -- the entry of another command is not its own
 pub apart-entry : (w : World) (n m : ℕ) (call : Call) (faulty : Bool) → m ≢ n
     → is_of m (entry_of (host_of w) n call faulty) ≡ false
-apart-entry w n m call faulty differs = let e = entry_of (host_of w) n call faulty in is_of-other m e (other_number e n m refl differs)
+apart-entry w n m call faulty differs =
+    let e = entry_of (host_of w) n call faulty in is_of-other m e (other_number e n m refl differs)
 
 -- ---- until the last entry
 
@@ -50,4 +51,5 @@ until_last-other n (x ∷ xs) e is =
 
 -- an entry that is another's is of the same command
 pub same-place : (n m : ℕ) (e x : Entry) → e.command ≡ m + 1 → x ≡ e → x.command ≡ n + 1 → m ≡ n
-same-place n m e x number same own = let b : x.command ≡ e.command = ap (λ (y : Entry). y.command) same in omega (arith, number, b, own)
+same-place n m e x number same own =
+    let b : x.command ≡ e.command = ap (λ (y : Entry). y.command) same in omega (arith, number, b, own)

@@ -18,8 +18,11 @@ use Rattle.pod_laws.proofs.Histories.Turns.{other_att}
 -- stands alone
 pub record IsKeptBeside (R : Keeping) : Type 0 where
   pub same : (c : Command) (host : Host) → R c host host
-  pub beside : (w : World) (n : ℕ) (c : Placed) (list : NetList) (call : Call) (faulty : Bool) (d : Command) (old : Host) → GoesOn w n c list call faulty → is_exclusive_verb d.verb ≡ false
-      → share_of (att_of d) (after_entry (host_of w) (entry_of (host_of w) n call faulty)) ≡ share_of (att_of d) (host_of w) → R d old (host_of w) → R d old (after_entry (host_of w) (entry_of (host_of w) n call faulty))
+  pub beside : (w : World) (n : ℕ) (c : Placed) (list : NetList) (call : Call) (faulty : Bool) (d : Command)
+      (old : Host) → GoesOn w n c list call faulty → is_exclusive_verb d.verb ≡ false
+      → share_of (att_of d) (after_entry (host_of w) (entry_of (host_of w) n call faulty))
+      ≡ share_of (att_of d) (host_of w)
+      → R d old (host_of w) → R d old (after_entry (host_of w) (entry_of (host_of w) n call faulty))
 
 -- where a command isn't answered, it is kept since its last entry
 abbrev Since : Keeping → OpenFact
@@ -30,7 +33,9 @@ since-own : (R : Keeping) → IsKeptBeside R → (w : World) (n m : ℕ) (d : Pl
 since-own R kept w n m d call faulty same =
     let e = entry_of (host_of w) n call faulty in
     let h = w.history ++ e ∷ [] in
-    inr (subst (λ l. R d.command (after w.plan.pods.opening l) (after w.plan.pods.opening h)) (sym (until_last-own m w.history e (is_of-own m e (ap (λ j. j + 1) (sym same))))) (kept.same d.command (after w.plan.pods.opening h)))
+    inr (subst (λ l. R d.command (after w.plan.pods.opening l) (after w.plan.pods.opening h))
+    (sym (until_last-own m w.history e (is_of-own m e (ap (λ j. j + 1) (sym same)))))
+    (kept.same d.command (after w.plan.pods.opening h)))
 
 since-other : (R : Keeping) → IsKeptBeside R
     → (w : World) (n m : ℕ) (c d : Placed) (list : NetList) (call : Call) (faulty : Bool)
@@ -49,13 +54,17 @@ since-other R kept w n m c d list call faulty on differs at is_open since =
         | inl none ↦ inl (mine ∙ none)
         | inr other ↦ elim since [
           | inl none ↦ inl (mine ∙ none)
-          | inr was ↦ elim (other-entered w n c list call faulty (att_of d.command) on (other_att (att_of c.command) (att_of d.command) (λ q. other (sym q)))) [
-            | inl gc ↦ inl (mine ∙ alone-collecting w n m c d list call faulty on gc differs at is_open)
-            | inr share ↦
-                let now : R d.command last (after_entry (host_of w) e) = kept.beside w n c list call faulty d.command last on beside share was in
-                inr (subst (λ l. R d.command (after opening l) (after opening (w.history ++ e ∷ []))) (sym (until_last-other m w.history e (is_of-other m e far)))
-                (subst (R d.command last) (sym (after-append opening w.history e)) now))
-          ]
+          | inr was ↦
+              elim (other-entered w n c list call faulty (att_of d.command) on
+              (other_att (att_of c.command) (att_of d.command) (λ q. other (sym q)))) [
+                | inl gc ↦ inl (mine ∙ alone-collecting w n m c d list call faulty on gc differs at is_open)
+                | inr share ↦
+                    let now : R d.command last (after_entry (host_of w) e) =
+                    kept.beside w n c list call faulty d.command last on beside share was in
+                    inr (subst (λ l. R d.command (after opening l) (after opening (w.history ++ e ∷ [])))
+                    (sym (until_last-other m w.history e (is_of-other m e far)))
+                    (subst (R d.command last) (sym (after-append opening w.history e)) now))
+              ]
         ]
       ]
     ]
@@ -67,12 +76,15 @@ since-kept R kept w n c call faulty goes since = λ m d at is_open.
       | inl t ↦ since-own R kept w n m d call faulty t.1
       | inr f ↦ elim goes [
         | inl on ↦ since-other R kept w n m c d on.0 call faulty on.1 f.1 at is_open (since m d at is_open)
-        | inr on ↦ inl (replies_of-other m w.history e (other_number e n m refl f.1) ∙ alone-outside w n m c d call faulty on f.1 at is_open)
+        | inr on ↦
+            inl (replies_of-other m w.history e (other_number e n m refl f.1)
+            ∙ alone-outside w n m c d call faulty on f.1 at is_open)
       ]
     ]
 
 pub kept-between : (R : Keeping) → IsKeptBeside R → IsKeptBetween R
-kept-between R kept = record { same = kept.same; since = λ w legal. by-open (Since R) (λ p m d. inl refl) (since-kept R kept) w legal }
+kept-between R kept =
+    record { same = kept.same; since = λ w legal. by-open (Since R) (λ p m d. inl refl) (since-kept R kept) w legal }
 
 -- ---- what holds of every run
 
@@ -81,7 +93,9 @@ abbrev pub RunFact : Type 1
 RunFact = NetList → Command → List Entry → State → Share → Type 0
 
 abbrev pub AtRun : RunFact → World → ℕ → Placed → NetList → Host → Type 0
-AtRun F w n c list host = F list c.command (own_entries n w.history) (state_by list c.command (own_entries n w.history)) (share_of (att_of c.command) host)
+AtRun F w n c list host =
+    F list c.command (own_entries n w.history) (state_by list c.command (own_entries n w.history))
+    (share_of (att_of c.command) host)
 
 -- it holds after one more entry, of this call
 abbrev pub AfterEntry : RunFact → NetList → Command → List Entry → State → Host → ℕ → Bool → Call → Type 0
@@ -90,8 +104,11 @@ AfterEntry F list c es st k n faulty call =
     F list c (es ++ e ∷ []) (advance list c (length es + 1) st e.reply) (share_of (att_of c) (after_entry k e))
 
 abbrev pub IsRunFact : RunFact → Type 0
-IsRunFact F = (w : World) (n : ℕ) (c : Placed) (list : NetList) (call : Call) (faulty : Bool) → GoesOn w n c list call faulty → AtRun F w n c list (host_of w)
-    → AfterEntry F list c.command (own_entries n w.history) (state_by list c.command (own_entries n w.history)) (host_of w) n faulty call
+IsRunFact F =
+    (w : World) (n : ℕ) (c : Placed) (list : NetList) (call : Call) (faulty : Bool) → GoesOn w n c list call faulty
+    → AtRun F w n c list (host_of w)
+    → AfterEntry F list c.command (own_entries n w.history) (state_by list c.command (own_entries n w.history))
+    (host_of w) n faulty call
 
 -- it holds before the first entry, whatever is there
 abbrev pub StartsWith : RunFact → Type 0
@@ -116,25 +133,34 @@ abbrev pub SameShare : Keeping
 SameShare c old new = share_of (att_of c) new ≡ share_of (att_of c) old
 
 pub share-kept : IsKeptBetween SameShare
-share-kept = kept-between SameShare (record { same = λ c host. refl; beside = λ w n c list call faulty d old on alone share was. share ∙ was })
+share-kept =
+    kept-between SameShare
+    (record { same = λ c host. refl; beside = λ w n c list call faulty d old on alone share was. share ∙ was })
 
 abbrev of_share : RunFact → HostFact
 of_share F list c es st host = F list c es st (share_of (att_of c) host)
 
 share-step : (F : RunFact) → IsRunFact F → IsHostFact SameShare (of_share F)
 share-step F step w n c list call faulty old on same was =
-    step w n c list call faulty on (subst (F list c.command (own_entries n w.history) (state_by list c.command (own_entries n w.history))) (sym same) was)
+    step w n c list call faulty on
+    (subst (F list c.command (own_entries n w.history) (state_by list c.command (own_entries n w.history)))
+    (sym same) was)
 
 -- a fact that holds at the start of each run, and that each own entry keeps, holds of every run at its last entry
 pub every-run : (F : RunFact) → StartsWith F → IsRunFact F → (w : World) → Legal w
     → (n : ℕ) (c : Placed) (list : NetList) → slice_get (commands_of w.plan) n ≡ Some c
     → list_for w.plan c.command ≡ Some list → AtRun F w n c list (host_at_end w n)
-every-run F start step w legal n c list at listed = each-run SameShare (of_share F) share-kept (λ list c host. start list c (share_of (att_of c) host)) (share-step F step) w legal n c list at listed
+every-run F start step w legal n c list at listed =
+    each-run SameShare (of_share F) share-kept (λ list c host. start list c (share_of (att_of c) host))
+    (share-step F step) w legal n c list at listed
 
 -- the fact about a ready run, at the host as it is
 pub every-run-now : (F : RunFact) → StartsWith F → IsRunFact F
     → (w : World) (n : ℕ) (c : Placed) (list : NetList) (call : Call) (faulty : Bool) → GoesOn w n c list call faulty
     → AtRun F w n c list (host_of w)
 every-run-now F start step w n c list call faulty on =
-    let now = each-run-now SameShare (of_share F) share-kept (λ list c host. start list c (share_of (att_of c) host)) (share-step F step) w n c list call faulty on in
-    subst (F list c.command (own_entries n w.history) (state_by list c.command (own_entries n w.history))) (sym now.keeps) now.holds
+    let now =
+    each-run-now SameShare (of_share F) share-kept (λ list c host. start list c (share_of (att_of c) host))
+    (share-step F step) w n c list call faulty on in
+    subst (F list c.command (own_entries n w.history) (state_by list c.command (own_entries n w.history)))
+    (sym now.keeps) now.holds

@@ -59,7 +59,8 @@ fit-after_leases list c (x ∷ xs) given h = h
 
 fit-leasing : (list : NetList) (c : Command) (left : List RangeSet) (given : List Addr)
     → LeftFit list c (leasing list c left given)
-fit-leasing list c [] given = fit-after_leases list c (back_of list c given) given (of_kinds-back list (att_of c) c.netns _ given)
+fit-leasing list c [] given =
+    fit-after_leases list c (back_of list c given) given (of_kinds-back list (att_of c) c.netns _ given)
 fit-leasing list c (s ∷ ss) given = tt
 
 fit-before_leases : (list : NetList) (c : Command) (left : List Call)
@@ -90,7 +91,12 @@ fit-stays list c =
 pub left-fit : (list : NetList) (c : Command) (rs : List Reply) → LeftFit list c (state_after list c rs)
 left-fit list c rs =
     true-after (LeftFit list c) list c rs (fit-stays list c)
-    (record { begins = λ fields. tt; finding = tt; collecting = λ gc. gc; status = fit-asking list c (status_questions list c) (status-asks list c) })
+    (record {
+      begins = λ fields. tt;
+      finding = tt;
+      collecting = λ gc. gc;
+      status = fit-asking list c (status_questions list c) (status-asks list c);
+    })
 
 -- ---- runs that make no attachment
 
@@ -118,7 +124,8 @@ IsAside (Over ending given) = IsNoResult ending
 -- what holds of each of them, said by what it is of each kind
 pub by-aside : (P : State → Type 0) → P FindingEntry → ((next : Question) (left : List Question) → P (Asking next left))
     → ((change : Call) → P (Changing change)) → ((work : Work) (faults : List ℕ) → P (Collecting work faults))
-    → ((ending : Ending) (given : List Addr) → IsNoResult ending → P (Over ending given)) → (st : State) → IsAside st → P st
+    → ((ending : Ending) (given : List Addr) → IsNoResult ending → P (Over ending given)) → (st : State) → IsAside st
+    → P st
 by-aside P entry asking change work over AtBegin h = absurd h
 by-aside P entry asking change work over (BeforeLeases next left) h = absurd h
 by-aside P entry asking change work over (Leasing next left given) h = absurd h
@@ -152,8 +159,10 @@ aside-advance list c number (Leasing next left given) r h = absurd h
 aside-advance list c number (AfterLeases next left given) r h = absurd h
 aside-advance list c number (ReadingCache ending) r h = absurd h
 aside-advance list c number (Deleting next left ending) r h = absurd h
-aside-advance list c number FindingEntry r h = by-entry IsAside list c number r (λ cause. tt) (λ cached. aside-asking (check_questions list c cached))
-aside-advance list c number (Asking next left) r h = by-question IsAside number next left r (λ cause. tt) (aside-asking left)
+aside-advance list c number FindingEntry r h =
+    by-entry IsAside list c number r (λ cause. tt) (λ cached. aside-asking (check_questions list c cached))
+aside-advance list c number (Asking next left) r h =
+    by-question IsAside number next left r (λ cause. tt) (aside-asking left)
 aside-advance list c number (Changing change) r h = changed-no_result number r
 aside-advance list c number (Collecting work faults) r h = tt
 aside-advance list c number (Over ending given) r h = h
@@ -179,11 +188,14 @@ pub aside-start : (list : NetList) (c : Command) (v : Verb) → IsOtherVerb v �
 aside-start list c verbs.Add h = absurd h
 aside-start list c verbs.Del h = absurd h
 aside-start list c verbs.Check h =
-    by-unless IsAside (del_refusal c) (if list.disable_check then Over (Skipped skips.Check) [] else FindingEntry) (λ cause. tt)
+    by-unless IsAside (del_refusal c)
+    (if list.disable_check then Over (Skipped skips.Check) [] else FindingEntry) (λ cause. tt)
     (λ none. by-either IsAside list.disable_check (Over (Skipped skips.Check) []) FindingEntry tt tt)
 aside-start list c verbs.Gc h =
     by-unless_early IsAside list.version list.disable_gc (Collecting (start_work (gc_of list c)) []) (λ cause. tt) tt tt
-aside-start list c verbs.Status h = by-unless_old IsAside list.version (asking (status_questions list c)) (λ cause. tt) (aside-asking (status_questions list c))
+aside-start list c verbs.Status h =
+    by-unless_old IsAside list.version (asking (status_questions list c)) (λ cause. tt)
+    (aside-asking (status_questions list c))
 aside-start list c verbs.Version h = tt
 aside-start list c verbs.NsAdd h = tt
 aside-start list c verbs.NsDel h = tt
@@ -193,8 +205,10 @@ aside-start list c verbs.Flush h = tt
 -- what holds of each state aside, and where an ADD or a DEL begins, holds at the start
 pub by-start : (P : State → Type 0) (list : NetList) (c : Command) (v : Verb) → ((s : State) → IsAside s → P s)
     → P AtBegin → P (ReadingCache Yes) → P (start_of list v c)
-by-start P list c verbs.Add aside begin cache = by-unless P (add_refusal c) AtBegin (λ cause. aside (Over (Refused cause) []) tt) (λ none. begin)
-by-start P list c verbs.Del aside begin cache = by-unless P (del_refusal c) (ReadingCache Yes) (λ cause. aside (Over (Refused cause) []) tt) (λ none. cache)
+by-start P list c verbs.Add aside begin cache =
+    by-unless P (add_refusal c) AtBegin (λ cause. aside (Over (Refused cause) []) tt) (λ none. begin)
+by-start P list c verbs.Del aside begin cache =
+    by-unless P (del_refusal c) (ReadingCache Yes) (λ cause. aside (Over (Refused cause) []) tt) (λ none. cache)
 by-start P list c v aside begin cache = aside (start_of list v c) (aside-start list c v tt)
 
 pub faulted-no_result : (number : ℕ) (ending : Ending) → IsNoResult (faulted number ending)

@@ -21,7 +21,9 @@ MakesOne c (e ∷ []) = outside_start c ≡ Changing e.call
 MakesOne c (e ∷ f ∷ es) = ⊥
 
 abbrev AllMakeOne : Plan → List Entry → Type 0
-AllMakeOne p h = (m : ℕ) (d : Placed) → slice_get (commands_of p) m ≡ Some d → list_for p d.command ≡ None → MakesOne d.command (own_entries m h)
+AllMakeOne p h =
+    (m : ℕ) (d : Placed) → slice_get (commands_of p) m ≡ Some d → list_for p d.command ≡ None
+    → MakesOne d.command (own_entries m h)
 
 -- the first call
 first-change : (c : Command) (s : State) (call : Call) → LeftIsOutside c s → turn c s ≡ Calls call → s ≡ Changing call
@@ -38,18 +40,24 @@ after-change c e one = ap (λ s. outside_advance 1 s e.reply) one
 one-more : (c : Command) (es : List Entry) (e : Entry) → MakesOne c es
     → turn c (outside_after c (replies_in es)) ≡ Calls e.call → MakesOne c (es ++ e ∷ [])
 one-more c [] e was is = first-change c (outside_start c) e.call (left-is-outside c []) is
-one-more c (x ∷ []) e was is = absurd (over-calls c (changed 1 x.reply) [] e.call (ap (turn c) (sym (after-change c x was)) ∙ is))
+one-more c (x ∷ []) e was is =
+    absurd (over-calls c (changed 1 x.reply) [] e.call (ap (turn c) (sym (after-change c x was)) ∙ is))
 one-more c (x ∷ y ∷ es) e was is = absurd was
 
 one-other : (m n : ℕ) (d : Command) (h : List Entry) (e : Entry) → e.command ≡ n + 1 → m ≢ n
     → MakesOne d (own_entries m h) → MakesOne d (own_entries m (h ++ e ∷ []))
-one-other m n d h e number differs was = subst (MakesOne d) (sym (own_entries-other m h e (is_of-other m e (other_number e n m number differs)))) was
+one-other m n d h e number differs was =
+    subst (MakesOne d) (sym (own_entries-other m h e (is_of-other m e (other_number e n m number differs)))) was
 
 one-kept : EntriesKeep AllMakeOne
 one-kept w n c list call faulty on was = λ m d at none.
     let e = entry_of (host_of w) n call faulty in
     elim (eqb_tells m n) [
-      | inl t ↦ absurd (none-some list (sym none ∙ ap (λ (x : Placed). list_for w.plan x.command) (ready_is w n m c d on.ready t.1 at) ∙ on.listed))
+      | inl t ↦
+          absurd (none-some list
+          (sym none
+          ∙ ap (λ (x : Placed). list_for w.plan x.command) (ready_is w n m c d on.ready t.1 at)
+          ∙ on.listed))
       | inr f ↦ one-other m n d.command w.history e refl f.1 (was m d at none)
     ]
 
@@ -60,9 +68,11 @@ one-changed w n c call faulty on was = λ m d at none.
     elim (eqb_tells m n) [
       | inl t ↦
           let same : d ≡ c = ready_is w n m c d on.ready t.1 at in
-          let turn_is : turn c.command (outside_after c.command (replies_in (own_entries n h))) ≡ Calls call = on.turn_is in
+          let turn_is : turn c.command (outside_after c.command (replies_in (own_entries n h))) ≡ Calls call =
+          on.turn_is in
           let now : MakesOne c.command (own_entries n (h ++ e ∷ [])) =
-          subst (MakesOne c.command) (sym (own_entries-own n h e (is_of-own n e refl))) (one-more c.command (own_entries n h) e (was n c on.ready.there on.unlisted) turn_is) in
+          subst (MakesOne c.command) (sym (own_entries-own n h e (is_of-own n e refl)))
+          (one-more c.command (own_entries n h) e (was n c on.ready.there on.unlisted) turn_is) in
           let Q : ℕ → Placed → Type 0 = λ j x. MakesOne x.command (own_entries j (h ++ e ∷ [])) in
           subst (λ j. Q j d) (sym t.1) (subst (Q n) (sym same) now)
       | inr f ↦ one-other m n d.command h e refl f.1 (was m d at none)
@@ -114,7 +124,8 @@ changed-script w n c a none one due =
     let rs = own_replies w n in
     let turn_is : turn c.command (outside_after c.command (replies_in (own_entries n w.history))) ≡ Finishes finish =
     ap (λ p. turn_by p c.command rs) (sym none) ∙ due.1 in
-    changed-by c.command (own_entries n w.history) a finish one turn_is (due.2 ∙ ap (λ p. answer_by p c.command finish) none)
+    changed-by c.command (own_entries n w.history) a finish one turn_is
+    (due.2 ∙ ap (λ p. answer_by p c.command finish) none)
 
 unlisted : (p : Plan) (c : Command) → is_of_network c.verb ≡ false → list_for p c ≡ None
 unfolding list_for

@@ -18,7 +18,8 @@ tells-start list c s = λ verb. (refl, tells-start_of list c c.verb verb)
 
 tells-step : IsRunFact OnlyTells
 tells-step w n c list call faulty on was = λ verb.
-    absurd (over-calls c.command Versions [] call (ap (turn c.command) (sym (was verb).1) ∙ (own-state w n c list call faulty on).turn_is))
+    absurd (over-calls c.command Versions [] call
+    (ap (turn c.command) (sym (was verb).1) ∙ (own-state w n c list call faulty on).turn_is))
 
 told : (ending : Ending) (given : List Addr) → Over ending given ≡ Over Versions [] → (given ≡ []) × (ending ≡ Versions)
 told ending given is = (cc, cc)
@@ -26,5 +27,7 @@ told ending given is = (cc, cc)
 pub versions_are_the_lists : VersionsAreTheLists
 versions_are_the_lists w legal n c a at verb is = λ list listed whole.
     let tells = every-run OnlyTells tells-start tells-step w legal n c list at listed verb in
-    answered-by list c.command _ a (λ st. st ≡ Over Versions []) (λ ending. (own_entries n w.history ≡ []) × (ending ≡ Versions))
-    (λ ending given same. let t = told ending given same in (t.0, (tells.0, t.1))) (λ work faults same. cc) (over-by w legal n c list a at listed is whole) tells.1
+    answered-by list c.command _ a (λ st. st ≡ Over Versions [])
+    (λ ending. (own_entries n w.history ≡ []) × (ending ≡ Versions))
+    (λ ending given same. let t = told ending given same in (t.0, (tells.0, t.1))) (λ work faults same. cc)
+    (over-by w legal n c list a at listed is whole) tells.1

@@ -50,14 +50,21 @@ asked-none host all = record { past = []; are = refl; granted = refl }
 
 asked-has : (host : Host) (all : List Question) (number : ℕ) (q : Question) (qs : List Question) (b : Bool)
     → grants host q ≡ b → HasAsked host all (q ∷ qs) → IsAsking host all (at_question number q qs (Has b))
-asked-has host all number q qs true is a = asked-all host all qs (record { past = a.past ++ q ∷ []; are = a.are ∙ sym (append_assoc a.past (q ∷ []) qs); granted = list_all-push (grants host) a.past q a.granted is })
-asked-has host all number q qs false is a = (refl, (q, record { past = a.past; later = qs; are = a.are; pass = a.granted; fails = is }, refl))
+asked-has host all number q qs true is a =
+    asked-all host all qs (record {
+      past = a.past ++ q ∷ [];
+      are = a.are ∙ sym (append_assoc a.past (q ∷ []) qs);
+      granted = list_all-push (grants host) a.past q a.granted is;
+    })
+asked-has host all number q qs false is a =
+    (refl, (q, record { past = a.past; later = qs; are = a.are; pass = a.granted; fails = is }, refl))
 
 pub asked-reply : (host : Host) (all : List Question) (number : ℕ) (q : Question) (qs : List Question)
     → tells q.call ≡ true → HasAsked host all (q ∷ qs)
     → IsAsking host all (at_question number q qs (apply host q.call).1)
 asked-reply host all number q qs is a =
-    subst (λ r. IsAsking host all (at_question number q qs r)) (sym (told-reply host q.call is)) (asked-has host all number q qs (grants host q) refl a)
+    subst (λ r. IsAsking host all (at_question number q qs r)) (sym (told-reply host q.call is))
+    (asked-has host all number q qs (grants host q) refl a)
 
 -- ---- all granted, or a first one denied
 
@@ -70,10 +77,13 @@ pub by-asked : (host : Host) (questions : List Question) (IsLack : Cause → Typ
     → list_all (grants host) questions ≡ test
     → ((question : Question) → IsFirstDenied host questions question → IsLack question.lack)
     → EndsAsked host questions ending → EndsByTest test ending (EndsByDenied host questions IsLack ending)
-by-asked host questions IsLack test Yes same kind ends = subst (λ b. EndsByTest b Yes (EndsByDenied host questions IsLack Yes)) (sym ends ∙ same) refl
+by-asked host questions IsLack test Yes same kind ends =
+    subst (λ b. EndsByTest b Yes (EndsByDenied host questions IsLack Yes)) (sym ends ∙ same) refl
 by-asked host questions IsLack test (Refused cause) same kind ends =
-    let denied : EndsByDenied host questions IsLack (Refused cause) = record { question = ends.0; first = ends.1; lack = kind ends.0 ends.1; ending_is = ap Refused (sym ends.2) } in
-    subst (λ b. EndsByTest b (Refused cause) (EndsByDenied host questions IsLack (Refused cause))) (sym (denied-some host questions ends.0 ends.1) ∙ same) denied
+    let denied : EndsByDenied host questions IsLack (Refused cause) =
+    record { question = ends.0; first = ends.1; lack = kind ends.0 ends.1; ending_is = ap Refused (sym ends.2) } in
+    subst (λ b. EndsByTest b (Refused cause) (EndsByDenied host questions IsLack (Refused cause)))
+    (sym (denied-some host questions ends.0 ends.1) ∙ same) denied
 by-asked host questions IsLack test Added same kind ends = absurd ends
 by-asked host questions IsLack test (Skipped skip) same kind ends = absurd ends
 by-asked host questions IsLack test Versions same kind ends = absurd ends

@@ -29,8 +29,10 @@ asking-turn : (list : NetList) (c : Command) (st : State) (call : Call) → only
     → LeftFit list c st → turn c st ≡ Calls call → is_question call ≡ true
 unfolding turn
 asking-turn list c FindingEntry call only aside fit is = ap is_question (let e : call ≡ CacheGet (att_of c) = cc in e)
-asking-turn list c (Asking q qs) call only aside fit is = ap is_question (let e : call ≡ q.call = cc in e) ∙ asked-is_question list q.call fit.0
-asking-turn list c (Collecting work faults) call only aside fit is = absurd (both_ways (only_asks c.verb) (ap only_asks fit) only)
+asking-turn list c (Asking q qs) call only aside fit is =
+    ap is_question (let e : call ≡ q.call = cc in e) ∙ asked-is_question list q.call fit.0
+asking-turn list c (Collecting work faults) call only aside fit is =
+    absurd (both_ways (only_asks c.verb) (ap only_asks fit) only)
 asking-turn list c (Changing change) call only aside fit is = absurd fit
 asking-turn list c (Over ending given) call only aside fit is = cc
 asking-turn list c _ call only aside fit is = absurd aside
@@ -39,12 +41,15 @@ pub question-turn : (w : World) (n : ℕ) (c : Placed) (list : NetList) (call : 
     → GoesOn w n c list call faulty → only_asks c.command.verb ≡ true → is_question call ≡ true
 question-turn w n c list call faulty on only =
     let own = own-state w n c list call faulty on in
-    asking-turn list c.command _ call only (every-run-now StaysAside aside-begun aside-step w n c list call faulty on (other-verb c.command.verb only)) own.fits own.turn_is
+    asking-turn list c.command _ call only
+    (every-run-now StaysAside aside-begun aside-step w n c list call faulty on (other-verb c.command.verb only))
+    own.fits own.turn_is
 
 -- its entry leaves the host
 pub question-entered : DoesByVerb (λ v. only_asks v ≡ true) (λ c old new. new ≡ old)
 question-entered w n c list call faulty on only =
-    on-entry (λ k. k ≡ host_of w) (host_of w) n call faulty refl (λ f. question-leaves (host_of w) call (question-turn w n c list call faulty on only))
+    on-entry (λ k. k ≡ host_of w) (host_of w) n call faulty refl
+    (λ f. question-leaves (host_of w) call (question-turn w n c list call faulty on only))
 
 -- ---- every history
 
@@ -55,4 +60,5 @@ of-network verbs.Version is = refl
 of-network _ is = cc
 
 pub each_question_leaves_the_host : EachQuestionLeavesTheHost
-each_question_leaves_the_host = each-entry_of (λ v. only_asks v ≡ true) (λ c old new. new ≡ old) of-network question-entered
+each_question_leaves_the_host =
+    each-entry_of (λ v. only_asks v ≡ true) (λ c old new. new ≡ old) of-network question-entered

@@ -12,19 +12,23 @@ use Rattle.pod_laws.proofs.Histories.Turns.{turn-of}
 
 -- each bridge of the one host is in the other
 abbrev pub KeepsBridges : Host → Host → Type 0
-KeepsBridges old new = (name : List ℕ) (mac : Mac) → has_object old (BridgeAt name mac) ≡ true → has_object new (BridgeAt name mac) ≡ true
+KeepsBridges old new =
+    (name : List ℕ) (mac : Mac) → has_object old (BridgeAt name mac) ≡ true → has_object new (BridgeAt name mac) ≡ true
 
 bridges-stay : (host : Host) (call : Call) → IsSound host → IsAllowed host call → is_from_outside call ≡ false
     → KeepsBridges host (apply host call).0
 bridges-stay host call sound allowed inside = λ name mac.
-    bridge-stays (is_bridge_with name mac) (λ l is. passes-host_bridges name l (and_parts (is_host_bridge name l) (mac_eq l.mac mac) is).0) host call sound allowed inside
+    bridge-stays (is_bridge_with name mac)
+    (λ l is. passes-host_bridges name l (and_parts (is_host_bridge name l) (mac_eq l.mac mac) is).0) host call
+    sound allowed inside
 
 bridges-entered : (w : World) (n : ℕ) (c : Placed) (list : NetList) (call : Call) (faulty : Bool)
     → GoesOn w n c list call faulty
     → KeepsBridges (host_of w) (after_entry (host_of w) (entry_of (host_of w) n call faulty))
 bridges-entered w n c list call faulty on =
     on-entry (KeepsBridges (host_of w)) (host_of w) n call faulty (λ name mac there. there)
-    (λ f. bridges-stay (host_of w) call (sound_host w on.legal) (on.allowed f) (turn-inside c.command call (turn-of w n c list call faulty on)))
+    (λ f. bridges-stay (host_of w) call (sound_host w on.legal) (on.allowed f)
+    (turn-inside c.command call (turn-of w n c list call faulty on)))
 
 -- ---- what stays between a command's entries
 
@@ -39,7 +43,9 @@ keeps-same c host = record { share = refl; bridges = λ name mac there. there; a
 -- an entry of another command, where neither stands alone
 keeps-on : (w : World) (n : ℕ) (c : Placed) (list : NetList) (call : Call) (faulty : Bool) (d : Command) (old : Host)
     → GoesOn w n c list call faulty → is_exclusive_verb d.verb ≡ false
-    → share_of (att_of d) (after_entry (host_of w) (entry_of (host_of w) n call faulty)) ≡ share_of (att_of d) (host_of w) → KeepsAsked d old (host_of w) → KeepsAsked d old (after_entry (host_of w) (entry_of (host_of w) n call faulty))
+    → share_of (att_of d) (after_entry (host_of w) (entry_of (host_of w) n call faulty))
+    ≡ share_of (att_of d) (host_of w)
+    → KeepsAsked d old (host_of w) → KeepsAsked d old (after_entry (host_of w) (entry_of (host_of w) n call faulty))
 keeps-on w n c list call faulty d old on beside kept was = record {
   share = kept ∙ was.share;
   bridges = λ name mac there. bridges-entered w n c list call faulty on name mac (was.bridges name mac there);

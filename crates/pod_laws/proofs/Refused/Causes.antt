@@ -38,7 +38,8 @@ appended-reply None host next = tt
 appended-reply (Some tag) host next = tt
 
 bridge-reply : (host : Host) (o : Option Link) (bridge : Link) → IsPluginStep (bridge_or_new host o bridge)
-bridge-reply host (Some link) bridge = by_test IsPluginReply (is_bridge link.kind) Done (Taken link.tag) (λ _. tt) (λ _. tt)
+bridge-reply host (Some link) bridge =
+    by_test IsPluginReply (is_bridge link.kind) Done (Taken link.tag) (λ _. tt) (λ _. tt)
 bridge-reply host None bridge = tt
 
 begin-reply : (host : Host) (att : Att) (netns : List ℕ) → IsPluginStep (begin_of host att netns)
@@ -48,27 +49,42 @@ begin-reply host att netns =
 
 plugin-reply : (att : Att) (host : Host) (call : Call) → is_plugin_call_of att call ≡ true
     → IsPluginStep (apply host call)
-plugin-reply att host (BridgeEnsure name mtu promisc) is = bridge-reply host (find (is_host_link name) host.links) (new_bridge name mtu promisc)
+plugin-reply att host (BridgeEnsure name mtu promisc) is =
+    bridge-reply host (find (is_host_link name) host.links) (new_bridge name mtu promisc)
 plugin-reply att host (GatewayEnsure bridge cidr) is =
     by_test IsPluginStep (has_host_bridge host bridge) _ _
-    (λ _. by_test IsPluginStep (list_any (is_same_addr (new_gateway bridge cidr)) host.addresses) _ _ (λ _. tt) (λ _. tt)) (λ _. tt)
-plugin-reply att host (ForwardEnsure family) is = by_test IsPluginStep (list_any (is_same_setting (new_forward family)) host.settings) _ _ (λ _. tt) (λ _. tt)
+    (λ _.
+    by_test IsPluginStep (list_any (is_same_addr (new_gateway bridge cidr)) host.addresses) _ _ (λ _. tt) (λ _. tt))
+    (λ _. tt)
+plugin-reply att host (ForwardEnsure family) is =
+    by_test IsPluginStep (list_any (is_same_setting (new_forward family)) host.settings) _ _ (λ _. tt) (λ _. tt)
 plugin-reply att host (VethAdd h i) is =
     by_test IsPluginStep (has_named_ns host i.ns) _ _
     (λ _. by_test IsPluginStep (master_is_bridge_or_none host h.master) _ _
-    (λ _. appended-reply (option_map (λ l. l.tag) (option_or (link_at host i.ns i.name) (link_at host h.ns h.name))) host _) (λ _. tt)) (λ _. tt)
+    (λ _. appended-reply (option_map (λ l. l.tag) (option_or (link_at host i.ns i.name) (link_at host h.ns h.name)))
+    host _)
+    (λ _. tt))
+    (λ _. tt)
 plugin-reply att host (MacvlanAdd link) is =
     by_test IsPluginStep (has_named_ns host link.ns) _ _
-    (λ _. by_test IsPluginStep (has_master host link.master) _ _ (λ _. appended-reply (option_map (λ l. l.tag) (link_at host link.ns link.name)) host _) (λ _. tt)) (λ _. tt)
-plugin-reply att host (LinkSet own key mac mtu tx_qlen promisc allmulti) is = by_test IsPluginStep (list_any (is_own_at own key) host.links) _ _ (λ _. tt) (λ _. tt)
+    (λ _. by_test IsPluginStep (has_master host link.master) _ _
+    (λ _. appended-reply (option_map (λ l. l.tag) (link_at host link.ns link.name)) host _) (λ _. tt))
+    (λ _. tt)
+plugin-reply att host (LinkSet own key mac mtu tx_qlen promisc allmulti) is =
+    by_test IsPluginStep (list_any (is_own_at own key) host.links) _ _ (λ _. tt) (λ _. tt)
 plugin-reply att host (AddrAdd obj) is =
-    by_test IsPluginStep (has_link_of host obj.ns obj.link obj.tag) _ _ (λ _. appended-reply (option_map (λ a. a.tag) (find (is_same_addr obj) host.addresses)) host _) (λ _. tt)
+    by_test IsPluginStep (has_link_of host obj.ns obj.link obj.tag) _ _
+    (λ _. appended-reply (option_map (λ a. a.tag) (find (is_same_addr obj) host.addresses)) host _) (λ _. tt)
 plugin-reply att host (RouteAdd obj) is =
-    by_test IsPluginStep (has_link_of host obj.ns obj.link obj.tag) _ _ (λ _. appended-reply (option_map (λ a. a.tag) (find (is_same_route obj) host.routes)) host _) (λ _. tt)
-plugin-reply att host (RuleAppend rule) is = by_test IsPluginStep (list_any (λ r. rule_eq r rule) host.rules) _ _ (λ _. tt) (λ _. tt)
+    by_test IsPluginStep (has_link_of host obj.ns obj.link obj.tag) _ _
+    (λ _. appended-reply (option_map (λ a. a.tag) (find (is_same_route obj) host.routes)) host _) (λ _. tt)
+plugin-reply att host (RuleAppend rule) is =
+    by_test IsPluginStep (list_any (λ r. rule_eq r rule) host.rules) _ _ (λ _. tt) (λ _. tt)
 plugin-reply att host (SettingSet s) is =
-    by_test IsPluginStep (has_named_ns host s.ns) _ _ (λ _. appended-reply (option_map (λ a. a.tag) (find (is_same_setting s) host.settings)) host _) (λ _. tt)
-plugin-reply att host (CachePut own cached) is = by_test IsPluginStep (list_any (λ c. is_own own c.tag) host.cached) _ _ (λ _. tt) (λ _. tt)
+    by_test IsPluginStep (has_named_ns host s.ns) _ _
+    (λ _. appended-reply (option_map (λ a. a.tag) (find (is_same_setting s) host.settings)) host _) (λ _. tt)
+plugin-reply att host (CachePut own cached) is =
+    by_test IsPluginStep (list_any (λ c. is_own own c.tag) host.cached) _ _ (λ _. tt) (λ _. tt)
 plugin-reply att host _ is = cc
 
 -- ---- the replies that a lease may get
@@ -98,7 +114,9 @@ pub record Refuses (number : ℕ) (call : Call) (reply : Reply) (cause : Cause) 
   pub decides : IsCause number call reply cause
 
 no_link-refuses : (number : ℕ) (call : Call) → IsMacvlan call → Refuses number call NoLink causes.NoMaster
-no_link-refuses number call link = subst (λ j. Refuses number j NoLink causes.NoMaster) (sym link.1) (record { refuses = refl; decides = no_master number link.0 })
+no_link-refuses number call link =
+    subst (λ j. Refuses number j NoLink causes.NoMaster) (sym link.1)
+    (record { refuses = refl; decides = no_master number link.0 })
 
 plugin-refuses : (number : ℕ) (call : Call) (r : Reply) → IsPluginReply r → (r ≡ NoLink → IsMacvlan call)
     → (r ≡ Done → ⊥) → Refuses number call r (cause_of 0 number r)
@@ -118,7 +136,8 @@ lease-refuses : (number : ℕ) (att : Att) (place : ℕ) (set : RangeSet) (r : R
     → ((a : Addr) → r ≡ Leased a → ⊥) → Refuses number (LeaseNext att place set) r (cause_of place number r)
 lease-refuses number att place set Empty may not = record { refuses = refl; decides = pool_empty number att place set }
 lease-refuses number att place set (Leased addr) may not = absurd (not addr refl)
-lease-refuses number att place set Fault may not = record { refuses = refl; decides = fault number (LeaseNext att place set) }
+lease-refuses number att place set Fault may not =
+    record { refuses = refl; decides = fault number (LeaseNext att place set) }
 lease-refuses number att place set Done may not = absurd may
 lease-refuses number att place set NoNs may not = absurd may
 lease-refuses number att place set NoLink may not = absurd may
@@ -141,12 +160,15 @@ plugin-may att k call false is = plugin-reply att k call is
 pub lease-may : (att : Att) (place : ℕ) (set : RangeSet) (k : Host) (faulty : Bool)
     → IsLeaseReply (reply_to k (LeaseNext att place set) faulty)
 lease-may att place set k true = tt
-lease-may att place set k false = lease-reply k att place (pick_of set (last_leased k att.network place) (leased_addresses k att.network))
+lease-may att place set k false =
+    lease-reply k att place (pick_of set (last_leased k att.network place) (leased_addresses k att.network))
 
 begin-found : (host : Host) (att : Att) (netns : List ℕ) → (begin_of host att netns).1 ≡ NoLink → ⊥
 begin-found host att netns =
-    by_test (λ (r : Reply). r ≡ NoLink → ⊥) (is_host_or_ns host.namespaces netns) (if has_objects host att then Taken _ else Done) NoNs
-    (λ _. by_test (λ (r : Reply). r ≡ NoLink → ⊥) (has_objects host att) (Taken _) Done (λ _ e. cc) (λ _ e. cc)) (λ _ e. cc)
+    by_test (λ (r : Reply). r ≡ NoLink → ⊥) (is_host_or_ns host.namespaces netns)
+    (if has_objects host att then Taken _ else Done) NoNs
+    (λ _. by_test (λ (r : Reply). r ≡ NoLink → ⊥) (has_objects host att) (Taken _) Done (λ _ e. cc) (λ _ e. cc))
+    (λ _ e. cc)
 
 begin-over : (att : Att) (netns : List ℕ) (k : Host) (faulty : Bool) → reply_to k (Begin att netns) faulty ≡ NoLink
     → IsMacvlan (Begin att netns)
@@ -161,14 +183,20 @@ plugin-over k call false over e = over e
 pub begin-refused : (att : Att) (netns : List ℕ) (k : Host) (faulty : Bool) (number : ℕ)
     → let r = reply_to k (Begin att netns) faulty in (r ≡ Done → ⊥)
     → Refuses number (Begin att netns) r (cause_of 0 number r)
-begin-refused att netns k faulty number not = plugin-refuses number (Begin att netns) (reply_to k (Begin att netns) faulty) (begin-may att netns k faulty) (begin-over att netns k faulty) not
+begin-refused att netns k faulty number not =
+    plugin-refuses number (Begin att netns) (reply_to k (Begin att netns) faulty) (begin-may att netns k faulty)
+    (begin-over att netns k faulty) not
 
 pub plugin-refused : (att : Att) (k : Host) (call : Call) (faulty : Bool) (number : ℕ)
     → is_plugin_call_of att call ≡ true → ((apply k call).1 ≡ NoLink → IsMacvlan call)
     → let r = reply_to k call faulty in (r ≡ Done → ⊥) → Refuses number call r (cause_of 0 number r)
-plugin-refused att k call faulty number is over not = plugin-refuses number call (reply_to k call faulty) (plugin-may att k call faulty is) (plugin-over k call faulty over) not
+plugin-refused att k call faulty number is over not =
+    plugin-refuses number call (reply_to k call faulty) (plugin-may att k call faulty is)
+    (plugin-over k call faulty over) not
 
 pub lease-refused : (att : Att) (place : ℕ) (set : RangeSet) (k : Host) (faulty : Bool) (number : ℕ)
     → let r = reply_to k (LeaseNext att place set) faulty in ((a : Addr) → r ≡ Leased a → ⊥)
     → Refuses number (LeaseNext att place set) r (cause_of place number r)
-lease-refused att place set k faulty number not = lease-refuses number att place set (reply_to k (LeaseNext att place set) faulty) (lease-may att place set k faulty) not
+lease-refused att place set k faulty number not =
+    lease-refuses number att place set (reply_to k (LeaseNext att place set) faulty)
+    (lease-may att place set k faulty) not

@@ -12,7 +12,8 @@ distinct-of-map : {X Y : Type 0} (same : Y → Y → Bool) (f : X → Y) (test :
     → ((x y : X) → same (f x) (f y) ≡ test x y) → (xs : List X) → distinct same (map f xs) ≡ distinct test xs
 distinct-of-map same f test e [] = refl
 distinct-of-map same f test e (x ∷ xs) =
-    let again : list_any (same (f x)) (map f xs) ≡ list_any (test x) xs = list_any-map (same (f x)) f xs ∙ list_any-same_test (λ y. same (f x) (f y)) (test x) (e x) xs in
+    let again : list_any (same (f x)) (map f xs) ≡ list_any (test x) xs =
+    list_any-map (same (f x)) f xs ∙ list_any-same_test (λ y. same (f x) (f y)) (test x) (e x) xs in
     grind (arith, again, distinct-of-map same f test e xs)
 
 same_lease : (att : Att) (a b : Addr) → (bytes_eq att.network att.network && addr_eq a b) ≡ addr_eq a b
@@ -35,11 +36,16 @@ sound-next : (w : World) (e : Entry) → IsSound (after_entry (host_of w) e) →
 sound-next w e sound was = λ m.
     let opening = w.plan.pods.opening in
     elim (cases_Bool (is_of m e)) [
-      | inl own ↦ subst IsSound (sym (ap (after opening) (until_last-own m w.history e own) ∙ after-append opening w.history e)) sound
+      | inl own ↦
+          subst IsSound
+          (sym (ap (after opening) (until_last-own m w.history e own) ∙ after-append opening w.history e)) sound
       | inr other ↦ subst (λ l. IsSound (after opening l)) (sym (until_last-other m w.history e other)) (was m)
     ]
 
 pub sound-at_end : (w : World) → Legal w → (n : ℕ) → IsSound (host_at_end w n)
 sound-at_end w legal =
-    by-entries AllSound (λ p well m. well.pods.opening.sound) (λ v n c list call faulty on was. sound-next v (entry_of (host_of v) n call faulty) (sound-entered v n call faulty on.legal on.allowed) was)
-    (λ v n c call faulty on was. sound-next v (entry_of (host_of v) n call faulty) (sound-entered v n call faulty on.legal on.allowed) was) w legal
+    by-entries AllSound (λ p well m. well.pods.opening.sound) (λ v n c list call faulty on was.
+    sound-next v (entry_of (host_of v) n call faulty) (sound-entered v n call faulty on.legal on.allowed) was)
+    (λ v n c call faulty on was.
+    sound-next v (entry_of (host_of v) n call faulty) (sound-entered v n call faulty on.legal on.allowed) was)
+    w legal

@@ -38,12 +38,24 @@ outside_from-append made s rs r = after_replies-append outside_advance made s rs
 progress-append : (list : Option NetList) (c : Command) (rs : List Reply) (r : Reply)
     → progress list c (rs ++ r ∷ []) ≡ advanced (progress list c rs) r
 progress-append None c rs r =
-    let state_is = outside_from-append 0 (outside_start c) rs r ∙ ap (λ k. outside_advance k (outside_from 0 (outside_start c) rs) r) (omega arith) in
-    ap (λ m. record { list = None; command = c; made = m; state = outside_from 0 (outside_start c) (rs ++ r ∷ []) }) (length_push rs r)
+    let state_is =
+    outside_from-append 0 (outside_start c) rs r
+    ∙ ap (λ k. outside_advance k (outside_from 0 (outside_start c) rs) r) (omega arith) in
+    ap (λ m. record { list = None; command = c; made = m; state = outside_from 0 (outside_start c) (rs ++ r ∷ []) })
+    (length_push rs r)
     ∙ ap (λ s. record { list = None; command = c; made = length rs + 1; state = s }) state_is
 progress-append (Some list) c rs r =
-    let state_is = state_from-append list c 0 (start_state list c) rs r ∙ ap (λ k. advance list c k (state_from list c 0 (start_state list c) rs) r) (omega arith) in
-    ap (λ m. record { list = Some list; command = c; made = m; state = state_from list c 0 (start_state list c) (rs ++ r ∷ []) }) (length_push rs r)
+    let state_is =
+    state_from-append list c 0 (start_state list c) rs r
+    ∙ ap (λ k. advance list c k (state_from list c 0 (start_state list c) rs) r) (omega arith) in
+    ap (λ m.
+    record {
+      list = Some list;
+      command = c;
+      made = m;
+      state = state_from list c 0 (start_state list c) (rs ++ r ∷ []);
+    })
+    (length_push rs r)
     ∙ ap (λ s. record { list = Some list; command = c; made = length rs + 1; state = s }) state_is
 
 turn-of : (list : Option NetList) (c : Command) (rs : List Reply)
@@ -65,14 +77,16 @@ within-fits list c rs (Some s) fits = fits.1
 -- ---- one step
 
 -- a command of a book that may step, with its run
-pub record IsHere (host : Host) (slots : List (Option RunView)) (places : List Place) (before : ℕ) (w : World) (n : ℕ) (c : Placed) (s : Option RunView) : Type 0 where
+pub record IsHere (host : Host) (slots : List (Option RunView)) (places : List Place) (before : ℕ) (w : World) (n : ℕ)
+    (c : Placed) (s : Option RunView) : Type 0 where
   pub kept : IsKept host slots places before w
   pub ready : IsReady w n c
   pub run : begun_by w.plan.lists c.command s ≡ progress (list_for w.plan c.command) c.command (own_replies w n)
   pub within : IsUpToStop c.command.stop (length (own_replies w n))
   pub number : c.command.number ≡ n + 1
 
-pub here : (host : Host) (slots : List (Option RunView)) (places : List Place) (before : ℕ) (w : World) (n : ℕ) (c : Placed) (s : Option RunView)
+pub here : (host : Host) (slots : List (Option RunView)) (places : List Place) (before : ℕ) (w : World) (n : ℕ)
+    (c : Placed) (s : Option RunView)
     → IsKept host slots places before w → IsReady w n c
     → slice_get slots n ≡ Some s → IsHere host slots places before w n c s
 unfolding begun_by
@@ -81,7 +95,9 @@ here host slots places before w n c s kept ready slot =
     record {
       kept = kept;
       ready = ready;
-      run = ap (λ l. begun_with l c.command s) (list_for-found w.plan c.command) ∙ begun-is (list_for w.plan c.command) c.command (own_replies w n) s fits;
+      run =
+          ap (λ l. begun_with l c.command s) (list_for-found w.plan c.command)
+          ∙ begun-is (list_for w.plan c.command) c.command (own_replies w n) s fits;
       within = within-fits (list_for w.plan c.command) c.command (own_replies w n) s fits;
       number = are_numbered w.plan (fine w kept.legal).plan.pods n c ready.there;
     }
@@ -94,14 +110,18 @@ unfolding next_in
 next-here w n c s cut run cut_is =
     let list = list_for w.plan c in
     let rs = own_replies w n in
-    ap (next_in c cut) run ∙ ap (λ b. next_in c b (progress list c rs)) cut_is ∙ ap (next_by list c (length rs) (is_cut w)) (turn-of list c rs)
+    ap (next_in c cut) run
+    ∙ ap (λ b. next_in c b (progress list c rs)) cut_is
+    ∙ ap (next_by list c (length rs) (is_cut w)) (turn-of list c rs)
 
 may-be-made : (w : World) (n : ℕ) (c : Placed) (x : Next) → Legal w → IsReady w n c
     → next_of w c.command (own_replies w n) ≡ x → MayBeMade (host_of w) x
 may-be-made w n c (next.Answer a) legal ready is = tt
-may-be-made w n c (next.Call call faulty) legal ready is = λ real. allowed_next w n c call legal ready (is ∙ ap (next.Call call) real)
+may-be-made w n c (next.Call call faulty) legal ready is = λ real.
+    allowed_next w n c call legal ready (is ∙ ap (next.Call call) real)
 
-pub may-step-task : (host : Host) (slots : List (Option RunView)) (places : List Place) (before : ℕ) (w : World) (n : ℕ) (c : Placed) (s : Option RunView) (cut : Bool)
+pub may-step-task : (host : Host) (slots : List (Option RunView)) (places : List Place) (before : ℕ) (w : World) (n : ℕ)
+    (c : Placed) (s : Option RunView) (cut : Bool)
     → IsHere host slots places before w n c s → cut ≡ is_cut w → (cut ≡ true → length w.history < 2 ^ 32)
     → MayStepTask host w.history c.command cut (begun_by w.plan.lists c.command s)
 may-step-task host slots places before w n c s cut h cut_is small =
@@ -110,7 +130,9 @@ may-step-task host slots places before w n c s cut h cut_is small =
     let few = length-replies_of n w.history in
     let P : Progress → Type 0 = MayStepTask host w.history c.command cut in
     let Q : Host → Type 0 = λ k. MayBeMade k (next_in c.command cut (progress list c.command rs)) in
-    let made = subst (MayBeMade (host_of w)) (sym (next-here w n c.command (progress list c.command rs) cut refl cut_is)) (may-be-made w n c (next_of w c.command rs) h.kept.legal h.ready refl) in
+    let made =
+    subst (MayBeMade (host_of w)) (sym (next-here w n c.command (progress list c.command rs) cut refl cut_is))
+    (may-be-made w n c (next_of w c.command rs) h.kept.legal h.ready refl) in
     subst P (sym h.run) (record {
       of_command = refl;
       few = few;
@@ -119,7 +141,8 @@ may-step-task host slots places before w n c s cut h cut_is small =
     })
 
 -- an answer leaves the host and all other runs
-answer_keeps : (host : Host) (slots : List (Option RunView)) (places : List Place) (before : ℕ) (w : World) (n : ℕ) (c : Placed) (a : Answer)
+answer_keeps : (host : Host) (slots : List (Option RunView)) (places : List Place) (before : ℕ) (w : World) (n : ℕ)
+    (c : Placed) (a : Answer)
     → IsKept host slots places before w → IsReady w n c → Legal (answered w n a)
     → IsKept host (slice_set slots n None) places before (answered w n a)
 answer_keeps host slots places before w n c a kept ready legal = record {
@@ -131,15 +154,19 @@ answer_keeps host slots places before w n c a kept ready legal = record {
   tasks = λ m d at_m o slot_m open_m. elim (eqb_tells m n) [
     | inl t ↦
         let same = slice_get-set_same w.answers n (Some a) (slice_get_within w.answers n None ready.unanswered) in
-        absurd (none-some a (same_Some None (Some a) (sym open_m ∙ ap (slice_get (slice_set w.answers n (Some a))) t.1 ∙ same)))
-    | inr f ↦ kept.tasks m d at_m o (sym (slice_get-set_other slots n m None f.1) ∙ slot_m) (sym (slice_get-set_other w.answers n m (Some a) f.1) ∙ open_m)
+        absurd (none-some a
+        (same_Some None (Some a) (sym open_m ∙ ap (slice_get (slice_set w.answers n (Some a))) t.1 ∙ same)))
+    | inr f ↦
+        kept.tasks m d at_m o (sym (slice_get-set_other slots n m None f.1) ∙ slot_m)
+        (sym (slice_get-set_other w.answers n m (Some a) f.1) ∙ open_m)
   ];
   before_is = kept.before_is;
   round_within = kept.round_within;
 }
 
 -- a call moves the host, and its own run alone
-call_keeps : (host : Host) (slots : List (Option RunView)) (places : List Place) (before : ℕ) (w : World) (n : ℕ) (c : Placed) (e : Entry) (s : RunView)
+call_keeps : (host : Host) (slots : List (Option RunView)) (places : List Place) (before : ℕ) (w : World) (n : ℕ)
+    (c : Placed) (e : Entry) (s : RunView)
     → IsKept host slots places before w → IsReady w n c → Legal (with_entry w e) → e.command ≡ n + 1
     → Fits (list_for w.plan c.command) c.command (own_replies w n ++ e.reply ∷ []) (Some s)
     → IsKept (after_entry host e) (slice_set slots n (Some s)) places before (with_entry w e)
@@ -154,11 +181,16 @@ call_keeps host slots places before w n c e s kept ready legal own fits =
       tasks = λ m d at_m o slot_m open_m. elim (eqb_tells m n) [
         | inl t ↦
             let same_d : d ≡ c = same_Some d c (sym at_m ∙ ap (slice_get (commands_of w.plan)) t.1 ∙ ready.there) in
-            let same_o : o ≡ Some s = same_Some o (Some s) (sym slot_m ∙ ap (slice_get (slice_set slots n (Some s))) t.1 ∙ slice_get-set_same slots n (Some s) within) in
+            let same_o : o ≡ Some s =
+            same_Some o (Some s)
+            (sym slot_m
+            ∙ ap (slice_get (slice_set slots n (Some s))) t.1
+            ∙ slice_get-set_same slots n (Some s) within) in
             rw (same_d, same_o, t.1, replies_of-own n w.history e own) fits
         | inr f ↦
             let other = f.1 in
-            subst (λ rs. Fits (list_for w.plan d.command) d.command rs o) (sym (replies_of-other m w.history e (λ k. other (omega arith))))
+            subst (λ rs. Fits (list_for w.plan d.command) d.command rs o)
+            (sym (replies_of-other m w.history e (λ k. other (omega arith))))
             (kept.tasks m d at_m o (sym (slice_get-set_other slots n m (Some s) other) ∙ slot_m) open_m)
       ];
       before_is = kept.before_is;
@@ -168,7 +200,8 @@ call_keeps host slots places before w n c e s kept ready legal own fits =
 -- ---- a step as it was done
 
 -- what a step leaves, where the run goes on
-pub record IsLeft (host : Host) (slots : List (Option RunView)) (places : List Place) (before : ℕ) (w v : World) (n : ℕ) (c : Command) (end : StepEnd) : Type 0 where
+pub record IsLeft (host : Host) (slots : List (Option RunView)) (places : List Place) (before : ℕ) (w v : World) (n : ℕ)
+    (c : Command) (end : StepEnd) : Type 0 where
   pub kept : IsKept host slots places before v
   pub made : v ≡ stepped w n c
   pub end_is : end ≡ end_of_step w n c
@@ -176,9 +209,12 @@ pub record IsLeft (host : Host) (slots : List (Option RunView)) (places : List P
 abbrev pub world_with : World → List Entry → List (Option Answer) → World
 world_with w h answers = record { plan = w.plan; history = h; answers = answers; round = w.round }
 
-went-by : (host host' : Host) (slots : List (Option RunView)) (places : List Place) (before : ℕ) (w : World) (n : ℕ) (c : Placed) (h' : List Entry) (t : RunView) (x : Next)
-    → IsKept host slots places before w → IsReady w n c → c.command.number ≡ n + 1 → next_of w c.command (own_replies w n) ≡ x
-    → DoesNext host host' w.history h' c.command (progress (list_for w.plan c.command) c.command (own_replies w n)) x (step.Called t)
+went-by : (host host' : Host) (slots : List (Option RunView)) (places : List Place) (before : ℕ) (w : World) (n : ℕ)
+    (c : Placed) (h' : List Entry) (t : RunView) (x : Next)
+    → IsKept host slots places before w → IsReady w n c → c.command.number ≡ n + 1
+    → next_of w c.command (own_replies w n) ≡ x
+    → DoesNext host host' w.history h' c.command (progress (list_for w.plan c.command) c.command (own_replies w n))
+    x (step.Called t)
     → IsLeft host' (slice_set slots n (Some t)) places before w (world_with w h' w.answers) n c.command ends.Went
 unfolding DoesNext
 went-by host host' slots places before w n c h' t (next.Answer a) kept ready number is d = absurd d
@@ -187,12 +223,16 @@ went-by host host' slots places before w n c h' t (next.Call call faulty) kept r
     let list = list_for w.plan c.command in
     let e = entry_by host c.command.number call faulty in
     let same_entry : e ≡ entry_of (host_of w) n call faulty =
-    ap (λ k. entry_by k c.command.number call faulty) kept.host_is ∙ ap (λ k. entry_by (host_of w) k call faulty) number in
+    ap (λ k. entry_by k c.command.number call faulty) kept.host_is
+    ∙ ap (λ k. entry_by (host_of w) k call faulty) number in
     let made : with_entry w e ≡ stepped w n c.command = ap (with_entry w) same_entry ∙ sym (ap (done w n) is) in
     let legal : Legal (with_entry w e) = steps w (with_entry w e) n c kept.legal ready made in
     let more = length_push rs e.reply in
-    let fits : Fits list c.command (rs ++ e.reply ∷ []) (Some t) =
-    (d.0 ∙ sym (progress-append list c.command rs e.reply), subst (IsUpToStop c.command.stop) (sym more) (within-more c.command.stop (length rs) (goes_in w n c.command call faulty is).no_stop)) in
+    let fits : Fits list c.command (rs ++ e.reply ∷ []) (Some t) = (
+      d.0 ∙ sym (progress-append list c.command rs e.reply),
+      subst (IsUpToStop c.command.stop) (sym more)
+          (within-more c.command.stop (length rs) (goes_in w n c.command call faulty is).no_stop),
+    ) in
     let still = call_keeps host slots places before w n c e t kept ready legal number fits in
     record {
       kept = rw (d.1, d.2) still;
@@ -200,64 +240,90 @@ went-by host host' slots places before w n c h' t (next.Call call faulty) kept r
       end_is = sym (ap end_of is);
     }
 
-over-by : (host host' : Host) (slots : List (Option RunView)) (places : List Place) (before : ℕ) (w : World) (n : ℕ) (c : Placed) (h' : List Entry) (b : Answer) (x : Next)
+over-by : (host host' : Host) (slots : List (Option RunView)) (places : List Place) (before : ℕ) (w : World) (n : ℕ)
+    (c : Placed) (h' : List Entry) (b : Answer) (x : Next)
     → IsKept host slots places before w → IsReady w n c → next_of w c.command (own_replies w n) ≡ x
-    → DoesNext host host' w.history h' c.command (progress (list_for w.plan c.command) c.command (own_replies w n)) x (step.Answered b)
-    → IsLeft host' (slice_set slots n None) places before w (world_with w h' (slice_set w.answers n (Some b))) n c.command ends.Over
+    → DoesNext host host' w.history h' c.command (progress (list_for w.plan c.command) c.command (own_replies w n)) x
+    (step.Answered b)
+    → IsLeft host' (slice_set slots n None) places before w (world_with w h' (slice_set w.answers n (Some b))) n
+    c.command ends.Over
 unfolding DoesNext
 over-by host host' slots places before w n c h' b (next.Call call faulty) kept ready is d = absurd d
 over-by host host' slots places before w n c h' b (next.Answer a) kept ready is d =
     let made : answered w n b ≡ stepped w n c.command = ap (answered w n) d.0 ∙ sym (ap (done w n) is) in
-    let still = answer_keeps host slots places before w n c b kept ready (steps w (answered w n b) n c kept.legal ready made) in
+    let still =
+    answer_keeps host slots places before w n c b kept ready (steps w (answered w n b) n c kept.legal ready made) in
     record {
       kept = rw (d.1, d.2) still;
       made = ap (λ h. world_with w h (slice_set w.answers n (Some b))) d.2 ∙ made;
       end_is = sym (ap end_of is);
     }
 
-done-at : (host host' : Host) (w : World) (n : ℕ) (c : Command) (s : Progress) (cut : Bool) (h' : List Entry) (o : Stepped)
+done-at : (host host' : Host) (w : World) (n : ℕ) (c : Command) (s : Progress) (cut : Bool)
+    (h' : List Entry) (o : Stepped)
     → s ≡ progress (list_for w.plan c) c (own_replies w n) → cut ≡ is_cut w
-    → DoesNext host host' w.history h' c s (next_in c cut s) o → DoesNext host host' w.history h' c (progress (list_for w.plan c) c (own_replies w n)) (next_of w c (own_replies w n)) o
+    → DoesNext host host' w.history h' c s (next_in c cut s) o
+    → DoesNext host host' w.history h' c (progress (list_for w.plan c) c (own_replies w n))
+    (next_of w c (own_replies w n)) o
 done-at host host' w n c s cut h' o run cut_is d =
-    subst (λ x. DoesNext host host' w.history h' c (progress (list_for w.plan c) c (own_replies w n)) x o) (next-here w n c s cut run cut_is)
+    subst (λ x. DoesNext host host' w.history h' c (progress (list_for w.plan c) c (own_replies w n)) x o)
+    (next-here w n c s cut run cut_is)
     (subst (λ t. DoesNext host host' w.history h' c t (next_in c cut s) o) run d)
 
-pub went-here : (host host' : Host) (slots : List (Option RunView)) (places : List Place) (before : ℕ) (w : World) (n : ℕ) (c : Placed) (s : Option RunView) (cut : Bool) (h' : List Entry) (t : RunView)
+pub went-here : (host host' : Host) (slots : List (Option RunView)) (places : List Place) (before : ℕ) (w : World)
+    (n : ℕ) (c : Placed) (s : Option RunView) (cut : Bool) (h' : List Entry) (t : RunView)
     → IsHere host slots places before w n c s → cut ≡ is_cut w
-    → DoesNext host host' w.history h' c.command (begun_by w.plan.lists c.command s) (next_in c.command cut (begun_by w.plan.lists c.command s)) (step.Called t)
+    → DoesNext host host' w.history h' c.command (begun_by w.plan.lists c.command s)
+    (next_in c.command cut (begun_by w.plan.lists c.command s)) (step.Called t)
     → IsLeft host' (slice_set slots n (Some t)) places before w (world_with w h' w.answers) n c.command ends.Went
 went-here host host' slots places before w n c s cut h' t h cut_is d =
-    went-by host host' slots places before w n c h' t _ h.kept h.ready h.number refl (done-at host host' w n c.command (begun_by w.plan.lists c.command s) cut h' (step.Called t) h.run cut_is d)
+    went-by host host' slots places before w n c h' t _ h.kept h.ready h.number refl
+    (done-at host host' w n c.command (begun_by w.plan.lists c.command s) cut h' (step.Called t) h.run cut_is d)
 
-pub over-here : (host host' : Host) (slots : List (Option RunView)) (places : List Place) (before : ℕ) (w : World) (n : ℕ) (c : Placed) (s : Option RunView) (cut : Bool) (h' : List Entry) (b : Answer)
+pub over-here : (host host' : Host) (slots : List (Option RunView)) (places : List Place) (before : ℕ) (w : World)
+    (n : ℕ) (c : Placed) (s : Option RunView) (cut : Bool) (h' : List Entry) (b : Answer)
     → IsHere host slots places before w n c s → cut ≡ is_cut w
-    → DoesNext host host' w.history h' c.command (begun_by w.plan.lists c.command s) (next_in c.command cut (begun_by w.plan.lists c.command s)) (step.Answered b)
-    → IsLeft host' (slice_set slots n None) places before w (world_with w h' (slice_set w.answers n (Some b))) n c.command ends.Over
+    → DoesNext host host' w.history h' c.command (begun_by w.plan.lists c.command s)
+    (next_in c.command cut (begun_by w.plan.lists c.command s)) (step.Answered b)
+    → IsLeft host' (slice_set slots n None) places before w (world_with w h' (slice_set w.answers n (Some b))) n
+    c.command ends.Over
 over-here host host' slots places before w n c s cut h' b h cut_is d =
-    over-by host host' slots places before w n c h' b _ h.kept h.ready refl (done-at host host' w n c.command (begun_by w.plan.lists c.command s) cut h' (step.Answered b) h.run cut_is d)
+    over-by host host' slots places before w n c h' b _ h.kept h.ready refl
+    (done-at host host' w n c.command (begun_by w.plan.lists c.command s) cut h' (step.Answered b) h.run cut_is d)
 
 -- running out of memory answers, and leaves the host
-pub refused-here : (host host' : Host) (slots : List (Option RunView)) (places : List Place) (before : ℕ) (w : World) (n : ℕ) (c : Placed) (s : Option RunView) (h' : List Entry)
+pub refused-here : (host host' : Host) (slots : List (Option RunView)) (places : List Place) (before : ℕ) (w : World)
+    (n : ℕ) (c : Placed) (s : Option RunView) (h' : List Entry)
     → IsHere host slots places before w n c s
-    → host' ≡ host → h' ≡ w.history → IsKept host' (slice_set slots n None) places before (world_with w h' (slice_set w.answers n (Some OutOfMemory)))
+    → host' ≡ host → h' ≡ w.history
+    → IsKept host' (slice_set slots n None) places before (world_with w h' (slice_set w.answers n (Some OutOfMemory)))
 refused-here host host' slots places before w n c s h' h same_host same_history =
-    let still = answer_keeps host slots places before w n c OutOfMemory h.kept h.ready (refused_memory w (answered w n OutOfMemory) n c h.kept.legal h.ready refl) in
+    let still =
+    answer_keeps host slots places before w n c OutOfMemory h.kept h.ready
+    (refused_memory w (answered w n OutOfMemory) n c h.kept.legal h.ready refl) in
     rw (same_host, same_history) still
 
 -- ---- the step of a book
 
 -- the command that a step found by the index is the ready one
-pub record IsFound (host : Host) (slots : List (Option RunView)) (places : List Place) (before : ℕ) (w : World) (number n : ℕ) (s : Option RunView) (of : Command) : Type 0 where
+pub record IsFound (host : Host) (slots : List (Option RunView)) (places : List Place) (before : ℕ) (w : World)
+    (number n : ℕ) (s : Option RunView) (of : Command) : Type 0 where
   pub command : Placed
   pub here : IsHere host slots places before w n command s
   pub of_is : of ≡ command.command
   pub number_is : number ≡ n + 1
 
 -- by what the code reads: places and rounds that are the book's
-pub found : {host : Host} {slots : List (Option RunView)} {places seen : List Place} {before : ℕ} {w v : World} {number : ℕ} {p : Place} {s : Option RunView} {rounds : List (List Command)} {of : Command}
-    → IsKept host slots places before w → w ≡ v → IsReadyNumber v number → seen ≡ places → slice_get seen (number - 1) ≡ Some p → rounds ≡ w.plan.pods.rounds → command_at_place rounds p ≡ Some of → slice_get slots (number - 1) ≡ Some s
+pub found : {host : Host} {slots : List
+    (Option RunView)} {places seen : List Place} {before : ℕ} {w v : World} {number : ℕ} {p : Place} {s : Option
+    RunView} {rounds : List
+    (List Command)} {of : Command}
+    → IsKept host slots places before w → w ≡ v → IsReadyNumber v number → seen ≡ places
+    → slice_get seen (number - 1) ≡ Some p → rounds ≡ w.plan.pods.rounds → command_at_place rounds p ≡ Some of
+    → slice_get slots (number - 1) ≡ Some s
     → IsFound host slots places before w number (number - 1) s of
-found {host} {slots} {places} {seen} {before} {w} {v} {number} {p} {s} {rounds} {of} kept same ready seen_is at_n rounds_is command slot =
+found {host} {slots} {places} {seen} {before} {w} {v} {number} {p} {s} {rounds} {of} kept same ready seen_is at_n
+    rounds_is command slot =
     let n = number - 1 in
     let r = subst (λ u. IsReadyNumber u number) (sym same) ready in
     let is = r.2 in
@@ -274,57 +340,109 @@ found {host} {slots} {places} {seen} {before} {w} {v} {number} {p} {s} {rounds} 
 -- whether the round is stopped, by the history and the places that the code reads
 pub cut-by : (stop : Option ℕ) (round : ℕ) {h k : List Entry} {places seen : List Place} {cut : Bool}
     → cut ≡ is_cut_by stop h seen round → h ≡ k → seen ≡ places → cut ≡ is_cut_by stop k places round
-cut-by stop round {h} {k} {places} {seen} {cut} is h_is seen_is = is ∙ ap (λ l. is_cut_by stop l seen round) h_is ∙ ap (λ ps. is_cut_by stop k ps round) seen_is
+cut-by stop round {h} {k} {places} {seen} {cut} is h_is seen_is =
+    is ∙ ap (λ l. is_cut_by stop l seen round) h_is ∙ ap (λ ps. is_cut_by stop k ps round) seen_is
 
-pub found-may : (host : Host) (slots : List (Option RunView)) (places : List Place) (before : ℕ) (w : World) (number n : ℕ) (s : Option RunView) (of : Command) (cut : Bool)
+pub found-may : (host : Host) (slots : List (Option RunView)) (places : List Place) (before : ℕ) (w : World)
+    (number n : ℕ) (s : Option RunView) (of : Command) (cut : Bool)
     → IsFound host slots places before w number n s of
-    → cut ≡ is_cut_by w.plan.stop_at w.history places w.round → (cut ≡ true → length w.history < 2 ^ 32) → MayStepTask host w.history of cut (begun_by w.plan.lists of s)
+    → cut ≡ is_cut_by w.plan.stop_at w.history places w.round → (cut ≡ true → length w.history < 2 ^ 32)
+    → MayStepTask host w.history of cut (begun_by w.plan.lists of s)
 found-may host slots places before w number n s of cut f cut_is small =
     subst (λ k. MayStepTask host w.history k cut (begun_by w.plan.lists k s)) (sym f.of_is)
-    (may-step-task host slots places before w n f.command s cut f.here (cut-is w places cut f.here.kept.index cut_is) small)
+    (may-step-task host slots places before w n f.command s cut f.here
+    (cut-is w places cut f.here.kept.index cut_is) small)
 
-pub found-went : (host host' : Host) (slots : List (Option RunView)) (places : List Place) (before : ℕ) (w : World) (number n : ℕ) (s : Option RunView) (of : Command) (cut : Bool) (h' : List Entry) (o : Stepped) (t : RunView)
+pub found-went : (host host' : Host) (slots : List (Option RunView)) (places : List Place) (before : ℕ) (w : World)
+    (number n : ℕ) (s : Option RunView) (of : Command) (cut : Bool) (h' : List Entry) (o : Stepped) (t : RunView)
     → IsFound host slots places before w number n s of → cut ≡ is_cut_by w.plan.stop_at w.history places w.round
-    → DoesNext host host' w.history h' of (begun_by w.plan.lists of s) (next_in of cut (begun_by w.plan.lists of s)) o → o ≡ step.Called t
-    → (c : Placed) × (slice_get (commands_of w.plan) n ≡ Some c) × IsLeft host' (slice_set slots n (Some t)) places before w (world_with w h' w.answers) n c.command ends.Went
+    → DoesNext host host' w.history h' of (begun_by w.plan.lists of s) (next_in of cut (begun_by w.plan.lists of s)) o
+    → o ≡ step.Called t
+    → (c : Placed) × (slice_get (commands_of w.plan) n ≡ Some c)
+    × IsLeft host' (slice_set slots n (Some t)) places before w (world_with w h' w.answers) n c.command ends.Went
 found-went host host' slots places before w number n s of cut h' o t f cut_is d o_is =
-    let e = subst (λ k. DoesNext host host' w.history h' k (begun_by w.plan.lists k s) (next_in k cut (begun_by w.plan.lists k s)) o) f.of_is d in
-    let g = subst (DoesNext host host' w.history h' f.command.command (begun_by w.plan.lists f.command.command s) (next_in f.command.command cut (begun_by w.plan.lists f.command.command s))) o_is e in
-    (f.command, f.here.ready.there, went-here host host' slots places before w n f.command s cut h' t f.here (cut-is w places cut f.here.kept.index cut_is) g)
+    let e =
+    subst (λ k.
+    DoesNext host host' w.history h' k (begun_by w.plan.lists k s)
+    (next_in k cut (begun_by w.plan.lists k s)) o)
+    f.of_is d in
+    let g =
+    subst (DoesNext host host' w.history h' f.command.command (begun_by w.plan.lists f.command.command s)
+    (next_in f.command.command cut (begun_by w.plan.lists f.command.command s)))
+    o_is e in (
+      f.command,
+      f.here.ready.there,
+      went-here host host' slots places before w n f.command s cut h' t f.here
+          (cut-is w places cut f.here.kept.index cut_is) g,
+    )
 
-pub found-over : (host host' : Host) (slots : List (Option RunView)) (places : List Place) (before : ℕ) (w : World) (number n : ℕ) (s : Option RunView) (of : Command) (cut : Bool) (h' : List Entry) (o : Stepped) (b : Answer)
+pub found-over : (host host' : Host) (slots : List (Option RunView)) (places : List Place) (before : ℕ) (w : World)
+    (number n : ℕ) (s : Option RunView) (of : Command) (cut : Bool) (h' : List Entry) (o : Stepped) (b : Answer)
     → IsFound host slots places before w number n s of → cut ≡ is_cut_by w.plan.stop_at w.history places w.round
-    → DoesNext host host' w.history h' of (begun_by w.plan.lists of s) (next_in of cut (begun_by w.plan.lists of s)) o → o ≡ step.Answered b
-    → (c : Placed) × (slice_get (commands_of w.plan) n ≡ Some c) × IsLeft host' (slice_set slots n None) places before w (world_with w h' (slice_set w.answers n (Some b))) n c.command ends.Over
+    → DoesNext host host' w.history h' of (begun_by w.plan.lists of s) (next_in of cut (begun_by w.plan.lists of s)) o
+    → o ≡ step.Answered b
+    → (c : Placed) × (slice_get (commands_of w.plan) n ≡ Some c)
+    × IsLeft host' (slice_set slots n None) places before w (world_with w h' (slice_set w.answers n (Some b))) n
+    c.command ends.Over
 found-over host host' slots places before w number n s of cut h' o b f cut_is d o_is =
-    let e = subst (λ k. DoesNext host host' w.history h' k (begun_by w.plan.lists k s) (next_in k cut (begun_by w.plan.lists k s)) o) f.of_is d in
-    let g = subst (DoesNext host host' w.history h' f.command.command (begun_by w.plan.lists f.command.command s) (next_in f.command.command cut (begun_by w.plan.lists f.command.command s))) o_is e in
-    (f.command, f.here.ready.there, over-here host host' slots places before w n f.command s cut h' b f.here (cut-is w places cut f.here.kept.index cut_is) g)
+    let e =
+    subst (λ k.
+    DoesNext host host' w.history h' k (begun_by w.plan.lists k s)
+    (next_in k cut (begun_by w.plan.lists k s)) o)
+    f.of_is d in
+    let g =
+    subst (DoesNext host host' w.history h' f.command.command (begun_by w.plan.lists f.command.command s)
+    (next_in f.command.command cut (begun_by w.plan.lists f.command.command s)))
+    o_is e in (
+      f.command,
+      f.here.ready.there,
+      over-here host host' slots places before w n f.command s cut h' b f.here
+          (cut-is w places cut f.here.kept.index cut_is) g,
+    )
 
-pub found-refused : (host host' : Host) (slots : List (Option RunView)) (places : List Place) (before : ℕ) (w : World) (number n : ℕ) (s : Option RunView) (of : Command) (h' : List Entry)
+pub found-refused : (host host' : Host) (slots : List (Option RunView)) (places : List Place) (before : ℕ) (w : World)
+    (number n : ℕ) (s : Option RunView) (of : Command) (h' : List Entry)
     → IsFound host slots places before w number n s of
-    → (host' ≡ host) × (h' ≡ w.history) → IsKept host' (slice_set slots n None) places before (world_with w h' (slice_set w.answers n (Some OutOfMemory)))
-found-refused host host' slots places before w number n s of h' f same = refused-here host host' slots places before w n f.command s h' f.here same.0 same.1
+    → (host' ≡ host) × (h' ≡ w.history)
+    → IsKept host' (slice_set slots n None) places before (world_with w h' (slice_set w.answers n (Some OutOfMemory)))
+found-refused host host' slots places before w number n s of h' f same =
+    refused-here host host' slots places before w n f.command s h' f.here same.0 same.1
 
 -- what a step left is what the contract of a step says
-pub left-steps : (host : Host) (slots : List (Option RunView)) (places : List Place) (before : ℕ) (w v u : World) (number n : ℕ) (end : StepEnd)
-    → number ≡ n + 1 → w ≡ v → (c : Placed) × (slice_get (commands_of w.plan) n ≡ Some c) × IsLeft host slots places before w u n c.command end → StepsTo v u number end
+pub left-steps : (host : Host) (slots : List (Option RunView)) (places : List Place) (before : ℕ) (w v u : World)
+    (number n : ℕ) (end : StepEnd)
+    → number ≡ n + 1 → w ≡ v
+    → (c : Placed) × (slice_get (commands_of w.plan) n ≡ Some c) × IsLeft host slots places before w u n c.command end
+    → StepsTo v u number end
 left-steps host slots places before w v u number n end number_is same left = λ m d is at_m.
     let same_n : n ≡ m = omega arith in
-    let same_c : left.0 ≡ d = same_Some left.0 d (sym left.1 ∙ ap (λ k. slice_get (commands_of w.plan) k) same_n ∙ ap (λ (x : World). slice_get (commands_of x.plan) m) same ∙ at_m) in (
-      left.2.made ∙ ap (λ (x : World). stepped x n left.0.command) same ∙ ap (λ k. stepped v k left.0.command) same_n ∙ ap (λ (x : Placed). stepped v m x.command) same_c,
-      left.2.end_is ∙ ap (λ (x : World). end_of_step x n left.0.command) same ∙ ap (λ k. end_of_step v k left.0.command) same_n ∙ ap (λ (x : Placed). end_of_step v m x.command) same_c,
+    let same_c : left.0 ≡ d =
+    same_Some left.0 d (sym left.1
+    ∙ ap (λ k. slice_get (commands_of w.plan) k) same_n
+    ∙ ap (λ (x : World). slice_get (commands_of x.plan) m) same
+    ∙ at_m) in (
+      left.2.made
+          ∙ ap (λ (x : World). stepped x n left.0.command) same
+          ∙ ap (λ k. stepped v k left.0.command) same_n
+          ∙ ap (λ (x : Placed). stepped v m x.command) same_c,
+      left.2.end_is
+          ∙ ap (λ (x : World). end_of_step x n left.0.command) same
+          ∙ ap (λ k. end_of_step v k left.0.command) same_n
+          ∙ ap (λ (x : Placed). end_of_step v m x.command) same_c,
     )
 
 pub refused-runs_out : (w v : World) (number n : ℕ) (h' : List Entry) → number ≡ n + 1 → w ≡ v → h' ≡ w.history
     → RunsOut v (world_with w h' (slice_set w.answers n (Some OutOfMemory))) number
 refused-runs_out w v number n h' number_is same history = λ m d is at_m.
     let same_n : n ≡ m = omega arith in
-    ap (λ h. world_with w h (slice_set w.answers n (Some OutOfMemory))) history ∙ ap (λ k. answered w k OutOfMemory) same_n ∙ ap (λ (x : World). answered x m OutOfMemory) same
+    ap (λ h. world_with w h (slice_set w.answers n (Some OutOfMemory))) history
+    ∙ ap (λ k. answered w k OutOfMemory) same_n
+    ∙ ap (λ (x : World). answered x m OutOfMemory) same
 
 -- ---- what a ready number gives the code
 
-pub number-within : (host : Host) (slots : List (Option RunView)) (places : List Place) (before : ℕ) (w v : World) (number : ℕ)
+pub number-within : (host : Host) (slots : List (Option RunView)) (places : List Place) (before : ℕ)
+    (w v : World) (number : ℕ)
     → IsKept host slots places before w → w ≡ v → IsReadyNumber v number
     → (1 ≤ number) × (number - 1 < length places) × (number - 1 < length slots) × (number - 1 < length w.answers)
 number-within host slots places before w v number kept same ready =
@@ -336,12 +454,14 @@ number-within host slots places before w v number kept same ready =
     let d = kept.answers_long in
     (omega arith, omega arith, omega arith, omega arith)
 
-pub number-command : (host : Host) (slots : List (Option RunView)) (places : List Place) (before : ℕ) (w v : World) (number : ℕ) (p : Place)
+pub number-command : (host : Host) (slots : List (Option RunView)) (places : List Place) (before : ℕ) (w v : World)
+    (number : ℕ) (p : Place)
     → IsKept host slots places before w → w ≡ v → IsReadyNumber v number
     → slice_get places (number - 1) ≡ Some p → IsSome (command_at_place w.plan.pods.rounds p)
 number-command host slots places before w v number p kept same ready at_n =
     let r = subst (λ u. IsReadyNumber u number) (sym same) ready in
     let is = r.2 in
     let same_n : r.0 ≡ number - 1 = omega arith in
-    let placed = kept.index.each (number - 1) r.1 p (ap (slice_get (commands_of w.plan)) (sym same_n) ∙ r.3.there) at_n in
+    let placed =
+    kept.index.each (number - 1) r.1 p (ap (slice_get (commands_of w.plan)) (sym same_n) ∙ r.3.there) at_n in
     subst IsSome (sym placed.command) refl

@@ -46,13 +46,17 @@ pub begun-is : (p : Plan) (count : ℕ) (places : List Place) (history : List En
 unfolding commands_of
 begun-is p count places history answers index count_is none blank =
     ap (λ h. record { plan = p; history = h; answers = answers; round = 0 }) none
-    ∙ ap (λ a. record { plan = p; history = []; answers = a; round = 0 }) (blank ∙ blank-answers (placed_from 0 p.pods.rounds) count (count_is ∙ index.long))
+    ∙ ap (λ a. record { plan = p; history = []; answers = a; round = 0 })
+    (blank ∙ blank-answers (placed_from 0 p.pods.rounds) count (count_is ∙ index.long))
 
-pub begun-here : (p : Plan) (host : Host) (count more : ℕ) (places : List Place) (history : List Entry) (answers : List (Option Answer)) (slots : List (Option RunView))
+pub begun-here : (p : Plan) (host : Host) (count more : ℕ) (places : List Place) (history : List Entry)
+    (answers : List (Option Answer)) (slots : List (Option RunView))
     → IsWellFormed p → host ≡ p.pods.opening
-    → IsIndex p.pods.rounds (placed_from 0 p.pods.rounds) places → count ≡ length places → more ≡ length places → history ≡ [] → answers ≡ replicate count None → slots ≡ replicate more None
+    → IsIndex p.pods.rounds (placed_from 0 p.pods.rounds) places → count ≡ length places → more ≡ length places
+    → history ≡ [] → answers ≡ replicate count None → slots ≡ replicate more None
     → IsKept host slots places 0 (record { plan = p; history = history; answers = answers; round = 0 })
 unfolding commands_of
 begun-here p host count more places history answers slots well host_is index count_is more_is none blank empty =
     subst (IsKept host slots places 0) (sym (begun-is p count places history answers index count_is none blank))
-    (subst (λ ss. IsKept host ss places 0 (begun p)) (sym empty) (begun-kept p host places more well host_is index more_is))
+    (subst (λ ss. IsKept host ss places 0 (begun p)) (sym empty)
+    (begun-kept p host places more well host_is index more_is))

@@ -34,8 +34,10 @@ answered-is (Some (Some a)) h some = refl
 clear-by : (w : World) (n : ℕ) (c : Placed) (previous : Option ℕ) → IsInOrder w → n < length w.answers
     → c.round ≡ w.round → IsLatest (commands_of w.plan) n c.round c.command.container previous
     → lets_through w.answers previous ≡ true
-    → (m : ℕ) (d : Placed) (o : Option Answer) → m < n → slice_get (commands_of w.plan) m ≡ Some d → slice_get w.answers m ≡ Some o → ¬ Blocks d o w.round c.command.container
-clear-by w n c None order within current latest through m d o less at_m answer blocks = latest m d (omega arith) less at_m (blocks.0.0 ∙ sym current, blocks.0.1)
+    → (m : ℕ) (d : Placed) (o : Option Answer) → m < n → slice_get (commands_of w.plan) m ≡ Some d
+    → slice_get w.answers m ≡ Some o → ¬ Blocks d o w.round c.command.container
+clear-by w n c None order within current latest through m d o less at_m answer blocks =
+    latest m d (omega arith) less at_m (blocks.0.0 ∙ sym current, blocks.0.1)
 clear-by w n c (Some k) order within current latest through m d o less at_m answer blocks =
     let a = is-answered (slice_get w.answers k) through in
     let of_ : IsOf d c.round c.command.container = (blocks.0.0 ∙ sym current, blocks.0.1) in
@@ -87,8 +89,10 @@ where-ready w n c p within placed ready =
 
 ready-by : (b : Bool) (w : World) (n : ℕ) (c : Placed) (p : Place) (number : ℕ) → number ≡ n + 1 → IsInOrder w
     → n < length w.answers → slice_get (commands_of w.plan) n ≡ Some c
-    → IsPlaced w.plan.pods.rounds (commands_of w.plan) n c p → b ≡ may_step_by p w.answers w.round n → MatchBool b (IsReadyNumber w number) (IsReadyNumber w number → ⊥)
-ready-by true w n c p number is order within at_n placed tells = (n, c, is, ready-where w n c p order within at_n placed (sym tells))
+    → IsPlaced w.plan.pods.rounds (commands_of w.plan) n c p → b ≡ may_step_by p w.answers w.round n
+    → MatchBool b (IsReadyNumber w number) (IsReadyNumber w number → ⊥)
+ready-by true w n c p number is order within at_n placed tells =
+    (n, c, is, ready-where w n c p order within at_n placed (sym tells))
 ready-by false w n c p number is order within at_n placed tells = λ r.
     let same_n : r.0 ≡ n = (let e = r.2 in omega arith) in
     let ready : IsReady w n r.1 = subst (λ k. IsReady w k r.1) same_n r.3 in
@@ -100,9 +104,11 @@ placed-default [] n within = absurd (omega arith)
 placed-default (c ∷ cs) n within = c
 
 -- whether the command of this number may step
-pub ready-tells : (b : Bool) (host : Host) (slots : List (Option RunView)) (places : List Place) (before : ℕ) (w v : World) (p : Place) (number : ℕ)
+pub ready-tells : (b : Bool) (host : Host) (slots : List (Option RunView)) (places : List Place) (before : ℕ)
+    (w v : World) (p : Place) (number : ℕ)
     → IsKept host slots places before w → w ≡ v
-    → at_number places number ≡ Some p → b ≡ may_step_by p w.answers w.round (number - 1) → MatchBool b (IsReadyNumber v number) (IsReadyNumber v number → ⊥)
+    → at_number places number ≡ Some p → b ≡ may_step_by p w.answers w.round (number - 1)
+    → MatchBool b (IsReadyNumber v number) (IsReadyNumber v number → ⊥)
 ready-tells b host slots places before w v p number kept same found tells =
     let at = numbered places number p found in
     let n = number - 1 in
@@ -114,7 +120,8 @@ ready-tells b host slots places before w v p number kept same found tells =
     (ready-by b w n c p number at.0 (in_order w kept.legal) short at_n (kept.index.each n c p at_n at.1) tells)
 
 -- a command that has a place has room for its answer
-pub place-answered : (host : Host) (slots : List (Option RunView)) (places : List Place) (before : ℕ) (w : World) (p : Place) (number : ℕ)
+pub place-answered : (host : Host) (slots : List (Option RunView)) (places : List Place) (before : ℕ) (w : World)
+    (p : Place) (number : ℕ)
     → IsKept host slots places before w → at_number places number ≡ Some p → number - 1 < length w.answers
 place-answered host slots places before w p number kept found =
     let within = slice_get_within places (number - 1) p (numbered places number p found).1 in
@@ -123,13 +130,16 @@ place-answered host slots places before w p number kept found =
     omega arith
 
 -- a number with no place is no command's
-pub ready-nowhere : (host : Host) (slots : List (Option RunView)) (places : List Place) (before : ℕ) (w v : World) (number : ℕ)
+pub ready-nowhere : (host : Host) (slots : List (Option RunView)) (places : List Place) (before : ℕ)
+    (w v : World) (number : ℕ)
     → IsKept host slots places before w → w ≡ v → at_number places number ≡ None → IsReadyNumber v number → ⊥
 ready-nowhere host slots places before w v number kept same none ready =
     let r = subst (λ u. IsReadyNumber u number) (sym same) ready in
     let within = slice_get_within (commands_of w.plan) r.0 r.1 r.3.there in
     let short : r.0 < length places = rw kept.index.long within in
-    none-some _ (sym none ∙ at_number-is places number r.0 r.2 ∙ slice_get-get_or places r.0 (record { round = 0; within = 0; previous = None }) short)
+    none-some _ (sym none
+    ∙ at_number-is places number r.0 r.2
+    ∙ slice_get-get_or places r.0 (record { round = 0; within = 0; previous = None }) short)
 
 -- ---- where a round is stopped
 
@@ -139,12 +149,17 @@ is_there round p = option_map_or (λ (p : Place). p.round == round) p false
 place-in-round : (rounds : List (List Command)) (commands : List Placed) (places : List Place) (round k : ℕ)
     → IsIndex rounds commands places → (o : Option Placed) → slice_get commands k ≡ o → (q : Option Place)
     → slice_get places k ≡ q → is_there round q ≡ is_in_round round o
-place-in-round rounds commands places round k index (Some c) at_k (Some p) place_k = ap (λ r. r == round) (sym (index.each k c p at_k place_k).round_is)
+place-in-round rounds commands places round k index (Some c) at_k (Some p) place_k =
+    ap (λ r. r == round) (sym (index.each k c p at_k place_k).round_is)
 place-in-round rounds commands places round k index None at_k None place_k = refl
 place-in-round rounds commands places round k index (Some c) at_k None place_k =
-    absurd (let within = slice_get_within commands k c at_k in none-some _ (sym place_k ∙ slice_get-get_or places k (record { round = 0; within = 0; previous = None }) (rw index.long within)))
+    absurd (let within = slice_get_within commands k c at_k in
+    none-some _ (sym place_k
+    ∙ slice_get-get_or places k (record { round = 0; within = 0; previous = None }) (rw index.long within)))
 place-in-round rounds commands places round k index None at_k (Some p) place_k =
-    absurd (let within = slice_get_within places k p place_k in let short : k < length commands = rw (sym index.long) within in none-some _ (sym at_k ∙ slice_get-get_or commands k (placed-default commands k short) short))
+    absurd (let within = slice_get_within places k p place_k in
+    let short : k < length commands = rw (sym index.long) within in
+    none-some _ (sym at_k ∙ slice_get-get_or commands k (placed-default commands k short) short))
 
 where-numbered : (b : Bool) (o : Option Placed) (q : Option Place) (round : ℕ) → is_there round q ≡ is_in_round round o
     → is_there round (if b then None else q) ≡ is_in_round round (if b then None else o)
@@ -156,14 +171,17 @@ entry-in-round : (rounds : List (List Command)) (commands : List Placed) (places
     → is_entry_in places round e ≡ is_in_round round (at_number commands e.command)
 entry-in-round rounds commands places round e index =
     where-numbered (e.command == 0) (slice_get commands (e.command - 1)) (slice_get places (e.command - 1)) round
-    (place-in-round rounds commands places round (e.command - 1) index (slice_get commands (e.command - 1)) refl (slice_get places (e.command - 1)) refl)
+    (place-in-round rounds commands places round (e.command - 1) index (slice_get commands (e.command - 1)) refl
+    (slice_get places (e.command - 1)) refl)
 
 -- whether an entry is of the current round
-pub round-tells : (b : Bool) (host : Host) (slots : List (Option RunView)) (places : List Place) (before : ℕ) (w v : World) (e : Entry)
+pub round-tells : (b : Bool) (host : Host) (slots : List (Option RunView)) (places : List Place) (before : ℕ)
+    (w v : World) (e : Entry)
     → IsKept host slots places before w → w ≡ v
     → b ≡ is_entry_in places w.round e → b ≡ is_of_round v.plan v.round e
 round-tells b host slots places before w v e kept same tells =
-    subst (λ u. b ≡ is_of_round u.plan u.round e) same (tells ∙ entry-in-round w.plan.pods.rounds (commands_of w.plan) places w.round e kept.index)
+    subst (λ u. b ≡ is_of_round u.plan u.round e) same
+    (tells ∙ entry-in-round w.plan.pods.rounds (commands_of w.plan) places w.round e kept.index)
 
 cut-at : (w : World) (places : List Place) (stop_at : Option ℕ) (last : Option Entry)
     → IsIndex w.plan.pods.rounds (commands_of w.plan) places
@@ -171,7 +189,8 @@ cut-at : (w : World) (places : List Place) (stop_at : Option ℕ) (last : Option
 cut-at w places None last index = refl
 cut-at w places (Some number) None index = refl
 cut-at w places (Some number) (Some e) index =
-    ap (λ b. length w.history == number && b) (entry-in-round w.plan.pods.rounds (commands_of w.plan) places w.round e index)
+    ap (λ b. length w.history == number && b)
+    (entry-in-round w.plan.pods.rounds (commands_of w.plan) places w.round e index)
 
 pub cut-is : (w : World) (places : List Place) (cut : Bool) → IsIndex w.plan.pods.rounds (commands_of w.plan) places
     → cut ≡ is_cut_by w.plan.stop_at w.history places w.round → cut ≡ is_cut w

@@ -10,13 +10,17 @@ rounds_ascend_from : (round : ℕ) (rounds : List (List Command)) (m n : ℕ) (d
     → slice_get (placed_from round rounds) m ≡ Some d → slice_get (placed_from round rounds) n ≡ Some c
     → d.round ≤ c.round
 rounds_ascend_from round [] m n d c less at_m at_n = absurd (none-some d at_m)
-rounds_ascend_from round (cs ∷ rounds) m n d c less at_m at_n = elim (here_or_later round cs (placed_from (round + 1) rounds) m d at_m) [
-  | inl first ↦ let same = first.0 in let low = (round-of round (cs ∷ rounds) n c at_n).0 in omega arith
-  | inr first ↦ elim (here_or_later round cs (placed_from (round + 1) rounds) n c at_n) [
-    | inl second ↦ absurd (let place = first.1 in let within = slice_get_within cs n c.command second.1 in omega arith)
-    | inr second ↦ rounds_ascend_from (round + 1) rounds first.0 second.0 d c (let one = first.1 in let two = second.1 in omega arith) first.2 second.2
-  ]
-]
+rounds_ascend_from round (cs ∷ rounds) m n d c less at_m at_n =
+    elim (here_or_later round cs (placed_from (round + 1) rounds) m d at_m) [
+      | inl first ↦ let same = first.0 in let low = (round-of round (cs ∷ rounds) n c at_n).0 in omega arith
+      | inr first ↦ elim (here_or_later round cs (placed_from (round + 1) rounds) n c at_n) [
+        | inl second ↦
+            absurd (let place = first.1 in let within = slice_get_within cs n c.command second.1 in omega arith)
+        | inr second ↦
+            rounds_ascend_from (round + 1) rounds first.0 second.0 d c
+            (let one = first.1 in let two = second.1 in omega arith) first.2 second.2
+      ]
+    ]
 
 pub rounds_ascend : (p : Plan) (m n : ℕ) (d c : Placed) → m < n → slice_get (commands_of p) m ≡ Some d
     → slice_get (commands_of p) n ≡ Some c → d.round ≤ c.round
@@ -34,4 +38,5 @@ pub all_answered : (w : World) → IsInOrder w → length w.plan.pods.rounds ≤
 all_answered w order ended n c at = order.past n c at (let less = round_is_of_plan w.plan n c at in omega arith)
 
 pub command_at : (p : Plan) (n : ℕ) → n < length (commands_of p) → (c : Placed) × (slice_get (commands_of p) n ≡ Some c)
-command_at p n less = elim (slice_get_cases (commands_of p) n).1 [ inl t ↦ (t.0, t.2) | inr t ↦ absurd (let past = t.0 in omega arith) ]
+command_at p n less =
+    elim (slice_get_cases (commands_of p) n).1 [ inl t ↦ (t.0, t.2) | inr t ↦ absurd (let past = t.0 in omega arith) ]

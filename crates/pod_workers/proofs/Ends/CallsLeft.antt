@@ -22,7 +22,8 @@ questions_by list c (x ∷ xs) = length (check_questions list c x.cached)
 -- refused. A GC is counted by `collection_left` alone.
 abbrev pub calls_left : ℕ → NetList → Command → State → Share → ℕ
 calls_left most list c AtBegin s = 2 * most + length (kinds_of list) + 1
-calls_left most list c (BeforeLeases next left) s = making (1 + length left + length (sets_of list) + most_after most list c) list s
+calls_left most list c (BeforeLeases next left) s =
+    making (1 + length left + length (sets_of list) + most_after most list c) list s
 calls_left most list c (Leasing next left given) s = making (1 + length left + most_after most list c) list s
 calls_left most list c (AfterLeases next left given) s = making (1 + length left) list s
 calls_left most list c (ReadingCache ending) s = 1 + length (kinds_of list) + deletions_of s

@@ -33,8 +33,10 @@ left-leasing most list c [] given s in_most =
 left-leasing most list c (x ∷ xs) given s in_most = omega arith
 
 left-before_leases : (most : ℕ) (list : NetList) (c : Command) (left : List Call) (s : Share) → AddsInAtMost list c most
-    → calls_left most list c (before_leases list c left) s ≤ making (length left + length (sets_of list) + most_after most list c) list s
-left-before_leases most list c [] s in_most = let rest = left-leasing most list c (sets_of list) [] s in_most in omega arith
+    → calls_left most list c (before_leases list c left) s
+    ≤ making (length left + length (sets_of list) + most_after most list c) list s
+left-before_leases most list c [] s in_most =
+    let rest = left-leasing most list c (sets_of list) [] s in_most in omega arith
 left-before_leases most list c (x ∷ xs) s in_most = omega arith
 
 left-deleting : (most : ℕ) (list : NetList) (c : Command) (kinds : List Kind) (ending : Ending) (s : Share)
@@ -54,11 +56,17 @@ OneMore old new = deletions_of new ≤ deletions_of old + 1
 
 -- a deletion was a fault and left the share, or says whether an object went
 abbrev IsDeletion : Reply → Share → Share → Type 0
-IsDeletion r old new = ((r ≡ Fault) × (deletions_of new ≤ deletions_of old)) ⊎ ((gone : Bool) × (r ≡ Gone gone) × (deletions_of new + one_if gone ≤ deletions_of old))
+IsDeletion r old new =
+    ((r ≡ Fault) × (deletions_of new ≤ deletions_of old))
+    ⊎ ((gone : Bool) × (r ≡ Gone gone) × (deletions_of new + one_if gone ≤ deletions_of old))
 
 -- the cached result was a fault, or is the share's
 abbrev IsEntry : NetList → Command → Reply → Share → Type 0
-IsEntry list c r old = (r ≡ Fault) ⊎ ((o : Option Cached) × (r ≡ Entry o) × ((cached : Cached) → o ≡ Some cached → length (check_questions list c cached) ≤ questions_by list c old.cached))
+IsEntry list c r old =
+    (r ≡ Fault)
+    ⊎ ((o : Option Cached) × (r ≡ Entry o)
+    × ((cached : Cached) → o ≡ Some cached
+    → length (check_questions list c cached) ≤ questions_by list c old.cached))
 
 abbrev pub IsReplyIn : NetList → Command → State → Reply → Share → Share → Type 0
 IsReplyIn list c AtBegin r old new = r ≡ Done → deletions_of new ≡ 0
@@ -88,65 +96,85 @@ falls-at_begin most list c number Done old new in_most none =
     omega arith
 falls-at_begin most list c number _ old new in_most none = omega arith
 
-falls-at_call_before : (most : ℕ) (list : NetList) (c : Command) (number : ℕ) (next : Call) (left : List Call) (r : Reply) (old new : Share)
+falls-at_call_before : (most : ℕ) (list : NetList) (c : Command) (number : ℕ) (next : Call) (left : List Call)
+    (r : Reply) (old new : Share)
     → AddsInAtMost list c most → OneMore old new
     → Falls most list c (BeforeLeases next left) (at_call_before list c number left r) old new
-falls-at_call_before most list c number next left Done old new in_most more = let rest = left-before_leases most list c left new in_most in omega arith
+falls-at_call_before most list c number next left Done old new in_most more =
+    let rest = left-before_leases most list c left new in_most in omega arith
 falls-at_call_before most list c number next left _ old new in_most more = omega arith
 
-falls-at_lease : (most : ℕ) (list : NetList) (c : Command) (number : ℕ) (next : RangeSet) (left : List RangeSet) (given : List Addr) (r : Reply) (old new : Share)
+falls-at_lease : (most : ℕ) (list : NetList) (c : Command) (number : ℕ) (next : RangeSet) (left : List RangeSet)
+    (given : List Addr) (r : Reply) (old new : Share)
     → AddsInAtMost list c most → OneMore old new
     → Falls most list c (Leasing next left given) (at_lease list c number left given r) old new
-falls-at_lease most list c number next left given (Leased addr) old new in_most more = let rest = left-leasing most list c left (given ++ addr ∷ []) new in_most in omega arith
+falls-at_lease most list c number next left given (Leased addr) old new in_most more =
+    let rest = left-leasing most list c left (given ++ addr ∷ []) new in_most in omega arith
 falls-at_lease most list c number next left given _ old new in_most more = omega arith
 
-falls-at_call_after : (most : ℕ) (list : NetList) (c : Command) (number : ℕ) (next : Call) (left : List Call) (given : List Addr) (r : Reply) (old new : Share)
+falls-at_call_after : (most : ℕ) (list : NetList) (c : Command) (number : ℕ) (next : Call) (left : List Call)
+    (given : List Addr) (r : Reply) (old new : Share)
     → OneMore old new
     → Falls most list c (AfterLeases next left given) (at_call_after number left given r) old new
-falls-at_call_after most list c number next left given Done old new more = let rest = left-after_leases most list c left given new in omega arith
+falls-at_call_after most list c number next left given Done old new more =
+    let rest = left-after_leases most list c left given new in omega arith
 falls-at_call_after most list c number next left given _ old new more = omega arith
 
 falls-at_cache : (most : ℕ) (list : NetList) (c : Command) (number : ℕ) (ending : Ending) (r : Reply) (old new : Share)
     → deletions_of new ≤ deletions_of old
     → Falls most list c (ReadingCache ending) (at_cache list number ending r) old new
 falls-at_cache most list c number ending Fault old new less = omega arith
-falls-at_cache most list c number ending _ old new less = let rest = left-deleting most list c (kinds_of list) ending new in omega arith
+falls-at_cache most list c number ending _ old new less =
+    let rest = left-deleting most list c (kinds_of list) ending new in omega arith
 
-falls-gone : (most : ℕ) (list : NetList) (c : Command) (number : ℕ) (kind : Kind) (left : List Kind) (ending : Ending) (gone : Bool) (old new : Share)
+falls-gone : (most : ℕ) (list : NetList) (c : Command) (number : ℕ) (kind : Kind) (left : List Kind) (ending : Ending)
+    (gone : Bool) (old new : Share)
     → deletions_of new + one_if gone ≤ deletions_of old
     → Falls most list c (Deleting kind left ending) (at_deletion number kind left ending (Gone gone)) old new
 falls-gone most list c number kind left ending true old new less = omega arith
-falls-gone most list c number kind left ending false old new less = let rest = left-deleting most list c left ending new in omega arith
+falls-gone most list c number kind left ending false old new less =
+    let rest = left-deleting most list c left ending new in omega arith
 
-falls-at_deletion : (most : ℕ) (list : NetList) (c : Command) (number : ℕ) (kind : Kind) (left : List Kind) (ending : Ending) (r : Reply) (old new : Share)
+falls-at_deletion : (most : ℕ) (list : NetList) (c : Command) (number : ℕ) (kind : Kind) (left : List Kind)
+    (ending : Ending) (r : Reply) (old new : Share)
     → IsDeletion r old new
     → Falls most list c (Deleting kind left ending) (at_deletion number kind left ending r) old new
 falls-at_deletion most list c number kind left ending r old new is = elim is [
-  | inl fault ↦ subst (λ x. Falls most list c (Deleting kind left ending) (at_deletion number kind left ending x) old new) (sym fault.0) (omega arith)
-  | inr gone ↦ subst (λ x. Falls most list c (Deleting kind left ending) (at_deletion number kind left ending x) old new) (sym gone.1) (falls-gone most list c number kind left ending gone.0 old new gone.2)
+  | inl fault ↦
+      subst (λ x. Falls most list c (Deleting kind left ending) (at_deletion number kind left ending x) old new)
+      (sym fault.0) (omega arith)
+  | inr gone ↦
+      subst (λ x. Falls most list c (Deleting kind left ending) (at_deletion number kind left ending x) old new)
+      (sym gone.1) (falls-gone most list c number kind left ending gone.0 old new gone.2)
 ]
 
 falls-checking : (most : ℕ) (list : NetList) (c : Command) (o : Option Cached) (old new : Share)
     → ((cached : Cached) → o ≡ Some cached → length (check_questions list c cached) ≤ questions_by list c old.cached)
     → Falls most list c FindingEntry (checking list c o) old new
 falls-checking most list c None old new few = omega arith
-falls-checking most list c (Some cached) old new few = let rest = left-asking most list c (check_questions list c cached) new in let here = few cached refl in omega arith
+falls-checking most list c (Some cached) old new few =
+    let rest = left-asking most list c (check_questions list c cached) new in let here = few cached refl in omega arith
 
 falls-at_entry : (most : ℕ) (list : NetList) (c : Command) (number : ℕ) (r : Reply) (old new : Share)
     → IsEntry list c r old → Falls most list c FindingEntry (at_entry list c number r) old new
 falls-at_entry most list c number r old new is = elim is [
   | inl fault ↦ subst (λ x. Falls most list c FindingEntry (at_entry list c number x) old new) (sym fault) (omega arith)
-  | inr entry ↦ subst (λ x. Falls most list c FindingEntry (at_entry list c number x) old new) (sym entry.1) (falls-checking most list c entry.0 old new entry.2)
+  | inr entry ↦
+      subst (λ x. Falls most list c FindingEntry (at_entry list c number x) old new) (sym entry.1)
+      (falls-checking most list c entry.0 old new entry.2)
 ]
 
-falls-has : (most : ℕ) (list : NetList) (c : Command) (number : ℕ) (question : Question) (left : List Question) (has : Bool) (old new : Share)
+falls-has : (most : ℕ) (list : NetList) (c : Command) (number : ℕ) (question : Question) (left : List Question)
+    (has : Bool) (old new : Share)
     → Falls most list c (Asking question left) (at_question number question left (Has has)) old new
 falls-has most list c number question left true old new = let rest = left-asking most list c left new in omega arith
 falls-has most list c number question left false old new = omega arith
 
-falls-at_question : (most : ℕ) (list : NetList) (c : Command) (number : ℕ) (question : Question) (left : List Question) (r : Reply) (old new : Share)
+falls-at_question : (most : ℕ) (list : NetList) (c : Command) (number : ℕ) (question : Question) (left : List Question)
+    (r : Reply) (old new : Share)
     → Falls most list c (Asking question left) (at_question number question left r) old new
-falls-at_question most list c number question left (Has has) old new = falls-has most list c number question left has old new
+falls-at_question most list c number question left (Has has) old new =
+    falls-has most list c number question left has old new
 falls-at_question most list c number question left _ old new = omega arith
 
 -- whatever is replied, fewer calls are left
@@ -155,13 +183,19 @@ pub falls-advance : (most : ℕ) (list : NetList) (c : Command) (number : ℕ) (
     → Falls most list c st (advance list c number st r) old new
 unfolding advance
 falls-advance most list c number AtBegin r old new in_most is = falls-at_begin most list c number r old new in_most is
-falls-advance most list c number (BeforeLeases next left) r old new in_most is = falls-at_call_before most list c number next left r old new in_most is
-falls-advance most list c number (Leasing next left given) r old new in_most is = falls-at_lease most list c number next left given r old new in_most is
-falls-advance most list c number (AfterLeases next left given) r old new in_most is = falls-at_call_after most list c number next left given r old new is
-falls-advance most list c number (ReadingCache ending) r old new in_most is = falls-at_cache most list c number ending r old new is
-falls-advance most list c number (Deleting next left ending) r old new in_most is = falls-at_deletion most list c number next left ending r old new is
+falls-advance most list c number (BeforeLeases next left) r old new in_most is =
+    falls-at_call_before most list c number next left r old new in_most is
+falls-advance most list c number (Leasing next left given) r old new in_most is =
+    falls-at_lease most list c number next left given r old new in_most is
+falls-advance most list c number (AfterLeases next left given) r old new in_most is =
+    falls-at_call_after most list c number next left given r old new is
+falls-advance most list c number (ReadingCache ending) r old new in_most is =
+    falls-at_cache most list c number ending r old new is
+falls-advance most list c number (Deleting next left ending) r old new in_most is =
+    falls-at_deletion most list c number next left ending r old new is
 falls-advance most list c number FindingEntry r old new in_most is = falls-at_entry most list c number r old new is
-falls-advance most list c number (Asking next left) r old new in_most is = falls-at_question most list c number next left r old new
+falls-advance most list c number (Asking next left) r old new in_most is =
+    falls-at_question most list c number next left r old new
 falls-advance most list c number (Changing change) r old new in_most is = omega arith
 falls-advance most list c number (Collecting work faults) r old new in_most is = absurd is
 falls-advance most list c number (Over ending given) r old new in_most is = absurd is
@@ -184,7 +218,8 @@ IsOwnNext c (Over ending given) = Unit {0}
 
 -- the kernel's reply to this call
 abbrev Replies : NetList → Command → State → Host → Call → Type 0
-Replies list c st host call = IsReplyIn list c st (apply host call).1 (share_of (att_of c) host) (share_of (att_of c) (apply host call).0)
+Replies list c st host call =
+    IsReplyIn list c st (apply host call).1 (share_of (att_of c) host) (share_of (att_of c) (apply host call).0)
 
 reply-begin : (list : NetList) (c : Command) (host : Host) → Replies list c AtBegin host (Begin (att_of c) c.netns)
 reply-begin list c host = λ done. begin-none (att_of c) host c.netns done
@@ -193,26 +228,33 @@ first-asks : (xs : List CachedObj) (list : NetList) (c : Command) (cached : Cach
     → option_map (λ (x : CachedObj). x.cached) (first_of xs) ≡ Some cached
     → length (check_questions list c cached) ≤ questions_by list c xs
 first-asks [] list c cached is = cc
-first-asks (x ∷ xs) list c cached is = let e = ap (λ k. length (check_questions list c k)) (same_Some x.cached cached is) in omega arith
+first-asks (x ∷ xs) list c cached is =
+    let e = ap (λ k. length (check_questions list c k)) (same_Some x.cached cached is) in omega arith
 
 found-filter : (own : CachedObj → Bool) (xs : List CachedObj) (list : NetList) (c : Command) (cached : Cached)
     → option_map (λ (x : CachedObj). x.cached) (find own xs) ≡ Some cached
     → length (check_questions list c cached) ≤ questions_by list c (filter own xs)
-found-filter own xs list c cached is = first-asks (filter own xs) list c cached (ap (option_map (λ (x : CachedObj). x.cached)) (sym (find-first own xs)) ∙ is)
+found-filter own xs list c cached is =
+    first-asks (filter own xs) list c cached
+    (ap (option_map (λ (x : CachedObj). x.cached)) (sym (find-first own xs)) ∙ is)
 
 pub replies-as : (list : NetList) (c : Command) (st : State) (host : Host) (call : Call) → IsSound host
     → IsAllowed host call → IsOwnNext c st → turn c st ≡ Calls call → Replies list c st host call
 unfolding turn
-replies-as list c AtBegin host call sound allowed own is = subst (Replies list c AtBegin host) (let e : Begin (att_of c) c.netns ≡ call = cc in e) (reply-begin list c host)
+replies-as list c AtBegin host call sound allowed own is =
+    subst (Replies list c AtBegin host) (let e : Begin (att_of c) c.netns ≡ call = cc in e) (reply-begin list c host)
 replies-as list c (BeforeLeases next left) host call sound allowed own is =
     let e : next ≡ call = cc in
     call-more (att_of c) host call (subst (λ x. is_plugin_call_of (att_of c) x ≡ true) e own) allowed
 replies-as list c (Leasing next left given) host call sound allowed own is =
-    subst (Replies list c (Leasing next left given) host) (let e : LeaseNext (att_of c) (length given) next ≡ call = cc in e) (lease-more (att_of c) host (length given) next)
+    subst (Replies list c (Leasing next left given) host)
+    (let e : LeaseNext (att_of c) (length given) next ≡ call = cc in e)
+    (lease-more (att_of c) host (length given) next)
 replies-as list c (AfterLeases next left given) host call sound allowed own is =
     let e : next ≡ call = cc in
     call-more (att_of c) host call (subst (λ x. is_plugin_call_of (att_of c) x ≡ true) e own) allowed
-replies-as list c (ReadingCache ending) host call sound allowed own is = subst (Replies list c (ReadingCache ending) host) (let e : CacheGet (att_of c) ≡ call = cc in e) (omega arith)
+replies-as list c (ReadingCache ending) host call sound allowed own is =
+    subst (Replies list c (ReadingCache ending) host) (let e : CacheGet (att_of c) ≡ call = cc in e) (omega arith)
 replies-as list c (Deleting next left ending) host call sound allowed own is =
     subst (Replies list c (Deleting next left ending) host) (let e : deletion (att_of c) next ≡ call = cc in e)
     (let f = deletion-falls (att_of c) next host sound in inr (f.gone, f.reply, f.fewer))

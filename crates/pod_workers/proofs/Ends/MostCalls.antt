@@ -39,14 +39,19 @@ length-leases att number sets = length-scan (λ (n : ℕ) (set : RangeSet). n + 
 
 -- ---- the chained plugins
 
-length-all_chained : (cs : List Chained) (att : Att) (netns : List ℕ) (mappings : List PortMapping) (most : ℕ) (prev : AddResult)
+length-all_chained : (cs : List Chained) (att : Att) (netns : List ℕ) (mappings : List PortMapping) (most : ℕ)
+    (prev : AddResult)
     → length prev.ips ≤ most
     → length (all_chained_calls cs att netns mappings prev) ≤ sum_by (most_of_chained mappings most) cs
 length-all_chained [] att netns mappings most prev few = omega arith
 length-all_chained (c ∷ cs) att netns mappings most prev few =
     let here = (chained_laws c).few att netns mappings prev.ips most few in
-    let rest = length-all_chained cs att netns mappings most (chained_result c prev) (let e = ap length (chained-ips c prev) in omega arith) in
-    let both = length-append (chained_calls c att netns mappings prev.ips) (all_chained_calls cs att netns mappings (chained_result c prev)) in
+    let rest =
+    length-all_chained cs att netns mappings most (chained_result c prev)
+    (let e = ap length (chained-ips c prev) in omega arith) in
+    let both =
+    length-append (chained_calls c att netns mappings prev.ips)
+    (all_chained_calls cs att netns mappings (chained_result c prev)) in
     let all = sum_by-cons (most_of_chained mappings most) c cs in
     omega arith
 
@@ -57,11 +62,13 @@ length-first_ips : (list : NetList) (att : Att) (netns : List ℕ) (addrs : List
 length-first_ips list att netns addrs =
     let given = given_by_list list addrs in
     sym (length-map (first_plugin_result list att netns addrs).ips (λ (ip : IpEntry). ip.address))
-    ∙ ap length (first-addresses list.first att netns (ipam_of list.first) given list.version) ∙ length-map given (λ (g : Given). g.address)
+    ∙ ap length (first-addresses list.first att netns (ipam_of list.first) given list.version)
+    ∙ length-map given (λ (g : Given). g.address)
 
 length-back : (list : NetList) (att : Att) (netns : List ℕ) (mappings : List PortMapping) (addrs : List Addr)
     → length (back_calls list att netns mappings addrs)
-    ≤ (plugin_of list.first).most_after (length (sets_of list)) + sum_by (most_of_chained mappings (length (sets_of list))) list.chained + 1
+    ≤ (plugin_of list.first).most_after (length (sets_of list))
+    + sum_by (most_of_chained mappings (length (sets_of list))) list.chained + 1
 length-back list att netns mappings addrs =
     let gs = given_by_list list addrs in
     let few = length-given (sets_of list) addrs in
@@ -76,7 +83,8 @@ length-back list att netns mappings addrs =
     omega arith
 
 length-add : (list : NetList) (c : Command) (given : List Addr)
-    → length (add_calls list (att_of c) c.netns (mappings_of list c) given) ≡ 1 + length (before_of list c) + length (sets_of list) + length (back_of list c given)
+    → length (add_calls list (att_of c) c.netns (mappings_of list c) given)
+    ≡ 1 + length (before_of list c) + length (sets_of list) + length (back_of list c given)
 length-add list c given =
     let a = length-append (before_of list c) (lease_calls_of (sets_of list) (att_of c) ++ back_of list c given) in
     let b = length-append (lease_calls_of (sets_of list) (att_of c)) (back_of list c given) in

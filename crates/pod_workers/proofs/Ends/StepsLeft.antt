@@ -80,7 +80,9 @@ outside_left _ = 0
 -- the most calls of a run after these replies
 abbrev pub left_of : Option NetList → Command → List Reply → Host → ℕ
 left_of None c rs host = outside_left (outside_after c rs)
-left_of (Some list) c rs host = calls_left (most_calls list c) list c (state_after list c rs) (share_of (att_of c) host) + collecting (state_after list c rs) host
+left_of (Some list) c rs host =
+    calls_left (most_calls list c) list c (state_after list c rs) (share_of (att_of c) host)
+    + collecting (state_after list c rs) host
 
 -- ---- one entry
 
@@ -107,15 +109,23 @@ pub host-made : (host : Host) (n : ℕ) (call : Call)
 host-made host n call = ap (λ b. if b then host else (apply host call).0) (IsReplyOf-apply host call).no_fault
 
 -- each entry of a run that is no GC's lowers the calls that are left
-pub entry-falls : (most : ℕ) (list : NetList) (c : Command) (number n : ℕ) (s : State) (host : Host) (call : Call) (faulty : Bool)
+pub entry-falls : (most : ℕ) (list : NetList) (c : Command) (number n : ℕ) (s : State) (host : Host)
+    (call : Call) (faulty : Bool)
     → AddsInAtMost list c most → MayGo host call faulty → LeftAreOfPlugins list c s → IsNoCollection s
     → turn c s ≡ Calls call
-    → calls_left most list c (advance list c number s (reply_to host call faulty)) (share_of (att_of c) (after_entry host (entry_of host n call faulty))) < calls_left most list c s (share_of (att_of c) host)
+    → calls_left most list c (advance list c number s (reply_to host call faulty))
+    (share_of (att_of c) (after_entry host (entry_of host n call faulty)))
+    < calls_left most list c s (share_of (att_of c) host)
 entry-falls most list c number n s host call true in_most may of_plugins none is =
-    falls-advance most list c number s Fault (share_of (att_of c) host) (share_of (att_of c) host) in_most (fault-as list c s host call (own-next list c s of_plugins none) is)
+    falls-advance most list c number s Fault (share_of (att_of c) host) (share_of (att_of c) host) in_most
+    (fault-as list c s host call (own-next list c s of_plugins none) is)
 entry-falls most list c number n s host call false in_most may of_plugins none is =
-    subst (λ h. calls_left most list c (advance list c number s (apply host call).1) (share_of (att_of c) h) < calls_left most list c s (share_of (att_of c) host)) (sym (host-made host n call))
-    (falls-advance most list c number s (apply host call).1 (share_of (att_of c) host) (share_of (att_of c) (apply host call).0) in_most
+    subst (λ h.
+    calls_left most list c (advance list c number s (apply host call).1) (share_of (att_of c) h)
+    < calls_left most list c s (share_of (att_of c) host))
+    (sym (host-made host n call))
+    (falls-advance most list c number s (apply host call).1 (share_of (att_of c) host)
+    (share_of (att_of c) (apply host call).0) in_most
     (replies-as list c s host call may.sound (may.allowed refl) (own-next list c s of_plugins none) is))
 
 -- the calls that are left in a state, a GC's too
@@ -130,22 +140,33 @@ work-calls network faults (j ∷ js) ss call is = ap Some cc
 
 collecting-falls : (gc : Gc) (work : Work) (n : ℕ) (host : Host) (call : Call) (faulty : Bool)
     → call_of_work gc.network work.jobs work.sweeps ≡ Some call
-    → collection_left (work_after gc work.jobs work.sweeps (reply_to host call faulty)) (after_entry host (entry_of host n call faulty)) < collection_left work host
+    → collection_left (work_after gc work.jobs work.sweeps (reply_to host call faulty))
+    (after_entry host (entry_of host n call faulty))
+    < collection_left work host
 collecting-falls gc work n host call true is = fault-falls gc work.jobs work.sweeps host call is
 collecting-falls gc work n host call false is =
-    subst (λ k. collection_left (work_after gc work.jobs work.sweeps (apply host call).1) k < collection_left work host) (sym (host-made host n call)) (work-falls gc work.jobs work.sweeps host call is)
+    subst (λ k. collection_left (work_after gc work.jobs work.sweeps (apply host call).1) k < collection_left work host)
+    (sym (host-made host n call)) (work-falls gc work.jobs work.sweeps host call is)
 
 state-falls : (list : NetList) (c : Command) (number n : ℕ) (s : State) (host : Host) (call : Call) (faulty : Bool)
     → MayGo host call faulty → LeftAreOfPlugins list c s → turn c s ≡ Calls call
-    → in_state list c (advance list c number s (reply_to host call faulty)) (after_entry host (entry_of host n call faulty)) < in_state list c s host
+    → in_state list c (advance list c number s (reply_to host call faulty))
+    (after_entry host (entry_of host n call faulty))
+    < in_state list c s host
 unfolding advance turn
 state-falls list c number n (Collecting work faults) host call faulty may of_plugins is =
-    let fall = collecting-falls (gc_of list c) work n host call faulty (work-calls c.network faults work.jobs work.sweeps call is) in
+    let fall =
+    collecting-falls (gc_of list c) work n host call faulty
+    (work-calls c.network faults work.jobs work.sweeps call is) in
     omega arith
 state-falls list c number n s host call faulty may of_plugins is =
     let r = reply_to host call faulty in
-    let fall = entry-falls (most_calls list c) list c number n s host call faulty (adds_in_most_calls list c) may of_plugins tt is in
-    let none = no-work (advance list c number s r) (after_entry host (entry_of host n call faulty)) (true-advance IsNoCollection list c number s r (none-stays list c) tt) in
+    let fall =
+    entry-falls (most_calls list c) list c number n s host call faulty (adds_in_most_calls list c) may of_plugins
+    tt is in
+    let none =
+    no-work (advance list c number s r) (after_entry host (entry_of host n call faulty))
+    (true-advance IsNoCollection list c number s r (none-stays list c) tt) in
     omega arith
 
 outside-falls : (number : ℕ) (c : Command) (s : State) (r : Reply) (call : Call) → LeftIsOutside c s
@@ -157,7 +178,8 @@ outside-falls number c _ r call left is = absurd left
 
 left-falls : (list : Option NetList) (c : Command) (rs : List Reply) (n : ℕ) (host : Host) (call : Call) (faulty : Bool)
     → MayGo host call faulty → turn_by list c rs ≡ Calls call
-    → left_of list c (rs ++ reply_to host call faulty ∷ []) (after_entry host (entry_of host n call faulty)) < left_of list c rs host
+    → left_of list c (rs ++ reply_to host call faulty ∷ []) (after_entry host (entry_of host n call faulty))
+    < left_of list c rs host
 left-falls None c rs n host call faulty may is =
     let r = reply_to host call faulty in
     subst (λ s. outside_left s < outside_left (outside_after c rs)) (sym (outside_from-append 0 (outside_start c) rs r))
@@ -165,8 +187,10 @@ left-falls None c rs n host call faulty may is =
 left-falls (Some list) c rs n host call faulty may is =
     let r = reply_to host call faulty in
     let k = after_entry host (entry_of host n call faulty) in
-    subst (λ s. in_state list c s k < in_state list c (state_after list c rs) host) (sym (state_from-append list c 0 (start_state list c) rs r))
-    (state-falls list c (0 + length rs + 1) n (state_after list c rs) host call faulty may (left-are-of_plugins list c rs) is)
+    subst (λ s. in_state list c s k < in_state list c (state_after list c rs) host)
+    (sym (state_from-append list c 0 (start_state list c) rs r))
+    (state-falls list c (0 + length rs + 1) n (state_after list c rs) host call faulty may
+    (left-are-of_plugins list c rs) is)
 
 -- ---- a command's steps
 
@@ -176,7 +200,8 @@ steps_left_by w n _ _ = 0
 
 -- the steps that are left to the command of this number, from 1
 abbrev pub steps_left : World → ℕ → ℕ
-steps_left w number = steps_left_by w (number - 1) (slice_get (commands_of w.plan) (number - 1)) (slice_get w.answers (number - 1))
+steps_left w number =
+    steps_left_by w (number - 1) (slice_get (commands_of w.plan) (number - 1)) (slice_get w.answers (number - 1))
 
 left-at : (w : World) (n number : ℕ) (c : Option Placed) (o : Option (Option Answer)) → number ≡ n + 1
     → slice_get (commands_of w.plan) n ≡ c → slice_get w.answers n ≡ o → steps_left w number ≡ steps_left_by w n c o
@@ -190,7 +215,9 @@ answer-takes : (w : World) (n number : ℕ) (c : Placed) (a : Answer) → IsRead
     → steps_left (answered w n a) number < steps_left w number
 answer-takes w n number c a ready is =
     let before = left-at w n number (Some c) (Some None) is ready.there ready.unanswered in
-    let now = left-at (answered w n a) n number (Some c) (Some (Some a)) is ready.there (slice_get-set_same w.answers n (Some a) (slice_get_within w.answers n None ready.unanswered)) in
+    let now =
+    left-at (answered w n a) n number (Some c) (Some (Some a)) is ready.there
+    (slice_get-set_same w.answers n (Some a) (slice_get_within w.answers n None ready.unanswered)) in
     omega arith
 
 call-takes : (w : World) (n number : ℕ) (c : Placed) (call : Call) (faulty : Bool) → Legal w → IsReady w n c
@@ -201,7 +228,10 @@ call-takes w n number c call faulty legal ready is goes =
     let rs = own_replies w n in
     let e = entry_of (host_of w) n call faulty in
     let turn_is = (goes_in w n c.command call faulty goes).call_is in
-    let may : MayGo (host_of w) call faulty = record { sound = sound_host w legal; allowed = λ f. allowed_next w n c call legal ready (goes ∙ ap (λ b. next.Call call b) f) } in
+    let may : MayGo (host_of w) call faulty = record {
+      sound = sound_host w legal;
+      allowed = λ f. allowed_next w n c call legal ready (goes ∙ ap (λ b. next.Call call b) f);
+    } in
     let before = left-at w n number (Some c) (Some None) is ready.there ready.unanswered in
     let now = left-at (with_entry w e) n number (Some c) (Some None) is ready.there ready.unanswered in
     let falls = left-falls list c.command rs n (host_of w) call faulty may turn_is in
@@ -215,7 +245,8 @@ done-takes : (w : World) (n number : ℕ) (c : Placed) (x : Next) → Legal w �
     → next_of w c.command (own_replies w n) ≡ x
     → steps_left (done w n x) number < steps_left w number
 done-takes w n number c (next.Answer a) legal ready is goes = answer-takes w n number c a ready is
-done-takes w n number c (next.Call call faulty) legal ready is goes = call-takes w n number c call faulty legal ready is goes
+done-takes w n number c (next.Call call faulty) legal ready is goes =
+    call-takes w n number c call faulty legal ready is goes
 
 -- whatever a step of a ready command gives, fewer steps are left to it
 pub step_takes : (r : Result StepEnd NoMemory) (v w : World) (number : ℕ) → Legal v → IsReadyNumber v number
@@ -224,4 +255,5 @@ step_takes (Ok x) v w number legal ready is =
     subst (λ u. steps_left u number < steps_left v number) (sym (is.0 ready.0 ready.1 ready.2 ready.3.there).0)
     (done-takes v ready.0 number ready.1 (next_of v ready.1.command (own_replies v ready.0)) legal ready.3 ready.2 refl)
 step_takes (Err x) v w number legal ready is =
-    subst (λ u. steps_left u number < steps_left v number) (sym (is.1 ready.0 ready.1 ready.2 ready.3.there)) (answer-takes v ready.0 number ready.1 OutOfMemory ready.3 ready.2)
+    subst (λ u. steps_left u number < steps_left v number) (sym (is.1 ready.0 ready.1 ready.2 ready.3.there))
+    (answer-takes v ready.0 number ready.1 OutOfMemory ready.3 ready.2)

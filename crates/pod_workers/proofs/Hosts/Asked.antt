@@ -33,11 +33,16 @@ asked-rules list number (r ∷ rs) = (tt, asked-rules list (number + 1) rs)
 
 asked-share : (list : NetList) (s : Share) → AreQuestionsOf list (share_questions s)
 asked-share list s =
-    each-append (IsAskedOf list) (map link_question s.links) _ (each-map (IsAskedOf list) link_question (λ x. tt) s.links)
-    (each-append (IsAskedOf list) (map address_question s.addresses) _ (each-map (IsAskedOf list) address_question (λ x. tt) s.addresses)
-    (each-append (IsAskedOf list) (map route_question s.routes) _ (each-map (IsAskedOf list) route_question (λ x. tt) s.routes)
+    each-append (IsAskedOf list) (map link_question s.links) _
+    (each-map (IsAskedOf list) link_question (λ x. tt) s.links)
+    (each-append (IsAskedOf list) (map address_question s.addresses) _
+    (each-map (IsAskedOf list) address_question (λ x. tt) s.addresses)
+    (each-append (IsAskedOf list) (map route_question s.routes) _
+    (each-map (IsAskedOf list) route_question (λ x. tt) s.routes)
     (each-append (IsAskedOf list) (rule_questions 1 s.rules) _ (asked-rules list 1 s.rules)
-    (each-append (IsAskedOf list) (map setting_question s.settings) (map lease_question s.leases) (each-map (IsAskedOf list) setting_question (λ x. tt) s.settings) (each-map (IsAskedOf list) lease_question (λ x. tt) s.leases)))))
+    (each-append (IsAskedOf list) (map setting_question s.settings) (map lease_question s.leases)
+    (each-map (IsAskedOf list) setting_question (λ x. tt) s.settings)
+    (each-map (IsAskedOf list) lease_question (λ x. tt) s.leases)))))
 
 asked-by_mac : (list : NetList) (name : List ℕ) (mac : Option Mac) → AreQuestionsOf list (bridge_by_mac name mac)
 asked-by_mac list name None = tt
@@ -55,7 +60,9 @@ asked-bridge list (Some bridge) interfaces = asked-first list interfaces
 pub check-asks : (list : NetList) (c : Command) (cached : Cached) → AreQuestionsOf list (check_questions list c cached)
 unfolding check_questions
 check-asks list c cached =
-    each-append (IsAskedOf list) (bridge_questions (bridge_of list.first) cached.result.interfaces) (share_questions (cached_share list c cached)) (asked-bridge list (bridge_of list.first) cached.result.interfaces)
+    each-append (IsAskedOf list) (bridge_questions (bridge_of list.first) cached.result.interfaces)
+    (share_questions (cached_share list c cached))
+    (asked-bridge list (bridge_of list.first) cached.result.interfaces)
     (asked-share list (cached_share list c cached))
 
 -- ---- a status
@@ -75,4 +82,5 @@ asked-master list (Some master) = (tt, tt)
 pub status-asks : (list : NetList) (c : Command) → AreQuestionsOf list (status_questions list c)
 unfolding status_questions
 status-asks list c =
-    each-append (IsAskedOf list) (pool_questions c.network 0 (sets_of list)) (master_questions (master_of list.first)) (asked-pools list c.network 0 [] (sets_of list) refl) (asked-master list (master_of list.first))
+    each-append (IsAskedOf list) (pool_questions c.network 0 (sets_of list)) (master_questions (master_of list.first))
+    (asked-pools list c.network 0 [] (sets_of list) refl) (asked-master list (master_of list.first))

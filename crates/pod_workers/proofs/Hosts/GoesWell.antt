@@ -32,8 +32,11 @@ GoesWell p host call = IsAllowed host call × AreLastsOfSets p (apply host call)
 
 stays-well : (p : Plan) (host : Host) (call : Call) → IsSound host → AreLastsOfSets p host.lasts
     → moves_last call ≡ false → IsAllowed host call → GoesWell p host call
-stays-well p host call sound lasts n allowed =
-    (allowed, subst (AreLastsOfSets p) (sym (lasts-touches call host (apply host call).0 n (Touches-apply host call sound allowed))) lasts)
+stays-well p host call sound lasts n allowed = (
+  allowed,
+  subst (AreLastsOfSets p)
+      (sym (lasts-touches call host (apply host call).0 n (Touches-apply host call sound allowed))) lasts,
+)
 
 -- a call that is no lease asks nothing of the host
 allowed-well_formed : (host : Host) (call : Call) → moves_last call ≡ false → IsWellFormedCall call
@@ -61,7 +64,8 @@ deletion-well p att host kinds.Cached sound lasts = stays-well p host (CacheDel 
 
 -- ---- a lease may be made
 
-last-fits : (p : Plan) (network : List ℕ) (number : ℕ) (set : RangeSet) (list : NetList) (lasts : List Last) (o : Option Last)
+last-fits : (p : Plan) (network : List ℕ) (number : ℕ) (set : RangeSet) (list : NetList) (lasts : List Last)
+    (o : Option Last)
     → find (is_of_pool network number) lasts ≡ o
     → list_named p.lists network ≡ Some list → slice_get (sets_of list) number ≡ Some set → AreLastsOfSets p lasts
     → is_candidate_or_none set (option_map (λ l. l.addr) o) ≡ true
@@ -69,8 +73,14 @@ last-fits p network number set list lasts None is found at h = refl
 last-fits p network number set list lasts (Some x) is found at h =
     let same = same-pool network number x (passes-find (is_of_pool network number) lasts x is) in
     let last = each-found p (is_of_pool network number) lasts x h is in
-    let same_list : last.list ≡ list = same_Some last.list list (sym last.found ∙ ap (λ n. list_named p.lists n) same.0 ∙ found) in
-    let same_set : last.set ≡ set = same_Some last.set set (sym last.there ∙ ap (λ l. slice_get (sets_of l) x.set) same_list ∙ ap (slice_get (sets_of list)) same.1 ∙ at) in
+    let same_list : last.list ≡ list =
+    same_Some last.list list (sym last.found ∙ ap (λ n. list_named p.lists n) same.0 ∙ found) in
+    let same_set : last.set ≡ set =
+    same_Some last.set set
+    (sym last.there
+    ∙ ap (λ l. slice_get (sets_of l) x.set) same_list
+    ∙ ap (slice_get (sets_of list)) same.1
+    ∙ at) in
     subst (λ (t : RangeSet). is_candidate t x.addr ≡ true) same_set last.fits
 
 leased-by : (host : Host) (att : Att) (number : ℕ) (set : RangeSet) (o : Option Addr) (a : Addr) → o ≡ Some a
@@ -79,15 +89,22 @@ leased-by host att number set o a is = ap (λ q. (lease_taken host att number q)
 
 lease-well : (p : Plan) (host : Host) (att : Att) (number : ℕ) (set : RangeSet) (list : NetList) → IsWellFormed p
     → AreLastsOfSets p host.lasts
-    → list_named p.lists att.network ≡ Some list → slice_get (sets_of list) number ≡ Some set → GoesWell p host (LeaseNext att number set)
+    → list_named p.lists att.network ≡ Some list → slice_get (sets_of list) number ≡ Some set
+    → GoesWell p host (LeaseNext att number set)
 lease-well p host att number set list well lasts found at =
-    let apart : has_pools_apart list ≡ true = passes-list_all has_pools_apart (λ l. bytes_eq l.name att.network) p.lists list (pools_apart p well) found in (
+    let apart : has_pools_apart list ≡ true =
+    passes-list_all has_pools_apart (λ l. bytes_eq l.name att.network) p.lists list (pools_apart p well) found in (
       (
         list_all-at (λ s. are_apart s.ranges) (sets_of list) number set apart at,
-        last-fits p att.network number set list host.lasts (find (is_of_pool att.network number) host.lasts) refl found at lasts,
+        last-fits p att.network number set list host.lasts (find (is_of_pool att.network number) host.lasts) refl
+            found at lasts,
       ),
-      lasts-lease p host att number set list (pick_of set (last_leased host att.network number) (leased_addresses host att.network)) found at
-          (λ a is. leased-candidate host att number set a (leased-by host att number set (pick_of set (last_leased host att.network number) (leased_addresses host att.network)) a is)) lasts,
+      lasts-lease p host att number set list
+          (pick_of set (last_leased host att.network number) (leased_addresses host att.network)) found at
+          (λ a is. leased-candidate host att number set a
+          (leased-by host att number set
+          (pick_of set (last_leased host att.network number) (leased_addresses host att.network)) a is))
+          lasts,
     )
 
 -- ---- the next call of a run
@@ -98,47 +115,70 @@ head-well p att host x call sound lasts h is = subst (GoesWell p host) is (of_pl
 
 rest-at : (list : NetList) (next : RangeSet) (left : List RangeSet) (given : List Addr)
     → IsRest list (next ∷ left) given → slice_get (sets_of list) (length given) ≡ Some next
-rest-at list next left given rest = ap (λ s. slice_get s (length given)) rest.1 ∙ ap (slice_get (rest.0 ++ next ∷ left)) (sym rest.2) ∙ slice_get-middle rest.0 left next
+rest-at list next left given rest =
+    ap (λ s. slice_get s (length given)) rest.1
+    ∙ ap (slice_get (rest.0 ++ next ∷ left)) (sym rest.2)
+    ∙ slice_get-middle rest.0 left next
 
 step-well : (p : Plan) (att : Att) (host : Host) (step : Step) → IsSound host → AreLastsOfSets p host.lasts
     → GoesWell p host (step_call att step)
 step-well p att host AskCached sound lasts = stays-well p host (CacheGet att) sound lasts refl tt
 step-well p att host (Delete kind) sound lasts = deletion-well p att host kind sound lasts
 
-work-well : (p : Plan) (host : Host) (network : List ℕ) (jobs : List Job) (sweeps : List Sweep) (faults : List ℕ) (call : Call)
+work-well : (p : Plan) (host : Host) (network : List ℕ) (jobs : List Job) (sweeps : List Sweep)
+    (faults : List ℕ) (call : Call)
     → IsSound host → AreLastsOfSets p host.lasts
     → turn_of_work network jobs sweeps faults ≡ Calls call → GoesWell p host call
 work-well p host network [] [] faults call sound lasts is = absurd cc
 work-well p host network [] (s ∷ sweeps) faults call sound lasts is =
-    subst (GoesWell p host) (let e : OwnersOf network s.kind ≡ call = cc in e) (stays-well p host (OwnersOf network s.kind) sound lasts refl tt)
-work-well p host network (j ∷ jobs) sweeps faults call sound lasts is = subst (GoesWell p host) (let e : step_call j.att j.step ≡ call = cc in e) (step-well p j.att host j.step sound lasts)
+    subst (GoesWell p host) (let e : OwnersOf network s.kind ≡ call = cc in e)
+    (stays-well p host (OwnersOf network s.kind) sound lasts refl tt)
+work-well p host network (j ∷ jobs) sweeps faults call sound lasts is =
+    subst (GoesWell p host) (let e : step_call j.att j.step ≡ call = cc in e)
+    (step-well p j.att host j.step sound lasts)
 
 question-well : (p : Plan) (host : Host) (list : NetList) (network : List ℕ) (call : Call) → IsWellFormed p
     → IsSound host → AreLastsOfSets p host.lasts → list_named p.lists network ≡ Some list → IsQuestionOf list call
     → GoesWell p host call
-question-well p host list network (HasObj probe) well sound lasts found asks = stays-well p host (HasObj probe) sound lasts refl tt
+question-well p host list network (HasObj probe) well sound lasts found asks =
+    stays-well p host (HasObj probe) sound lasts refl tt
 question-well p host list network (PoolFree pool set) well sound lasts found asks =
-    let apart : has_pools_apart list ≡ true = passes-list_all has_pools_apart (λ l. bytes_eq l.name network) p.lists list (pools_apart p well) found in
-    stays-well p host (PoolFree pool set) sound lasts refl (list_all-at (λ s. are_apart s.ranges) (sets_of list) asks.0 set apart asks.1)
+    let apart : has_pools_apart list ≡ true =
+    passes-list_all has_pools_apart (λ l. bytes_eq l.name network) p.lists list (pools_apart p well) found in
+    stays-well p host (PoolFree pool set) sound lasts refl
+    (list_all-at (λ s. are_apart s.ranges) (sets_of list) asks.0 set apart asks.1)
 question-well p host list network _ well sound lasts found asks = absurd asks
 
 turn-well : (p : Plan) (host : Host) (list : NetList) (c : Command) (s : State) (call : Call) → IsWellFormed p
     → IsSound host → AreLastsOfSets p host.lasts
-    → list_named p.lists c.network ≡ Some list → LeftAreOfPlugins list c s → turn c s ≡ Calls call → GoesWell p host call
+    → list_named p.lists c.network ≡ Some list → LeftAreOfPlugins list c s → turn c s ≡ Calls call
+    → GoesWell p host call
 unfolding turn
-turn-well p host list c AtBegin call well sound lasts found left is = subst (GoesWell p host) (let e : Begin (att_of c) c.netns ≡ call = cc in e) (stays-well p host (Begin (att_of c) c.netns) sound lasts refl tt)
-turn-well p host list c (BeforeLeases x xs) call well sound lasts found left is = head-well p (att_of c) host x call sound lasts left.0.0 cc
+turn-well p host list c AtBegin call well sound lasts found left is =
+    subst (GoesWell p host) (let e : Begin (att_of c) c.netns ≡ call = cc in e)
+    (stays-well p host (Begin (att_of c) c.netns) sound lasts refl tt)
+turn-well p host list c (BeforeLeases x xs) call well sound lasts found left is =
+    head-well p (att_of c) host x call sound lasts left.0.0 cc
 turn-well p host list c (Leasing set sets given) call well sound lasts found left is =
     subst (GoesWell p host) (let e : LeaseNext (att_of c) (length given) set ≡ call = cc in e)
     (lease-well p host (att_of c) (length given) set list well lasts found (rest-at list set sets given left.0))
-turn-well p host list c (AfterLeases x xs given) call well sound lasts found left is = head-well p (att_of c) host x call sound lasts left.0 cc
-turn-well p host list c (ReadingCache ending) call well sound lasts found left is = subst (GoesWell p host) (let e : CacheGet (att_of c) ≡ call = cc in e) (stays-well p host (CacheGet (att_of c)) sound lasts refl tt)
-turn-well p host list c (Deleting kind kinds_left ending) call well sound lasts found left is = subst (GoesWell p host) (let e : deletion (att_of c) kind ≡ call = cc in e) (deletion-well p (att_of c) host kind sound lasts)
-turn-well p host list c FindingEntry call well sound lasts found left is = subst (GoesWell p host) (let e : CacheGet (att_of c) ≡ call = cc in e) (stays-well p host (CacheGet (att_of c)) sound lasts refl tt)
+turn-well p host list c (AfterLeases x xs given) call well sound lasts found left is =
+    head-well p (att_of c) host x call sound lasts left.0 cc
+turn-well p host list c (ReadingCache ending) call well sound lasts found left is =
+    subst (GoesWell p host) (let e : CacheGet (att_of c) ≡ call = cc in e)
+    (stays-well p host (CacheGet (att_of c)) sound lasts refl tt)
+turn-well p host list c (Deleting kind kinds_left ending) call well sound lasts found left is =
+    subst (GoesWell p host) (let e : deletion (att_of c) kind ≡ call = cc in e)
+    (deletion-well p (att_of c) host kind sound lasts)
+turn-well p host list c FindingEntry call well sound lasts found left is =
+    subst (GoesWell p host) (let e : CacheGet (att_of c) ≡ call = cc in e)
+    (stays-well p host (CacheGet (att_of c)) sound lasts refl tt)
 turn-well p host list c (Asking question questions) call well sound lasts found left is =
-    subst (GoesWell p host) (let e : question.call ≡ call = cc in e) (question-well p host list c.network question.call well sound lasts found left.0)
+    subst (GoesWell p host) (let e : question.call ≡ call = cc in e)
+    (question-well p host list c.network question.call well sound lasts found left.0)
 turn-well p host list c (Changing change) call well sound lasts found left is = absurd left
-turn-well p host list c (Collecting work faults) call well sound lasts found left is = work-well p host c.network work.jobs work.sweeps faults call sound lasts is
+turn-well p host list c (Collecting work faults) call well sound lasts found left is =
+    work-well p host c.network work.jobs work.sweeps faults call sound lasts is
 turn-well p host list c (Over ending given) call well sound lasts found left is = cc
 
 -- ---- a change from outside
@@ -152,7 +192,8 @@ change-well p host _ sound lasts place = absurd place
 outside-well : (p : Plan) (host : Host) (c : Command) (s : State) (call : Call) → IsSound host
     → AreLastsOfSets p host.lasts → LeftIsOutside c s → turn c s ≡ Calls call → GoesWell p host call
 unfolding turn
-outside-well p host c (Changing change) call sound lasts left is = subst (GoesWell p host) (let e : change ≡ call = cc in e) (change-well p host change sound lasts left.0)
+outside-well p host c (Changing change) call sound lasts left is =
+    subst (GoesWell p host) (let e : change ≡ call = cc in e) (change-well p host change sound lasts left.0)
 outside-well p host c (Over ending given) call sound lasts left is = cc
 outside-well p host c _ call sound lasts left is = absurd left
 
@@ -166,9 +207,12 @@ pub list_named-listed : (p : Plan) (c : Command) (list : NetList) → list_for p
 unfolding list_for
 list_named-listed p c list is = if-listed (is_of_network c.verb) (list_named p.lists c.network) list is
 
-pub by-list : (p : Plan) (host : Host) (c : Command) (rs : List Reply) (o : Option NetList) (call : Call) → IsWellFormed p
+pub by-list : (p : Plan) (host : Host) (c : Command) (rs : List Reply) (o : Option NetList) (call : Call)
+    → IsWellFormed p
     → IsSound host → AreLastsOfSets p host.lasts
     → list_in p.lists c ≡ o → turn_by o c rs ≡ Calls call → GoesWell p host call
-by-list p host c rs None call well sound lasts found is = outside-well p host c (outside_after c rs) call sound lasts (left-is-outside c rs) is
+by-list p host c rs None call well sound lasts found is =
+    outside-well p host c (outside_after c rs) call sound lasts (left-is-outside c rs) is
 by-list p host c rs (Some list) call well sound lasts found is =
-    turn-well p host list c (state_after list c rs) call well sound lasts (if-listed (is_of_network c.verb) (list_named p.lists c.network) list found) (left-are-of_plugins list c rs) is
+    turn-well p host list c (state_after list c rs) call well sound lasts
+    (if-listed (is_of_network c.verb) (list_named p.lists c.network) list found) (left-are-of_plugins list c rs) is

@@ -33,7 +33,8 @@ same-pool network number x h = (
 
 moved-one : (p : Plan) (network : List ℕ) (number : ℕ) (a : Addr) (x : Last) (b : Bool)
     → is_of_pool network number x ≡ b → IsLastOfSet p x
-    → IsLastOfSet p (record { network = network; set = number; addr = a }) → IsLastOfSet p (if b then record x { addr = a } else x)
+    → IsLastOfSet p (record { network = network; set = number; addr = a })
+    → IsLastOfSet p (if b then record x { addr = a } else x)
 moved-one p network number a x true is h g =
     let same = same-pool network number x is in
     record {
@@ -49,7 +50,8 @@ each-moved : (p : Plan) (network : List ℕ) (number : ℕ) (a : Addr) (xs : Lis
     → IsLastOfSet p (record { network = network; set = number; addr = a })
     → AreLastsOfSets p (map (moved_last network number a) xs)
 each-moved p network number a [] h g = tt
-each-moved p network number a (x ∷ xs) h g = (moved-one p network number a x (is_of_pool network number x) refl h.0 g, each-moved p network number a xs h.1 g)
+each-moved p network number a (x ∷ xs) h g =
+    (moved-one p network number a x (is_of_pool network number x) refl h.0 g, each-moved p network number a xs h.1 g)
 
 found-step : (p : Plan) (b : Bool) (y x : Last) (o : Option Last) → IsLastOfSet p y → (o ≡ Some x → IsLastOfSet p x)
     → cond b (Some y) o ≡ Some x → IsLastOfSet p x
@@ -63,17 +65,22 @@ each-found p q (y ∷ ys) x h is = found-step p (q y) y x (find q ys) h.0 (λ re
 
 last-with : (p : Plan) (host : Host) (network : List ℕ) (number : ℕ) (a : Addr) (b : Bool) → AreLastsOfSets p host.lasts
     → IsLastOfSet p (record { network = network; set = number; addr = a })
-    → AreLastsOfSets p (if b then record host { lasts = map (moved_last network number a) host.lasts } else record host { lasts = host.lasts ++ record { network = network; set = number; addr = a } ∷ [] }).lasts
+    → AreLastsOfSets p (if b
+    then record host { lasts = map (moved_last network number a) host.lasts }
+    else record host { lasts = host.lasts ++ record { network = network; set = number; addr = a } ∷ [] }).lasts
 last-with p host network number a true h g = each-moved p network number a host.lasts h g
-last-with p host network number a false h g = each-append (IsLastOfSet p) host.lasts (record { network = network; set = number; addr = a } ∷ []) h (g, tt)
+last-with p host network number a false h g =
+    each-append (IsLastOfSet p) host.lasts (record { network = network; set = number; addr = a } ∷ []) h (g, tt)
 
 -- a lease moves the last of its pool to a candidate of its set
 pub lasts-lease : (p : Plan) (host : Host) (att : Att) (number : ℕ) (set : RangeSet) (list : NetList) (o : Option Addr)
     → list_named p.lists att.network ≡ Some list → slice_get (sets_of list) number ≡ Some set
-    → ((a : Addr) → o ≡ Some a → is_candidate set a ≡ true) → AreLastsOfSets p host.lasts → AreLastsOfSets p (lease_taken host att number o).0.lasts
+    → ((a : Addr) → o ≡ Some a → is_candidate set a ≡ true) → AreLastsOfSets p host.lasts
+    → AreLastsOfSets p (lease_taken host att number o).0.lasts
 lasts-lease p host att number set list None found at fits h = h
 lasts-lease p host att number set list (Some a) found at fits h =
-    last-with p _ att.network number a _ h (record { list = list; set = set; found = found; there = at; fits = fits a refl })
+    last-with p _ att.network number a _ h
+    (record { list = list; set = set; found = found; there = at; fits = fits a refl })
 
 -- ---- calls that move no last
 
@@ -86,11 +93,15 @@ tag-lasts tags.Outside old new h = ap (λ (k : Host). k.lasts) h
 tag-lasts tags.Base old new h = ap (λ (k : Host). k.lasts) h
 tag-lasts (tags.Own att) old new h = h.lasts
 
-pub lasts-touches : (call : Call) (old new : Host) → moves_last call ≡ false → Touches call old new → new.lasts ≡ old.lasts
+pub lasts-touches : (call : Call) (old new : Host) → moves_last call ≡ false → Touches call old new
+    → new.lasts ≡ old.lasts
 lasts-touches (Begin att netns) old new n h = ap (λ (k : Host). k.lasts) h
-lasts-touches (BridgeEnsure a b d) old new n h = elim h [ inl e ↦ ap (λ (k : Host). k.lasts) e | inr e ↦ ap (λ (k : Host). k.lasts) e.2 ]
-lasts-touches (GatewayEnsure a b) old new n h = elim h [ inl e ↦ ap (λ (k : Host). k.lasts) e | inr e ↦ ap (λ (k : Host). k.lasts) e.2 ]
-lasts-touches (ForwardEnsure a) old new n h = elim h [ inl e ↦ ap (λ (k : Host). k.lasts) e | inr e ↦ ap (λ (k : Host). k.lasts) e.2 ]
+lasts-touches (BridgeEnsure a b d) old new n h =
+    elim h [ inl e ↦ ap (λ (k : Host). k.lasts) e | inr e ↦ ap (λ (k : Host). k.lasts) e.2 ]
+lasts-touches (GatewayEnsure a b) old new n h =
+    elim h [ inl e ↦ ap (λ (k : Host). k.lasts) e | inr e ↦ ap (λ (k : Host). k.lasts) e.2 ]
+lasts-touches (ForwardEnsure a) old new n h =
+    elim h [ inl e ↦ ap (λ (k : Host). k.lasts) e | inr e ↦ ap (λ (k : Host). k.lasts) e.2 ]
 lasts-touches (VethAdd a b) old new n h = tag-lasts a.tag old new h
 lasts-touches (MacvlanAdd a) old new n h = tag-lasts a.tag old new h
 lasts-touches (LinkSet a b d e f g i) old new n h = h.lasts
@@ -109,6 +120,7 @@ lasts-touches (HasObj a) old new n h = ap (λ (k : Host). k.lasts) h
 lasts-touches (CacheGet a) old new n h = ap (λ (k : Host). k.lasts) h
 lasts-touches (OwnersOf a b) old new n h = ap (λ (k : Host). k.lasts) h
 lasts-touches (PoolFree a b) old new n h = ap (λ (k : Host). k.lasts) h
-lasts-touches (NsChange a true) old new n h = elim h [ inl e ↦ ap (λ (k : Host). k.lasts) e | inr e ↦ ap (λ (k : Host). k.lasts) e.2 ]
+lasts-touches (NsChange a true) old new n h =
+    elim h [ inl e ↦ ap (λ (k : Host). k.lasts) e | inr e ↦ ap (λ (k : Host). k.lasts) e.2 ]
 lasts-touches (NsChange a false) old new n h = h.lasts
 lasts-touches (Outside a) old new n h = h.lasts

@@ -48,7 +48,8 @@ left-after_leases list c (x ∷ xs) given h = h
 
 left-leasing : (list : NetList) (c : Command) (left : List RangeSet) (given : List Addr) → IsRest list left given
     → HasPlace c → LeftAreOfPlugins list c (leasing list c left given)
-left-leasing list c [] given rest place = left-after_leases list c (back_of list c given) given (of_plugins-back list (att_of c) c.netns _ given place)
+left-leasing list c [] given rest place =
+    left-after_leases list c (back_of list c given) given (of_plugins-back list (att_of c) c.netns _ given place)
 left-leasing list c (s ∷ ss) given rest place = (rest, place)
 
 left-before_leases : (list : NetList) (c : Command) (left : List Call) → AllOfPlugins (att_of c) left → HasPlace c
@@ -58,8 +59,11 @@ left-before_leases list c (x ∷ xs) h place = (h, place)
 
 one-more : (list : NetList) (next : RangeSet) (left : List RangeSet) (given : List Addr) (addr : Addr)
     → IsRest list (next ∷ left) given → IsRest list left (given ++ addr ∷ [])
-one-more list next left given addr rest =
-    (rest.0 ++ next ∷ [], rest.1 ∙ sym (append_assoc rest.0 (next ∷ []) left), length_push rest.0 next ∙ ap (λ n. n + 1) rest.2 ∙ sym (length_push given addr))
+one-more list next left given addr rest = (
+  rest.0 ++ next ∷ [],
+  rest.1 ∙ sym (append_assoc rest.0 (next ∷ []) left),
+  length_push rest.0 next ∙ ap (λ n. n + 1) rest.2 ∙ sym (length_push given addr),
+)
 
 left-asking : (list : NetList) (c : Command) (questions : List Question) → AreQuestionsOf list questions
     → LeftAreOfPlugins list c (asking questions)
@@ -71,9 +75,11 @@ of_plugins-stays list c = record {
   over = λ ending given. tt;
   caches = λ ending. tt;
   deletes = λ kind left ending. tt;
-  begun = λ place. left-before_leases list c (before_of list c) (of_plugins-before list.first (att_of c) c.netns place) place;
+  begun = λ place.
+      left-before_leases list c (before_of list c) (of_plugins-before list.first (att_of c) c.netns place) place;
   before = λ next left h. left-before_leases list c left h.0.1 h.1;
-  leased = λ next left given addr h. left-leasing list c left (given ++ addr ∷ []) (one-more list next left given addr h.0) h.1;
+  leased = λ next left given addr h.
+      left-leasing list c left (given ++ addr ∷ []) (one-more list next left given addr h.0) h.1;
   after = λ next left given h. left-after_leases list c left given h.1;
   finds = λ cached. left-asking list c (check_questions list c cached) (check-asks list c cached);
   asks = λ next left h. left-asking list c left h.1;
@@ -101,7 +107,12 @@ pub left-are-of_plugins : (list : NetList) (c : Command) (rs : List Reply)
     → LeftAreOfPlugins list c (state_after list c rs)
 left-are-of_plugins list c rs =
     true-after (LeftAreOfPlugins list c) list c rs (of_plugins-stays list c)
-    (record { begins = has-place c; finding = tt; collecting = λ gc. tt; status = left-asking list c (status_questions list c) (status-asks list c) })
+    (record {
+      begins = has-place c;
+      finding = tt;
+      collecting = λ gc. tt;
+      status = left-asking list c (status_questions list c) (status-asks list c);
+    })
 
 -- ---- a change from outside
 
@@ -123,16 +134,24 @@ netns-place c none = names-place (record none_wrong { netns = is_host_ns c.netns
 
 drop-place : (c : Command) → drop_refusal c ≡ None → HasPlace c
 unfolding drop_refusal
-drop-place c none = names-place (record none_wrong { netns = is_host_ns c.netns; ifname = not (is_interface_name c.ifname) }) none
+drop-place c none =
+    names-place (record none_wrong { netns = is_host_ns c.netns; ifname = not (is_interface_name c.ifname) }) none
 
 outside-flush : (c : Command) (o : Option Table) → is_of_network c.verb ≡ false → LeftIsOutside c (flush_by o)
 outside-flush c None far = tt
 outside-flush c (Some table) far = (tt, far)
 
 outside-of : (c : Command) (v : Verb) → c.verb ≡ v → LeftIsOutside c (outside_of v c)
-outside-of c verbs.NsAdd is = by-unless (LeftIsOutside c) (netns_refusal c) (Changing (NsChange c.netns true)) (λ cause. tt) (λ none. (netns-place c none, ap is_of_network is))
-outside-of c verbs.NsDel is = by-unless (LeftIsOutside c) (netns_refusal c) (Changing (NsChange c.netns false)) (λ cause. tt) (λ none. (netns-place c none, ap is_of_network is))
-outside-of c verbs.Drop is = by-unless (LeftIsOutside c) (drop_refusal c) (Changing (Outside (DropLink (record { ns = c.netns; name = c.ifname })))) (λ cause. tt) (λ none. (drop-place c none, ap is_of_network is))
+outside-of c verbs.NsAdd is =
+    by-unless (LeftIsOutside c) (netns_refusal c) (Changing (NsChange c.netns true)) (λ cause. tt)
+    (λ none. (netns-place c none, ap is_of_network is))
+outside-of c verbs.NsDel is =
+    by-unless (LeftIsOutside c) (netns_refusal c) (Changing (NsChange c.netns false)) (λ cause. tt)
+    (λ none. (netns-place c none, ap is_of_network is))
+outside-of c verbs.Drop is =
+    by-unless (LeftIsOutside c) (drop_refusal c)
+    (Changing (Outside (DropLink (record { ns = c.netns; name = c.ifname })))) (λ cause. tt)
+    (λ none. (drop-place c none, ap is_of_network is))
 outside-of c verbs.Flush is = outside-flush c c.table (ap is_of_network is)
 outside-of c _ is = tt
 
@@ -143,4 +162,6 @@ outside-advance c number (Over ending given) r h = tt
 outside-advance c number _ r h = absurd h
 
 pub left-is-outside : (c : Command) (rs : List Reply) → LeftIsOutside c (outside_after c rs)
-left-is-outside c rs = after_replies-keeps (LeftIsOutside c) outside_advance 0 (outside_start c) rs (outside-advance c) (outside-of c c.verb refl)
+left-is-outside c rs =
+    after_replies-keeps (LeftIsOutside c) outside_advance 0 (outside_start c) rs (outside-advance c)
+    (outside-of c c.verb refl)

@@ -26,7 +26,8 @@ pub of_plugins-before : (first : First) (att : Att) (netns : List ℕ) → is_ho
     → AllOfPlugins att (calls_before first att netns)
 of_plugins-before first att netns place =
     let before = (first_laws first).before att netns in
-    each-both (λ x. is_plugin_call_of att x) IsWellFormedCall (calls_before first att netns) before.own (before.well_formed place)
+    each-both (λ x. is_plugin_call_of att x) IsWellFormedCall (calls_before first att netns) before.own
+    (before.well_formed place)
 
 -- ---- the calls after them make no link, and set nothing of the host's
 
@@ -55,7 +56,8 @@ well_formed-plain att _ own plain = tt
 
 later-plain : (netns : List ℕ) → is_host_ns netns ≡ false → (call : Call) → is_later_call netns call ≡ true
     → is_plain call ≡ true
-later-plain netns place (SettingSet s) later = ap (λ ns. not (is_host_ns ns)) ((bytes_eq-Decides s.ns netns).0 later) ∙ ap not place
+later-plain netns place (SettingSet s) later =
+    ap (λ ns. not (is_host_ns ns)) ((bytes_eq-Decides s.ns netns).0 later) ∙ ap not place
 later-plain netns place (VethAdd h i) later = cc
 later-plain netns place (MacvlanAdd l) later = cc
 later-plain netns place _ later = refl
@@ -71,7 +73,11 @@ of_plugins-plain att (x ∷ xs) own plain =
 pub of_plugins-back : (list : NetList) (att : Att) (netns : List ℕ) (mappings : List PortMapping) (addrs : List Addr)
     → is_host_ns netns ≡ false → AllOfPlugins att (back_calls list att netns mappings addrs)
 of_plugins-back list att netns mappings addrs place =
-    let plain : (calls : List Call) → list_all (is_later_call netns) calls ≡ true → list_all is_plain calls ≡ true = list_all-weaker (is_later_call netns) is_plain (later-plain netns place) in
+    let plain : (calls : List Call) → list_all (is_later_call netns) calls ≡ true → list_all is_plain calls ≡ true =
+    list_all-weaker (is_later_call netns) is_plain (later-plain netns place) in
     of_plugins-plain att (back_calls list att netns mappings addrs) (own-back list att netns mappings addrs)
-    (passes-back is_plain list att netns mappings addrs (λ given. plain (calls_after list.first att netns given) ((first_laws list.first).after att netns given).later)
-    (each_of (PassesChained is_plain att netns mappings) list.chained (λ c ips. plain (chained_calls c att netns mappings ips) ((chained_laws c).calls att netns mappings ips).later)) (λ cached. refl))
+    (passes-back is_plain list att netns mappings addrs
+    (λ given. plain (calls_after list.first att netns given) ((first_laws list.first).after att netns given).later)
+    (each_of (PassesChained is_plain att netns mappings) list.chained (λ c ips.
+    plain (chained_calls c att netns mappings ips) ((chained_laws c).calls att netns mappings ips).later))
+    (λ cached. refl))

@@ -36,7 +36,8 @@ pub by-call_before : (P : State → Type 0) (list : NetList) (c : Command) (numb
 by-call_before P list c number left Done undone next = next
 by-call_before P list c number left _ undone next = undone _
 
-pub by-lease : (P : State → Type 0) (list : NetList) (c : Command) (number : ℕ) (left : List RangeSet) (given : List Addr) (r : Reply)
+pub by-lease : (P : State → Type 0) (list : NetList) (c : Command) (number : ℕ) (left : List RangeSet)
+    (given : List Addr) (r : Reply)
     → OfUndoing P → ((addr : Addr) → P (leasing list c left (given ++ addr ∷ [])))
     → P (at_lease list c number left given r)
 by-lease P list c number left given (Leased addr) undone next = next addr
@@ -58,7 +59,8 @@ by-gone P number kind left ending true again next = again
 by-gone P number kind left ending false again next = next
 
 pub by-deletion : (P : State → Type 0) (number : ℕ) (kind : Kind) (left : List Kind) (ending : Ending) (r : Reply)
-    → P (Over (faulted number ending) []) → P (Deleting kind left ending) → P (deleting left ending) → P (at_deletion number kind left ending r)
+    → P (Over (faulted number ending) []) → P (Deleting kind left ending) → P (deleting left ending)
+    → P (at_deletion number kind left ending r)
 by-deletion P number kind left ending (Gone b) over again next = by-gone P number kind left ending b again next
 by-deletion P number kind left ending Fault over again next = over
 by-deletion P number kind left ending _ over again next = again
@@ -92,8 +94,10 @@ pub record StaysTrue (list : NetList) (c : Command) (P : State → Type 0) : Typ
   pub deletes : (kind : Kind) (left : List Kind) (ending : Ending) → P (Deleting kind left ending)
   pub begun : P AtBegin → P (before_leases list c (before_of list c))
   pub before : (next : Call) (left : List Call) → P (BeforeLeases next left) → P (before_leases list c left)
-  pub leased : (next : RangeSet) (left : List RangeSet) (given : List Addr) (addr : Addr) → P (Leasing next left given) → P (leasing list c left (given ++ addr ∷ []))
-  pub after : (next : Call) (left : List Call) (given : List Addr) → P (AfterLeases next left given) → P (after_leases left given)
+  pub leased : (next : RangeSet) (left : List RangeSet) (given : List Addr) (addr : Addr) → P (Leasing next left given)
+      → P (leasing list c left (given ++ addr ∷ []))
+  pub after : (next : Call) (left : List Call) (given : List Addr) → P (AfterLeases next left given)
+      → P (after_leases left given)
   pub finds : (cached : Cached) → P (asking (check_questions list c cached))
   pub asks : (next : Question) (left : List Question) → P (Asking next left) → P (asking left)
   pub collects : (work next : Work) (faults more : List ℕ) → P (Collecting work faults) → P (Collecting next more)
@@ -106,22 +110,33 @@ of-deleting P list c (k ∷ ks) ending stays = stays.deletes k ks ending
 pub true-advance : (P : State → Type 0) (list : NetList) (c : Command) (number : ℕ) (s : State) (r : Reply)
     → StaysTrue list c P → P s → P (advance list c number s r)
 unfolding advance
-true-advance P list c number AtBegin r stays h = by-begin P list c number r (λ cause. stays.over (Refused cause) []) (stays.begun h)
-true-advance P list c number (BeforeLeases next left) r stays h = by-call_before P list c number left r (λ cause. stays.caches (Refused cause)) (stays.before next left h)
-true-advance P list c number (Leasing next left given) r stays h = by-lease P list c number left given r (λ cause. stays.caches (Refused cause)) (λ addr. stays.leased next left given addr h)
-true-advance P list c number (AfterLeases next left given) r stays h = by-call_after P number left given r (λ cause. stays.caches (Refused cause)) (stays.after next left given h)
-true-advance P list c number (ReadingCache ending) r stays h = by-cache P list number ending r (stays.over (faulted number ending) []) (of-deleting P list c (kinds_of list) ending stays)
+true-advance P list c number AtBegin r stays h =
+    by-begin P list c number r (λ cause. stays.over (Refused cause) []) (stays.begun h)
+true-advance P list c number (BeforeLeases next left) r stays h =
+    by-call_before P list c number left r (λ cause. stays.caches (Refused cause)) (stays.before next left h)
+true-advance P list c number (Leasing next left given) r stays h =
+    by-lease P list c number left given r (λ cause. stays.caches (Refused cause))
+    (λ addr. stays.leased next left given addr h)
+true-advance P list c number (AfterLeases next left given) r stays h =
+    by-call_after P number left given r (λ cause. stays.caches (Refused cause)) (stays.after next left given h)
+true-advance P list c number (ReadingCache ending) r stays h =
+    by-cache P list number ending r (stays.over (faulted number ending) [])
+    (of-deleting P list c (kinds_of list) ending stays)
 true-advance P list c number (Deleting kind left ending) r stays h =
-    by-deletion P number kind left ending r (stays.over (faulted number ending) []) (stays.deletes kind left ending) (of-deleting P list c left ending stays)
-true-advance P list c number FindingEntry r stays h = by-entry P list c number r (λ cause. stays.over (Refused cause) []) stays.finds
-true-advance P list c number (Asking next left) r stays h = by-question P number next left r (λ cause. stays.over (Refused cause) []) (stays.asks next left h)
+    by-deletion P number kind left ending r (stays.over (faulted number ending) []) (stays.deletes kind left ending)
+    (of-deleting P list c left ending stays)
+true-advance P list c number FindingEntry r stays h =
+    by-entry P list c number r (λ cause. stays.over (Refused cause) []) stays.finds
+true-advance P list c number (Asking next left) r stays h =
+    by-question P number next left r (λ cause. stays.over (Refused cause) []) (stays.asks next left h)
 true-advance P list c number (Changing change) r stays h = stays.over (changed number r) []
 true-advance P list c number (Collecting work faults) r stays h = stays.collects work _ faults _ h
 true-advance P list c number (Over ending given) r stays h = h
 
 pub true-from : (P : State → Type 0) (list : NetList) (c : Command) (made : ℕ) (s : State) (rs : List Reply)
     → StaysTrue list c P → P s → P (state_from list c made s rs)
-true-from P list c made s rs stays h = after_replies-keeps P (advance list c) made s rs (λ number t r was. true-advance P list c number t r stays was) h
+true-from P list c made s rs stays h =
+    after_replies-keeps P (advance list c) made s rs (λ number t r was. true-advance P list c number t r stays was) h
 
 -- ---- the start
 
@@ -136,7 +151,9 @@ by-unless_old P v s refused h = old_ending-cases v (λ early. P (unless_ended ea
 
 pub by-unless_early : (P : State → Type 0) (v : Version) (b : Bool) (s : State) → OfRefusals P
     → P (Over (Skipped skips.Gc) []) → P s → P (unless_ended (early_ending v b) s)
-by-unless_early P v b s refused skipped h = early_ending-cases v b (λ early. P (unless_ended early s)) (λ old. refused _) (λ new disabled. skipped) (λ new enabled. h)
+by-unless_early P v b s refused skipped h =
+    early_ending-cases v b (λ early. P (unless_ended early s)) (λ old. refused _) (λ new disabled. skipped)
+    (λ new enabled. h)
 
 -- a verb that the list may disable
 pub by-either : (P : State → Type 0) (b : Bool) (s t : State) → P s → P t → P (if b then s else t)
@@ -151,14 +168,21 @@ pub record StartsTrue (list : NetList) (c : Command) (P : State → Type 0) : Ty
 
 true-start : (P : State → Type 0) (list : NetList) (c : Command) (v : Verb) → StaysTrue list c P → StartsTrue list c P
     → c.verb ≡ v → P (start_of list v c)
-true-start P list c verbs.Add stays starts is = by-unless P (add_refusal c) AtBegin (λ cause. stays.over (Refused cause) []) starts.begins
-true-start P list c verbs.Del stays starts is = by-unless P (del_refusal c) (ReadingCache Yes) (λ cause. stays.over (Refused cause) []) (λ none. stays.caches Yes)
+true-start P list c verbs.Add stays starts is =
+    by-unless P (add_refusal c) AtBegin (λ cause. stays.over (Refused cause) []) starts.begins
+true-start P list c verbs.Del stays starts is =
+    by-unless P (del_refusal c) (ReadingCache Yes) (λ cause. stays.over (Refused cause) []) (λ none. stays.caches Yes)
 true-start P list c verbs.Check stays starts is =
-    by-unless P (del_refusal c) (if list.disable_check then Over (Skipped skips.Check) [] else FindingEntry) (λ cause. stays.over (Refused cause) [])
-    (λ none. by-either P list.disable_check (Over (Skipped skips.Check) []) FindingEntry (stays.over (Skipped skips.Check) []) starts.finding)
+    by-unless P (del_refusal c) (if list.disable_check then Over (Skipped skips.Check) [] else FindingEntry)
+    (λ cause. stays.over (Refused cause) [])
+    (λ none. by-either P list.disable_check (Over (Skipped skips.Check) []) FindingEntry
+    (stays.over (Skipped skips.Check) []) starts.finding)
 true-start P list c verbs.Gc stays starts is =
-    by-unless_early P list.version list.disable_gc (Collecting (start_work (gc_of list c)) []) (λ cause. stays.over (Refused cause) []) (stays.over (Skipped skips.Gc) []) (starts.collecting is)
-true-start P list c verbs.Status stays starts is = by-unless_old P list.version (asking (status_questions list c)) (λ cause. stays.over (Refused cause) []) starts.status
+    by-unless_early P list.version list.disable_gc (Collecting (start_work (gc_of list c)) [])
+    (λ cause. stays.over (Refused cause) []) (stays.over (Skipped skips.Gc) []) (starts.collecting is)
+true-start P list c verbs.Status stays starts is =
+    by-unless_old P list.version (asking (status_questions list c))
+    (λ cause. stays.over (Refused cause) []) starts.status
 true-start P list c verbs.Version stays starts is = stays.over Versions []
 true-start P list c verbs.NsAdd stays starts is = stays.over Yes []
 true-start P list c verbs.NsDel stays starts is = stays.over Yes []
@@ -167,4 +191,5 @@ true-start P list c verbs.Flush stays starts is = stays.over Yes []
 
 pub true-after : (P : State → Type 0) (list : NetList) (c : Command) (rs : List Reply) → StaysTrue list c P
     → StartsTrue list c P → P (state_after list c rs)
-true-after P list c rs stays starts = true-from P list c 0 (start_state list c) rs stays (true-start P list c c.verb stays starts refl)
+true-after P list c rs stays starts =
+    true-from P list c 0 (start_state list c) rs stays (true-start P list c c.verb stays starts refl)

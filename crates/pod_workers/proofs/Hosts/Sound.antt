@@ -36,11 +36,14 @@ goes_by list c made cut (Calls k) call faulty is =
 
 -- the same of a command of a world
 abbrev pub GoesIn : World → ℕ → Command → Call → Bool → Type 0
-GoesIn w n c call faulty = Goes c (length (own_replies w n)) (is_cut w) (turn_by (list_for w.plan c) c (own_replies w n)) call faulty
+GoesIn w n c call faulty =
+    Goes c (length (own_replies w n)) (is_cut w) (turn_by (list_for w.plan c) c (own_replies w n)) call faulty
 
 pub goes_in : (w : World) (n : ℕ) (c : Command) (call : Call) (faulty : Bool)
     → next_of w c (own_replies w n) ≡ next.Call call faulty → GoesIn w n c call faulty
-goes_in w n c call faulty is = goes_by (list_for w.plan c) c (length (own_replies w n)) (is_cut w) (turn_by (list_for w.plan c) c (own_replies w n)) call faulty is
+goes_in w n c call faulty is =
+    goes_by (list_for w.plan c) c (length (own_replies w n)) (is_cut w)
+    (turn_by (list_for w.plan c) c (own_replies w n)) call faulty is
 
 -- ---- every legal world
 
@@ -57,7 +60,8 @@ next-well : (w : World) (c : Command) (rs : List Reply) (call : Call) (faulty : 
     → next_of w c rs ≡ next.Call call faulty → GoesWell w.plan (host_of w) call
 next-well w c rs call faulty fine is =
     let goes = goes_by (list_for w.plan c) c (length rs) (is_cut w) (turn_by (list_for w.plan c) c rs) call faulty is in
-    by-list w.plan (host_of w) c rs (list_for w.plan c) call fine.plan fine.sound fine.lasts (list_for-found w.plan c) goes.call_is
+    by-list w.plan (host_of w) c rs (list_for w.plan c) call fine.plan fine.sound fine.lasts
+    (list_for-found w.plan c) goes.call_is
 
 either-fine : (p : Plan) (b : Bool) (old new : Host) → IsSound old → AreLastsOfSets p old.lasts → IsSound new
     → AreLastsOfSets p new.lasts → IsSound (if b then old else new) × AreLastsOfSets p (if b then old else new).lasts
@@ -70,9 +74,15 @@ fine-done w n c (next.Answer a) fine is = record { plan = fine.plan; sound = fin
 fine-done w n c (next.Call call faulty) fine is =
     let well = next-well w c (own_replies w n) call faulty fine is in
     let e = entry_of (host_of w) n call faulty in
-    let both = either-fine w.plan (is_fault e.reply) (host_of w) (apply (host_of w) call).0 fine.sound fine.lasts (IsSound-apply (host_of w) call fine.sound well.0) well.1 in
+    let both =
+    either-fine w.plan (is_fault e.reply) (host_of w) (apply (host_of w) call).0 fine.sound fine.lasts
+    (IsSound-apply (host_of w) call fine.sound well.0) well.1 in
     let grown = after-append w.plan.pods.opening w.history e in
-    record { plan = fine.plan; sound = subst IsSound (sym grown) both.0; lasts = subst (λ (h : Host). AreLastsOfSets w.plan h.lasts) (sym grown) both.1 }
+    record {
+      plan = fine.plan;
+      sound = subst IsSound (sym grown) both.0;
+      lasts = subst (λ (h : Host). AreLastsOfSets w.plan h.lasts) (sym grown) both.1;
+    }
 
 fine-begun : (w : World) → IsBegun w → IsFine w
 fine-begun w begun =
@@ -85,9 +95,12 @@ fine-begun w begun =
 
 pub fine : (w : World) → Legal w → IsFine w
 fine _ (starts w begun) = fine-begun w begun
-fine _ (steps v w n c legal ready is) = subst IsFine (sym is) (fine-done v n c.command (next_of v c.command (own_replies v n)) (fine v legal) refl)
-fine _ (refused_memory v w n c legal ready is) = subst IsFine (sym is) (let f = fine v legal in record { plan = f.plan; sound = f.sound; lasts = f.lasts })
-fine _ (turns v w legal less over is) = subst IsFine (sym is) (let f = fine v legal in record { plan = f.plan; sound = f.sound; lasts = f.lasts })
+fine _ (steps v w n c legal ready is) =
+    subst IsFine (sym is) (fine-done v n c.command (next_of v c.command (own_replies v n)) (fine v legal) refl)
+fine _ (refused_memory v w n c legal ready is) =
+    subst IsFine (sym is) (let f = fine v legal in record { plan = f.plan; sound = f.sound; lasts = f.lasts })
+fine _ (turns v w legal less over is) =
+    subst IsFine (sym is) (let f = fine v legal in record { plan = f.plan; sound = f.sound; lasts = f.lasts })
 
 pub sound_host : (w : World) → Legal w → IsSound (host_of w)
 sound_host w legal = (fine w legal).sound

@@ -44,7 +44,9 @@ pub next-is-call : (s : Progress) (c : Command) (cut stopped : Bool) (call : Cal
     → next.Call call (is_faulty c s.made) ≡ next_in c cut s
 unfolding next_in
 next-is-call s c cut stopped call of_command stop below is =
-    sym (ap (next_by s.list c s.made cut) (turn-calls c s.state call (ap (λ k. next_call k s.state) (sym of_command) ∙ is)) ∙ call-by s.list c s.made call _ (sym stop ∙ below))
+    sym (ap (next_by s.list c s.made cut)
+    (turn-calls c s.state call (ap (λ k. next_call k s.state) (sym of_command) ∙ is))
+    ∙ call-by s.list c s.made call _ (sym stop ∙ below))
 
 stop-by : (made : ℕ) (n : Next) (b : Bool) → b ≡ true
     → (if b then next.Answer (Stopped made) else n) ≡ next.Answer (Stopped made)
@@ -63,9 +65,11 @@ pub next-is-stop : (s : Progress) (c : Command) (cut stopped : Bool) → s.comma
 unfolding next_in
 next-is-stop s c cut stopped of_command stop reached is_open =
     let u = open-calls c s.state is_open in
-    sym (ap (next_by s.list c s.made cut) (turn-calls c s.state u.0 u.1) ∙ stop-by s.made (next.Call u.0 (is_faulty c s.made)) _ (sym stop ∙ reached))
+    sym (ap (next_by s.list c s.made cut) (turn-calls c s.state u.0 u.1)
+    ∙ stop-by s.made (next.Call u.0 (is_faulty c s.made)) _ (sym stop ∙ reached))
 
-call-open : (list : Option NetList) (c : Command) (made : ℕ) (cut : Bool) (s : State) (t : Turn) (call : Call) (faulty : Bool)
+call-open : (list : Option NetList) (c : Command) (made : ℕ) (cut : Bool) (s : State) (t : Turn)
+    (call : Call) (faulty : Bool)
     → turn c s ≡ t → next_by list c made cut t ≡ next.Call call faulty → IsOpen s
 call-open list c made cut s (Finishes f) call faulty t_is is = absurd cc
 call-open list c made cut s (Calls k) call faulty t_is is = open-where c s k t_is
@@ -80,13 +84,15 @@ open-before-call s c cut call faulty is = call-open s.list c s.made cut s.state 
 answer-by : (list : Option NetList) (c : Command) (o : Option Finish) (s : State) (made : ℕ) (cut : Bool) (a : Answer)
     → finish_of s ≡ o → option_map (answer_by list c) o ≡ Some a → next.Answer a ≡ next_by list c made cut (turn c s)
 answer-by list c None s made cut a o_is is = absurd (none-some a is)
-answer-by list c (Some f) s made cut a o_is is = ap next.Answer (sym (same_Some _ a is)) ∙ sym (ap (next_by list c made cut) (turn-finishes c s f o_is))
+answer-by list c (Some f) s made cut a o_is is =
+    ap next.Answer (sym (same_Some _ a is)) ∙ sym (ap (next_by list c made cut) (turn-finishes c s f o_is))
 
 pub next-is-answer : (s : Progress) (c : Command) (cut : Bool) (a : Answer) → s.command ≡ c
     → option_map (answer_by s.list s.command) (finish_of s.state) ≡ Some a → next.Answer a ≡ next_in c cut s
 unfolding next_in
 next-is-answer s c cut a of_command is =
-    answer-by s.list c (finish_of s.state) s.state s.made cut a refl (ap (λ k. option_map (answer_by s.list k) (finish_of s.state)) (sym of_command) ∙ is)
+    answer-by s.list c (finish_of s.state) s.state s.made cut a refl
+    (ap (λ k. option_map (answer_by s.list k) (finish_of s.state)) (sym of_command) ∙ is)
 
 -- a run that is over has an answer
 pub over-answers : (s : Progress) → (IsOpen s.state → ⊥)
@@ -105,14 +111,18 @@ open-has-next s is_open none = let u = open-calls s.command s.state is_open in n
 pub steps-answered : (host host' : Host) (h h' : List Entry) (c : Command) (s : Progress) (x : Next) (a : Answer)
     → x ≡ next.Answer a → host' ≡ host → h' ≡ h → DoesNext host host' h h' c s x (step.Answered a)
 unfolding DoesNext
-steps-answered host host' h h' c s x a is same_host same_history = subst (λ y. DoesNext host host' h h' c s y (step.Answered a)) (sym is) (refl, same_host, same_history)
+steps-answered host host' h h' c s x a is same_host same_history =
+    subst (λ y. DoesNext host host' h h' c s y (step.Answered a)) (sym is) (refl, same_host, same_history)
 
-pub steps-called : (host host' : Host) (h h' : List Entry) (c : Command) (s : Progress) (t : RunView) (x : Next) (call : Call) (faulty : Bool) (reply : Reply)
+pub steps-called : (host host' : Host) (h h' : List Entry) (c : Command) (s : Progress) (t : RunView) (x : Next)
+    (call : Call) (faulty : Bool) (reply : Reply)
     → x ≡ next.Call call faulty → reply ≡ reply_to host call faulty
-    → host' ≡ after_entry host (entry_by host c.number call faulty) → h' ≡ h ++ entry_by host c.number call faulty ∷ [] → t.progress ≡ advanced s reply → DoesNext host host' h h' c s x (step.Called t)
+    → host' ≡ after_entry host (entry_by host c.number call faulty) → h' ≡ h ++ entry_by host c.number call faulty ∷ []
+    → t.progress ≡ advanced s reply → DoesNext host host' h h' c s x (step.Called t)
 unfolding DoesNext
 steps-called host host' h h' c s t x call faulty reply is replied host_is history_is after =
-    subst (λ y. DoesNext host host' h h' c s y (step.Called t)) (sym is) (after ∙ ap (advanced s) replied, host_is, history_is)
+    subst (λ y. DoesNext host host' h h' c s y (step.Called t)) (sym is)
+    (after ∙ ap (advanced s) replied, host_is, history_is)
 
 pub may-call : (host : Host) (x : Next) (call : Call) (faulty : Bool) → MayBeMade host x → x ≡ next.Call call faulty
     → faulty ≡ false → IsAllowed host call
@@ -134,9 +144,11 @@ why-refused false false frees = absurd (frees refl refl)
 refused-take : (host host' : Host) (call : Call) (faulty : Bool) (reply : Reply) → host' ≡ host_after host call reply
     → reply ≡ reply_to host call faulty
     → (holds_text_or_list reply ≡ true) ⊎ (is_fault reply ≡ true) → host' ≡ host
-refused-take host host' call faulty reply is replied (inr fault) = is ∙ ap (λ b. if b then host else (apply host call).0) fault
+refused-take host host' call faulty reply is replied (inr fault) =
+    is ∙ ap (λ b. if b then host else (apply host call).0) fault
 refused-take host host' call true reply is replied (inl holds) = is ∙ ap (host_after host call) replied
-refused-take host host' call false reply is replied (inl holds) = is ∙ left-by (is_fault reply) ((IsReplyOf-apply host call).leaves (ap holds_text_or_list (sym replied) ∙ holds))
+refused-take host host' call false reply is replied (inl holds) =
+    is ∙ left-by (is_fault reply) ((IsReplyOf-apply host call).leaves (ap holds_text_or_list (sym replied) ∙ holds))
 
 pub refused-reply : (host host' : Host) (call : Call) (faulty : Bool) (reply : Reply)
     → host' ≡ host_after host call reply → reply ≡ reply_to host call faulty

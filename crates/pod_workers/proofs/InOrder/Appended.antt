@@ -26,13 +26,17 @@ step-own : (r : Result StepEnd NoMemory) (v w : World) (number : ℕ) → IsRead
     → AppendsOwn v w number
 step-own (Ok x) v w number ready is =
     subst (AppendsOwn v w) (sym ready.2)
-    (subst (λ (u : World). AppendsOwn v u (ready.0 + 1)) (sym (is.0 ready.0 ready.1 ready.2 ready.3.there).0) (done-own v ready.0 (next_of v ready.1.command (own_replies v ready.0))))
-step-own (Err x) v w number ready is = subst (λ (u : World). AppendsOwn v u number) (sym (is.1 ready.0 ready.1 ready.2 ready.3.there)) (appends-none (IsEntryBy number) v.history)
+    (subst (λ (u : World). AppendsOwn v u (ready.0 + 1)) (sym (is.0 ready.0 ready.1 ready.2 ready.3.there).0)
+    (done-own v ready.0 (next_of v ready.1.command (own_replies v ready.0))))
+step-own (Err x) v w number ready is =
+    subst (λ (u : World). AppendsOwn v u number) (sym (is.1 ready.0 ready.1 ready.2 ready.3.there))
+    (appends-none (IsEntryBy number) v.history)
 
 pub own-more : (r : Result StepEnd NoMemory) (u v w : World) (number : ℕ) → AppendsOwn u v number
     → IsReadyNumber v number → IsStepped r v w number → AppendsOwn u w number
 own-more r u v w number own ready is =
-    appends-more (All (IsEntryBy number)) (All (IsEntryBy number)) (All (IsEntryBy number)) u.history v.history w.history (All-append (IsEntryBy number)) own (step-own r v w number ready is)
+    appends-more (All (IsEntryBy number)) (All (IsEntryBy number)) (All (IsEntryBy number)) u.history v.history
+    w.history (All-append (IsEntryBy number)) own (step-own r v w number ready is)
 
 -- ---- command after command
 
@@ -44,13 +48,17 @@ IsBelow number e = e.command < number
 
 -- the entries that are new are in file order, and of commands with numbers below this one
 abbrev pub AppendsBelow : World → World → ℕ → Type 0
-AppendsBelow old new number = Appends old.history new.history (λ es. StandInFileOrder old.plan es × All (IsBelow number) es)
+AppendsBelow old new number =
+    Appends old.history new.history (λ es. StandInFileOrder old.plan es × All (IsBelow number) es)
 
 pub below-none : (w : World) (number : ℕ) → AppendsBelow w w number
 below-none w number = (
   [],
   sym (append-nil w.history),
-  ((λ before between rest e f m n d c at of_e of_f. absurd (split_nil before (between ++ f ∷ rest) e at)), All-nil (IsBelow number)),
+  (
+    (λ before between rest e f m n d c at of_e of_f. absurd (split_nil before (between ++ f ∷ rest) e at)),
+    All-nil (IsBelow number),
+  ),
 )
 
 middle : (P : Entry → Type 0) (before rest : List Entry) (e : Entry) → All P (before ++ e ∷ rest) → P e
@@ -62,7 +70,8 @@ in_order-push : (p : Plan) (number : ℕ) (es : List Entry) (x : Entry) → Stan
 in_order-push p number es x order most own = λ before between rest e f m n d c at of_e of_f.
     elim (two_snoc es before between rest x e f at) [
       | inl t ↦
-          let low : e.command ≤ number = middle (IsUpTo number) before between e (subst (All (IsUpTo number)) t.0 most) in
+          let low : e.command ≤ number =
+          middle (IsUpTo number) before between e (subst (All (IsUpTo number)) t.0 most) in
           let last : x.command ≡ f.command = ap (λ (g : Entry). g.command) t.1 in
           let first_is = of_e.number in
           let second_is = of_f.number in
@@ -78,15 +87,20 @@ in_order-own p number es (x ∷ own) order most all =
     let is : x.command ≡ number = All-head (IsEntryBy number) x own all in
     let up_to : x.command ≤ number = omega arith in
     subst (StandInFileOrder p) (append_assoc es (x ∷ []) own)
-    (in_order-own p number (es ++ x ∷ []) own (in_order-push p number es x order most is) (All-push (IsUpTo number) es x most up_to) (All-tail (IsEntryBy number) x own all))
+    (in_order-own p number (es ++ x ∷ []) own (in_order-push p number es x order most is)
+    (All-push (IsUpTo number) es x most up_to) (All-tail (IsEntryBy number) x own all))
 
 pub below-own : (u v w : World) (number : ℕ) → AppendsBelow u v number → AppendsOwn v w number
     → AppendsBelow u w (number + 1)
 below-own u v w number below own =
-    appends-more (λ es. StandInFileOrder u.plan es × All (IsBelow number) es) (All (IsEntryBy number)) (λ es. StandInFileOrder u.plan es × All (IsBelow (number + 1)) es) u.history v.history w.history
+    appends-more (λ es. StandInFileOrder u.plan es × All (IsBelow number) es) (All (IsEntryBy number))
+    (λ es. StandInFileOrder u.plan es × All (IsBelow (number + 1)) es) u.history v.history w.history
     (λ xs ys first all. (
-      in_order-own u.plan number xs ys first.0 (All-weaker (IsBelow number) (IsUpTo number) (λ e less. omega arith) xs first.1) all,
-      All-append (IsBelow (number + 1)) xs ys (All-weaker (IsBelow number) (IsBelow (number + 1)) (λ e less. omega arith) xs first.1) (All-weaker (IsEntryBy number) (IsBelow (number + 1)) (λ e is. omega arith) ys all),
+      in_order-own u.plan number xs ys first.0
+          (All-weaker (IsBelow number) (IsUpTo number) (λ e less. omega arith) xs first.1) all,
+      All-append (IsBelow (number + 1)) xs ys
+          (All-weaker (IsBelow number) (IsBelow (number + 1)) (λ e less. omega arith) xs first.1)
+          (All-weaker (IsEntryBy number) (IsBelow (number + 1)) (λ e is. omega arith) ys all),
     ))
     below own
 

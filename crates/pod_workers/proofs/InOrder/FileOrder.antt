@@ -42,10 +42,12 @@ none_later w before between f m n d c legal order ready at of_f = elim (cases_lt
 file_order_entered : (w : World) (n : ℕ) (c : Placed) (e : Entry) → Legal w → IsInFileOrder w → IsReady w n c
     → EarlierAreAnswered w n → is_cut w ≡ false → e.command ≡ n + 1 → IsInFileOrder (with_entry w e)
 file_order_entered w n c e legal order ready earlier no_cut own = record {
-  entries = each_two-grows w.plan w.history e n c AreInFileOrder (record { number = own; there = ready.there }) order.entries
+  entries =
+      each_two-grows w.plan w.history e n c AreInFileOrder (record { number = own; there = ready.there }) order.entries
       (λ before between f m d at of_f. none_later w before between f m n d c legal order ready at of_f);
   before = done_before_entered w n c e (λ d x. d.round ≡ x.round) legal order.before ready
-      (λ m d less at round. let here : d.round ≡ w.round = round ∙ ready.current in (here, earlier m d at less here)) no_cut own;
+      (λ m d less at round. let here : d.round ≡ w.round = round ∙ ready.current in (here, earlier m d at less here))
+      no_cut own;
 }
 
 -- ---- a step
@@ -54,11 +56,13 @@ file_order_done : (w : World) (n : ℕ) (c : Placed) (x : Next) → Legal w → 
     → EarlierAreAnswered w n → next_of w c.command (own_replies w n) ≡ x → IsInFileOrder (done w n x)
 file_order_done w n c (next.Answer a) legal order ready earlier is = file_order_answered w n c a order ready
 file_order_done w n c (next.Call call faulty) legal order ready earlier is =
-    file_order_entered w n c (entry_of (host_of w) n call faulty) legal order ready earlier (goes_in w n c.command call faulty is).no_cut refl
+    file_order_entered w n c (entry_of (host_of w) n call faulty) legal order ready earlier
+    (goes_in w n c.command call faulty is).no_cut refl
 
 pub file_order_stepped : (w : World) (n : ℕ) (c : Placed) → Legal w → IsInFileOrder w → IsReady w n c
     → EarlierAreAnswered w n → IsInFileOrder (stepped w n c.command)
-file_order_stepped w n c legal order ready earlier = file_order_done w n c (next_of w c.command (own_replies w n)) legal order ready earlier refl
+file_order_stepped w n c legal order ready earlier =
+    file_order_done w n c (next_of w c.command (own_replies w n)) legal order ready earlier refl
 
 pub file_order_next_round : (w : World) → IsInFileOrder w → IsInFileOrder (next_round w)
 file_order_next_round w order = record { entries = order.entries; before = order.before }

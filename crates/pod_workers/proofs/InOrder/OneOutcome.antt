@@ -20,7 +20,8 @@ turn_at p h n c = turn_by (list_for p c.command) c.command (replies_of n h)
 -- the command makes no call after this history
 abbrev IsFinished : Plan → List Entry → ℕ → Placed → Type 0
 IsFinished p h n c =
-    ((finish : Finish) × (turn_at p h n c ≡ Finishes finish)) ⊎ ((is_stop c.command.stop (length (replies_of n h)) ≡ true) ⊎ EntryIsInRound p h p.stop_at c.round)
+    ((finish : Finish) × (turn_at p h n c ≡ Finishes finish))
+    ⊎ ((is_stop c.command.stop (length (replies_of n h)) ≡ true) ⊎ EntryIsInRound p h p.stop_at c.round)
 
 -- the entry of the first command that makes a call
 record IsNext (p : Plan) (h : List Entry) (e : Entry) : Type 0 where
@@ -41,20 +42,27 @@ same_call x y t one two = cc
 one_call : (p : Plan) (h : List Entry) (e g : Entry) (f : Follows p h e) (o : Follows p h g) → f.place ≡ o.place → e ≡ g
 one_call p h e g f o place =
     let by : f.by ≡ o.by = same_Some f.by o.by (sym f.of.there ∙ ap (slice_get (commands_of p)) place ∙ o.of.there) in
-    let turn : turn_at p h f.place f.by ≡ turn_at p h o.place o.by = ap (λ (n : ℕ). turn_at p h n f.by) place ∙ ap (λ (c : Placed). turn_at p h o.place c) by in
+    let turn : turn_at p h f.place f.by ≡ turn_at p h o.place o.by =
+    ap (λ (n : ℕ). turn_at p h n f.by) place ∙ ap (λ (c : Placed). turn_at p h o.place c) by in
     let call : e.call ≡ g.call = same_call e.call g.call (turn_at p h f.place f.by) f.call (turn ∙ o.call) in
-    let faulty : is_faulty f.by.command (length (replies_of f.place h)) ≡ is_faulty o.by.command (length (replies_of o.place h)) =
-    ap (λ (n : ℕ). is_faulty f.by.command (length (replies_of n h))) place ∙ ap (λ (c : Placed). is_faulty c.command (length (replies_of o.place h))) by in
+    let faulty : is_faulty f.by.command (length (replies_of f.place h))
+    ≡ is_faulty o.by.command (length (replies_of o.place h)) =
+    ap (λ (n : ℕ). is_faulty f.by.command (length (replies_of n h))) place
+    ∙ ap (λ (c : Placed). is_faulty c.command (length (replies_of o.place h))) by in
     let reply : e.reply ≡ g.reply =
-    f.reply ∙ ap (λ (k : Call). reply_to (after p.pods.opening h) k (is_faulty f.by.command (length (replies_of f.place h)))) call
+    f.reply
+    ∙ ap (λ (k : Call). reply_to (after p.pods.opening h) k (is_faulty f.by.command (length (replies_of f.place h))))
+    call
     ∙ ap (reply_to (after p.pods.opening h) g.call) faulty ∙ sym o.reply in
     same_entry e g (f.of.number ∙ ap (λ (n : ℕ). n + 1) place ∙ sym o.of.number) call reply
 
 one_next : (p : Plan) (h : List Entry) (e g : Entry) → IsNext p h e → IsNext p h g → e ≡ g
 one_next p h e g x y = elim (cases_order x.follows.place y.follows.place) [
   | inl same ↦ one_call p h e g x.follows y.follows same
-  | inr (inl less) ↦ absurd (goes_on p h e x.follows x.uncut (y.before x.follows.place x.follows.by less x.follows.of.there))
-  | inr (inr more) ↦ absurd (goes_on p h g y.follows y.uncut (x.before y.follows.place y.follows.by more y.follows.of.there))
+  | inr (inl less) ↦
+      absurd (goes_on p h e x.follows x.uncut (y.before x.follows.place x.follows.by less x.follows.of.there))
+  | inr (inr more) ↦
+      absurd (goes_on p h g y.follows y.uncut (x.before y.follows.place y.follows.by more y.follows.of.there))
 ]
 
 -- ---- one trace
@@ -66,8 +74,12 @@ IsTrace p before (e ∷ es) = IsNext p before e × IsTrace p (before ++ e ∷ []
 
 one_trace : (p : Plan) (before xs ys : List Entry) → IsTrace p before xs → IsTrace p before ys → xs ≡ ys
 one_trace p before [] [] over also = refl
-one_trace p before [] (y ∷ ys) over also = absurd (goes_on p before y also.0.follows also.0.uncut (over also.0.follows.place also.0.follows.by also.0.follows.of.there))
-one_trace p before (x ∷ xs) [] also over = absurd (goes_on p before x also.0.follows also.0.uncut (over also.0.follows.place also.0.follows.by also.0.follows.of.there))
+one_trace p before [] (y ∷ ys) over also =
+    absurd (goes_on p before y also.0.follows also.0.uncut
+    (over also.0.follows.place also.0.follows.by also.0.follows.of.there))
+one_trace p before (x ∷ xs) [] also over =
+    absurd (goes_on p before x also.0.follows also.0.uncut
+    (over also.0.follows.place also.0.follows.by also.0.follows.of.there))
 one_trace p before (x ∷ xs) (y ∷ ys) one two =
     let same : x ≡ y = one_next p before x y one.0 two.0 in
     let rest : IsTrace p (before ++ y ∷ []) xs = subst (λ (z : Entry). IsTrace p (before ++ z ∷ []) xs) same one.1 in
@@ -77,10 +89,13 @@ one_trace p before (x ∷ xs) (y ∷ ys) one two =
 
 -- two entries of one list: either stands first, or they are one
 split_either : (xs ys before rest : List Entry) (x e : Entry) → xs ++ x ∷ ys ≡ before ++ e ∷ rest
-    → ((between : List Entry) × (before ≡ xs ++ x ∷ between)) ⊎ ((x ≡ e) ⊎ ((between : List Entry) × (xs ≡ before ++ e ∷ between) × (rest ≡ between ++ x ∷ ys)))
+    → ((between : List Entry) × (before ≡ xs ++ x ∷ between))
+    ⊎ ((x ≡ e) ⊎ ((between : List Entry) × (xs ≡ before ++ e ∷ between) × (rest ≡ between ++ x ∷ ys)))
 split_either [] ys [] rest x e is = inr (inl (cons_parts x e ys rest is).0)
-split_either [] ys (b ∷ bs) rest x e is = inl (bs, ap (λ (z : Entry). z ∷ bs) (sym (cons_parts x b ys (bs ++ e ∷ rest) is).0))
-split_either (z ∷ zs) ys [] rest x e is = let p = cons_parts z e (zs ++ x ∷ ys) rest is in inr (inr (zs, ap (λ (y : Entry). y ∷ zs) p.0, sym p.1))
+split_either [] ys (b ∷ bs) rest x e is =
+    inl (bs, ap (λ (z : Entry). z ∷ bs) (sym (cons_parts x b ys (bs ++ e ∷ rest) is).0))
+split_either (z ∷ zs) ys [] rest x e is =
+    let p = cons_parts z e (zs ++ x ∷ ys) rest is in inr (inr (zs, ap (λ (y : Entry). y ∷ zs) p.0, sym p.1))
 split_either (z ∷ zs) ys (b ∷ bs) rest x e is =
     let p = cons_parts z b (zs ++ x ∷ ys) (bs ++ e ∷ rest) is in
     elim (split_either zs ys bs rest x e p.1) [
@@ -95,11 +110,15 @@ no_reply_after : (w : World) → Legal w → IsInFileOrder w
     → w.history ≡ before ++ e ∷ (between ++ rest) → replies_of m rest ≡ []
 no_reply_after w legal order before between [] e n m c of_e less at = refl
 no_reply_after w legal order before between (f ∷ rest) e n m c of_e less at =
-    let split : w.history ≡ (before ++ e ∷ between) ++ f ∷ rest = at ∙ sym (append_assoc before (e ∷ between) (f ∷ rest)) in
+    let split : w.history ≡ (before ++ e ∷ between) ++ f ∷ rest =
+    at ∙ sym (append_assoc before (e ∷ between) (f ∷ rest)) in
     let follows = each_follows w legal (before ++ e ∷ between) rest f split in
-    let up : n ≤ follows.place = order.entries before between rest e f n follows.place c follows.by at of_e follows.of in
+    let up : n ≤ follows.place =
+    order.entries before between rest e f n follows.place c follows.by at of_e follows.of in
     let number = follows.of.number in
-    let later = no_reply_after w legal order before (between ++ f ∷ []) rest e n m c of_e less (at ∙ ap (λ l. before ++ e ∷ l) (sym (append_assoc between (f ∷ []) rest))) in
+    let later =
+    no_reply_after w legal order before (between ++ f ∷ []) rest e n m c of_e less
+    (at ∙ ap (λ l. before ++ e ∷ l) (sym (append_assoc between (f ∷ []) rest))) in
     elim (eqb_tells f.command (m + 1)) [ inl t ↦ absurd (let same = t.1 in omega arith) | inr other ↦ rw other.0 later ]
 
 replies_before : (w : World) → Legal w → IsInFileOrder w → (before rest : List Entry) (e : Entry) (n m : ℕ) (c : Placed)
@@ -108,8 +127,14 @@ replies_before : (w : World) → Legal w → IsInFileOrder w → (before rest : 
 replies_before w legal order before rest e n m c of_e less at =
     let none = no_reply_after w legal order before [] rest e n m c of_e less at in
     let own = of_e.number in
-    let here : replies_of m (e ∷ rest) ≡ [] = elim (eqb_tells e.command (m + 1)) [ inl t ↦ absurd (let same = t.1 in omega arith) | inr other ↦ rw other.0 none ] in
-    ap (replies_of m) at ∙ replies_of-append m before (e ∷ rest) ∙ ap (λ l. replies_of m before ++ l) here ∙ append-nil (replies_of m before)
+    let here : replies_of m (e ∷ rest) ≡ [] = elim (eqb_tells e.command (m + 1)) [
+      | inl t ↦ absurd (let same = t.1 in omega arith)
+      | inr other ↦ rw other.0 none
+    ] in
+    ap (replies_of m) at
+    ∙ replies_of-append m before (e ∷ rest)
+    ∙ ap (λ l. replies_of m before ++ l) here
+    ∙ append-nil (replies_of m before)
 
 finished_at_end : (w : World) → IsDoneInFileOrder w → (n : ℕ) (c : Placed) → slice_get (commands_of w.plan) n ≡ Some c
     → IsFinished w.plan w.history n c
@@ -117,12 +142,16 @@ finished_at_end w is n c at =
     let a = all_answered w (in_order w is.legal) is.ended n c at in
     elim (answer_is_due w is.legal n c at a.0 a.1) [
       | inl scripts ↦ inl (scripts.0, scripts.1)
-      | inr (inl stopped) ↦ elim stopped.1 [ inl own ↦ inr (inl (at_own_stop c.command.stop (length (own_replies w n)) own)) | inr cut ↦ inr (inr cut) ]
+      | inr (inl stopped) ↦ elim stopped.1 [
+        | inl own ↦ inr (inl (at_own_stop c.command.stop (length (own_replies w n)) own))
+        | inr cut ↦ inr (inr cut)
+      ]
       | inr (inr lacking) ↦ absurd (is.had_memory n (a.1 ∙ ap (λ (x : Answer). Some (Some x)) lacking))
     ]
 
 -- the entry that cut an earlier round stands before each entry of a later one
-cut_stands_before : (w : World) (before rest : List Entry) (e : Entry) (n : ℕ) (c : Placed) (stop : Option ℕ) (round : ℕ)
+cut_stands_before : (w : World) (before rest : List Entry) (e : Entry) (n : ℕ) (c : Placed)
+    (stop : Option ℕ) (round : ℕ)
     → Legal w → w.history ≡ before ++ e ∷ rest → IsEntryOf w.plan e n c → round < c.round
     → EntryIsInRound w.plan w.history stop round → EntryIsInRound w.plan before stop round
 cut_stands_before w before rest e n c None round legal at of_e less is = is
@@ -130,9 +159,14 @@ cut_stands_before w before rest e n c (Some number) round legal at of_e less is 
     let of_round = is.8 in
     elim (split_either is.0 is.1 before rest is.2 e (sym is.5 ∙ at)) [
       | inl t ↦ (is.0, t.0, is.2, is.3, is.4, t.1, is.6, is.7, is.8)
-      | inr (inl same) ↦ absurd (let round_is : is.4.round ≡ c.round = ap (λ (q : Placed). q.round) (one_command w.plan is.2 e is.3 n is.4 c same is.7 of_e).1 in omega arith)
+      | inr (inl same) ↦
+          absurd (let round_is : is.4.round ≡ c.round =
+          ap (λ (q : Placed). q.round) (one_command w.plan is.2 e is.3 n is.4 c same is.7 of_e).1 in
+          omega arith)
       | inr (inr t) ↦ absurd (
-          let up = (two_entries w legal).rounds before t.0 is.1 e is.2 n is.3 c is.4 (at ∙ ap (λ l. before ++ e ∷ l) t.2) of_e is.7 in
+          let up =
+          (two_entries w legal).rounds before t.0 is.1 e is.2 n is.3 c is.4
+          (at ∙ ap (λ l. before ++ e ∷ l) t.2) of_e is.7 in
           omega arith)
     ]
 
@@ -140,40 +174,53 @@ finished_before : (w : World) → IsDoneInFileOrder w → (before rest : List En
     → w.history ≡ before ++ e ∷ rest → IsEntryOf w.plan e n c → m < n
     → slice_get (commands_of w.plan) m ≡ Some d → IsFinished w.plan before m d
 finished_before w is before rest e n m c d at of_e less at_m =
-    let own : own_replies w m ≡ replies_of m before = replies_before w is.legal is.in_file_order before rest e n m c of_e less at in
+    let own : own_replies w m ≡ replies_of m before =
+    replies_before w is.legal is.in_file_order before rest e n m c of_e less at in
     let up = rounds_ascend w.plan m n d c less at_m of_e.there in
     elim (cases_lt d.round c.round) [
       | inl earlier ↦ elim (finished_at_end w is m d at_m) [
         | inl over ↦ inl (over.0, ap (turn_by (list_for w.plan d.command) d.command) (sym own) ∙ over.1)
         | inr (inl stop) ↦ inr (inl (ap (λ (rs : List Reply). is_stop d.command.stop (length rs)) (sym own) ∙ stop))
-        | inr (inr cut) ↦ inr (inr (cut_stands_before w before rest e n c w.plan.stop_at d.round is.legal at of_e earlier cut))
+        | inr (inr cut) ↦
+            inr (inr (cut_stands_before w before rest e n c w.plan.stop_at d.round is.legal at of_e earlier cut))
       ]
-      | inr most ↦ elim (is.in_file_order.before m n d c less at_m of_e.there (let same : d.round ≡ c.round = omega arith in same)) [
-        | inl none ↦ absurd (has_reply n w.history before rest e at of_e.number none)
-        | inr over ↦ elim over.2 [
-          | inl scripts ↦ inl (scripts.0, ap (turn_by (list_for w.plan d.command) d.command) (sym own) ∙ scripts.1)
-          | inr (inl stopped) ↦ inr (inl (ap (λ (rs : List Reply). is_stop d.command.stop (length rs)) (sym own) ∙ at_own_stop d.command.stop (length (own_replies w m)) stopped.1))
-          | inr (inr lacking) ↦ absurd (is.had_memory m (over.1 ∙ ap (λ (x : Answer). Some (Some x)) lacking))
-        ]
-      ]
+      | inr most ↦
+          elim (is.in_file_order.before m n d c less at_m of_e.there
+          (let same : d.round ≡ c.round = omega arith in same)) [
+            | inl none ↦ absurd (has_reply n w.history before rest e at of_e.number none)
+            | inr over ↦ elim over.2 [
+              | inl scripts ↦
+                  inl (scripts.0, ap (turn_by (list_for w.plan d.command) d.command) (sym own) ∙ scripts.1)
+              | inr (inl stopped) ↦
+                  inr (inl (ap (λ (rs : List Reply). is_stop d.command.stop (length rs)) (sym own)
+                  ∙ at_own_stop d.command.stop (length (own_replies w m)) stopped.1))
+              | inr (inr lacking) ↦ absurd (is.had_memory m (over.1 ∙ ap (λ (x : Answer). Some (Some x)) lacking))
+            ]
+          ]
     ]
 
 traces : (w : World) → IsDoneInFileOrder w → (before rest : List Entry) → w.history ≡ before ++ rest
     → IsTrace w.plan before rest
-traces w is before [] at = λ n c there. subst (λ (h : List Entry). IsFinished w.plan h n c) (at ∙ append-nil before) (finished_at_end w is n c there)
+traces w is before [] at = λ n c there.
+    subst (λ (h : List Entry). IsFinished w.plan h n c) (at ∙ append-nil before) (finished_at_end w is n c there)
 traces w is before (e ∷ rest) at =
     let follows = each_follows w is.legal before rest e at in
     let of_e = follows.of in (
       record {
         follows = follows;
-        uncut = uncut_at w.plan w.history before rest e follows.place follows.by w.plan.stop_at (two_entries w is.legal).cut at of_e refl;
+        uncut =
+            uncut_at w.plan w.history before rest e follows.place follows.by w.plan.stop_at
+            (two_entries w is.legal).cut at of_e refl;
         before = λ m d less at_m. finished_before w is before rest e follows.place m follows.by d at of_e less at_m;
       },
       traces w is (before ++ e ∷ []) rest (at ∙ sym (append_assoc before (e ∷ []) rest)),
     )
 
 one_history : (v w : World) → v.plan ≡ w.plan → IsDoneInFileOrder v → IsDoneInFileOrder w → v.history ≡ w.history
-one_history v w same dv dw = one_trace w.plan [] v.history w.history (subst (λ (p : Plan). IsTrace p [] v.history) same (traces v dv [] v.history refl)) (traces w dw [] w.history refl)
+one_history v w same dv dw =
+    one_trace w.plan [] v.history w.history
+    (subst (λ (p : Plan). IsTrace p [] v.history) same (traces v dv [] v.history refl))
+    (traces w dw [] w.history refl)
 
 -- ---- and one list of answers
 
@@ -199,7 +246,8 @@ never_both x y t one two = cc
 
 one_answer : (p : Plan) (h : List Entry) (n : ℕ) (c : Placed) (a b : Answer) → AnswersWith p h n c a
     → AnswersWith p h n c b → a ≡ b
-one_answer p h n c a b (inl x) (inl y) = x.2 ∙ ap (answer_by (list_for p c.command) c.command) (same_finish x.0 y.0 (turn_at p h n c) x.1 y.1) ∙ sym y.2
+one_answer p h n c a b (inl x) (inl y) =
+    x.2 ∙ ap (answer_by (list_for p c.command) c.command) (same_finish x.0 y.0 (turn_at p h n c) x.1 y.1) ∙ sym y.2
 one_answer p h n c a b (inl x) (inr y) = absurd (never_both x.0 y.0 (turn_at p h n c) x.1 y.1)
 one_answer p h n c a b (inr x) (inl y) = absurd (never_both y.0 x.0 (turn_at p h n c) y.1 x.1)
 one_answer p h n c a b (inr x) (inr y) = x.2 ∙ sym y.2
@@ -210,22 +258,32 @@ same_lists [] [] long each = refl
 same_lists [] (y ∷ ys) long each = absurd (omega arith)
 same_lists (x ∷ xs) [] long each = absurd (omega arith)
 same_lists (x ∷ xs) (y ∷ ys) long each =
-    ap (λ z. z ∷ xs) (each zero x y refl refl) ∙ ap (λ l. y ∷ l) (same_lists xs ys (omega arith) (λ n a b at_a at_b. each (suc n) a b at_a at_b))
+    ap (λ z. z ∷ xs) (each zero x y refl refl)
+    ∙ ap (λ l. y ∷ l) (same_lists xs ys (omega arith) (λ n a b at_a at_b. each (suc n) a b at_a at_b))
 
 one_answer_at : (v w : World) → v.plan ≡ w.plan → IsDoneInFileOrder v → IsDoneInFileOrder w
     → (n : ℕ) (x y : Option Answer) → slice_get v.answers n ≡ Some x → slice_get w.answers n ≡ Some y → x ≡ y
 one_answer_at v w same dv dw n x y at_v at_w =
-    let c = command_at w.plan n (let within = slice_get_within w.answers n y at_w in let long = (in_order w dw.legal).long in omega arith) in
-    let there : slice_get (commands_of v.plan) n ≡ Some c.0 = ap (λ (p : Plan). slice_get (commands_of p) n) same ∙ c.1 in
+    let c =
+    command_at w.plan n
+    (let within = slice_get_within w.answers n y at_w in
+    let long = (in_order w dw.legal).long in omega arith) in
+    let there : slice_get (commands_of v.plan) n ≡ Some c.0 =
+    ap (λ (p : Plan). slice_get (commands_of p) n) same ∙ c.1 in
     let a = all_answered v (in_order v dv.legal) dv.ended n c.0 there in
     let b = all_answered w (in_order w dw.legal) dw.ended n c.0 c.1 in
-    let of_v : AnswersWith w.plan v.history n c.0 a.0 = subst (λ (p : Plan). AnswersWith p v.history n c.0 a.0) same (answers_with v dv n a.0 c.0 a.1 there) in
+    let of_v : AnswersWith w.plan v.history n c.0 a.0 =
+    subst (λ (p : Plan). AnswersWith p v.history n c.0 a.0) same (answers_with v dv n a.0 c.0 a.1 there) in
     let both : a.0 ≡ b.0 =
-    one_answer w.plan w.history n c.0 a.0 b.0 (subst (λ (h : List Entry). AnswersWith w.plan h n c.0 a.0) (one_history v w same dv dw) of_v) (answers_with w dw n b.0 c.0 b.1 c.1) in
+    one_answer w.plan w.history n c.0 a.0 b.0
+    (subst (λ (h : List Entry). AnswersWith w.plan h n c.0 a.0) (one_history v w same dv dw) of_v)
+    (answers_with w dw n b.0 c.0 b.1 c.1) in
     same_Some x (Some a.0) (sym at_v ∙ a.1) ∙ ap Some both ∙ same_Some (Some b.0) y (sym b.1 ∙ at_w)
 
 pub one_outcome : OneOutcome
 one_outcome v w same dv dw = (
   one_history v w same dv dw,
-  same_lists v.answers w.answers ((in_order v dv.legal).long ∙ ap (λ (p : Plan). length (commands_of p)) same ∙ sym (in_order w dw.legal).long) (one_answer_at v w same dv dw),
+  same_lists v.answers w.answers
+      ((in_order v dv.legal).long ∙ ap (λ (p : Plan). length (commands_of p)) same ∙ sym (in_order w dw.legal).long)
+      (one_answer_at v w same dv dw),
 )

@@ -33,7 +33,8 @@ answered_or_open w n (Some (Some a)) is less = inr (a, is)
 -- each command is answered, or isn't
 pub open_or_answered : (w : World) (n : ℕ) (c : Placed) → IsInOrder w → slice_get (commands_of w.plan) n ≡ Some c
     → (slice_get w.answers n ≡ Some None) ⊎ IsAnswered w n
-open_or_answered w n c order at = answered_or_open w n (slice_get w.answers n) refl (rw order.long (slice_get_within (commands_of w.plan) n c at))
+open_or_answered w n c order at =
+    answered_or_open w n (slice_get w.answers n) refl (rw order.long (slice_get_within (commands_of w.plan) n c at))
 
 -- an answer stands
 pub stays_answered : (w : World) (n m : ℕ) (b : Answer) → slice_get w.answers n ≡ Some None → IsAnswered w m
@@ -44,11 +45,13 @@ stays_answered w n m b is a = elim (eqb_tells m n) [
 ]
 
 untouched_answered : (w : World) (n m : ℕ) (b : Answer) → m ≢ n → IsUntouched w m → IsUntouched (answered w n b) m
-untouched_answered w n m b other u = record { no_reply = u.no_reply; no_answer = slice_get-set_other w.answers n m (Some b) other ∙ u.no_answer }
+untouched_answered w n m b other u =
+    record { no_reply = u.no_reply; no_answer = slice_get-set_other w.answers n m (Some b) other ∙ u.no_answer }
 
 untouched_entered : (w : World) (m : ℕ) (e : Entry) → e.command ≢ m + 1 → IsUntouched w m
     → IsUntouched (with_entry w e) m
-untouched_entered w m e other u = record { no_reply = replies_of-other m w.history e other ∙ u.no_reply; no_answer = u.no_answer }
+untouched_entered w m e other u =
+    record { no_reply = replies_of-other m w.history e other ∙ u.no_reply; no_answer = u.no_answer }
 
 -- ---- ready commands
 
@@ -60,7 +63,8 @@ ready_is w n m c d ready same at = same_Some d c (sym at ∙ ap (slice_get (comm
 -- a command of another round stands at another place
 pub other_round : (w : World) (n m : ℕ) (c d : Placed) → slice_get (commands_of w.plan) n ≡ Some c
     → slice_get (commands_of w.plan) m ≡ Some d → d.round ≢ c.round → m ≢ n
-other_round w n m c d there at other = λ same. other (ap (λ (q : Placed). q.round) (same_Some d c (sym at ∙ ap (slice_get (commands_of w.plan)) same ∙ there)))
+other_round w n m c d there at other = λ same.
+    other (ap (λ (q : Placed). q.round) (same_Some d c (sym at ∙ ap (slice_get (commands_of w.plan)) same ∙ there)))
 
 -- where a command is ready, each earlier one of its container is answered
 pub before_ready : (w : World) (m n : ℕ) (d c : Placed) → IsInOrder w → IsReady w n c → m < n
@@ -81,15 +85,22 @@ order_answered w n c b order ready = record {
   long = length-set w.answers n (Some b) ∙ order.long;
   past = λ m d at less. stays_answered w n m b ready.unanswered (order.past m d at less);
   later = λ m d at more. elim (eqb_tells m n) [
-    | inl t ↦ absurd (let r : d.round ≡ c.round = ap (λ (x : Placed). x.round) (ready_is w n m c d ready t.1 at) in let here = ready.current in omega arith)
+    | inl t ↦
+        absurd (let r : d.round ≡ c.round = ap (λ (x : Placed). x.round) (ready_is w n m c d ready t.1 at) in
+        let here = ready.current in omega arith)
     | inr f ↦ untouched_answered w n m b f.1 (order.later m d at more)
   ];
   first = λ l m d x less at_l at_m besides. elim (eqb_tells m n) [
     | inl t ↦
         let same = ready_is w n m c x ready t.1 at_m in
         inr (stays_answered w n l b ready.unanswered
-        (before_ready w l n d c order ready (subst (λ j. l < j) t.1 less) at_l (besides.0 ∙ ap (λ (y : Placed). y.round) same) (besides.1 ∙ ap (λ (y : Placed). y.command.container) same)))
-    | inr f ↦ elim (order.first l m d x less at_l at_m besides) [ inl u ↦ inl (untouched_answered w n m b f.1 u) | inr a ↦ inr (stays_answered w n l b ready.unanswered a) ]
+        (before_ready w l n d c order ready (subst (λ j. l < j) t.1 less) at_l
+        (besides.0 ∙ ap (λ (y : Placed). y.round) same)
+        (besides.1 ∙ ap (λ (y : Placed). y.command.container) same)))
+    | inr f ↦ elim (order.first l m d x less at_l at_m besides) [
+      | inl u ↦ inl (untouched_answered w n m b f.1 u)
+      | inr a ↦ inr (stays_answered w n l b ready.unanswered a)
+    ]
   ];
 }
 
@@ -102,27 +113,44 @@ order_entered w n c e order ready own = record {
   long = order.long;
   past = order.past;
   later = λ m d at more. elim (eqb_tells m n) [
-    | inl t ↦ absurd (let r : d.round ≡ c.round = ap (λ (x : Placed). x.round) (ready_is w n m c d ready t.1 at) in let here = ready.current in omega arith)
+    | inl t ↦
+        absurd (let r : d.round ≡ c.round = ap (λ (x : Placed). x.round) (ready_is w n m c d ready t.1 at) in
+        let here = ready.current in omega arith)
     | inr f ↦ untouched_entered w m e (other_number e n m own f.1) (order.later m d at more)
   ];
   first = λ l m d x less at_l at_m besides. elim (eqb_tells m n) [
     | inl t ↦
         let same = ready_is w n m c x ready t.1 at_m in
-        inr (before_ready w l n d c order ready (subst (λ j. l < j) t.1 less) at_l (besides.0 ∙ ap (λ (y : Placed). y.round) same) (besides.1 ∙ ap (λ (y : Placed). y.command.container) same))
-    | inr f ↦ elim (order.first l m d x less at_l at_m besides) [ inl u ↦ inl (untouched_entered w m e (other_number e n m own f.1) u) | inr a ↦ inr a ]
+        inr (before_ready w l n d c order ready (subst (λ j. l < j) t.1 less) at_l
+        (besides.0 ∙ ap (λ (y : Placed). y.round) same)
+        (besides.1 ∙ ap (λ (y : Placed). y.command.container) same))
+    | inr f ↦ elim (order.first l m d x less at_l at_m besides) [
+      | inl u ↦ inl (untouched_entered w m e (other_number e n m own f.1) u)
+      | inr a ↦ inr a
+    ]
   ];
 }
 
 order_done : (w : World) (n : ℕ) (c : Placed) (x : Next) → IsInOrder w → IsReady w n c → IsInOrder (done w n x)
 order_done w n c (next.Answer a) order ready = order_answered w n c a order ready
-order_done w n c (next.Call call faulty) order ready = order_entered w n c (entry_of (host_of w) n call faulty) order ready refl
+order_done w n c (next.Call call faulty) order ready =
+    order_entered w n c (entry_of (host_of w) n call faulty) order ready refl
 
 order_next_round : (w : World) → IsInOrder w → IsRoundOver w → IsInOrder (next_round w)
 order_next_round w order over = record {
   long = order.long;
-  past = λ n c at less. elim (eqb_tells c.round w.round) [ inl t ↦ over n c at t.1 | inr f ↦ order.past n c at (let other = f.1 in omega arith) ];
-  later = λ n c at more. let u = order.later n c at (omega arith) in record { no_reply = u.no_reply; no_answer = u.no_answer };
-  first = λ m n d c less at_m at_n besides. elim (order.first m n d c less at_m at_n besides) [ inl u ↦ inl (record { no_reply = u.no_reply; no_answer = u.no_answer }) | inr a ↦ inr a ];
+  past = λ n c at less.
+      elim (eqb_tells c.round w.round) [
+        | inl t ↦ over n c at t.1
+        | inr f ↦ order.past n c at (let other = f.1 in omega arith)
+      ];
+  later = λ n c at more.
+      let u = order.later n c at (omega arith) in record { no_reply = u.no_reply; no_answer = u.no_answer };
+  first = λ m n d c less at_m at_n besides.
+      elim (order.first m n d c less at_m at_n besides) [
+        | inl u ↦ inl (record { no_reply = u.no_reply; no_answer = u.no_answer })
+        | inr a ↦ inr a
+      ];
 }
 
 -- ---- every legal world
@@ -142,7 +170,8 @@ blank_nowhere (x ∷ xs) (suc n) a at = blank_nowhere xs n a at
 
 -- no command of a world that is begun has an answer
 pub none_answered : (w : World) (n : ℕ) (a : Answer) → IsBegun w → slice_get w.answers n ≡ Some (Some a) → ⊥
-none_answered w n a b at = blank_nowhere (commands_of w.plan) n a (sym (ap (λ (v : World). slice_get v.answers n) b.is) ∙ at)
+none_answered w n a b at =
+    blank_nowhere (commands_of w.plan) n a (sym (ap (λ (v : World). slice_get v.answers n) b.is) ∙ at)
 
 untouched_begun : (w : World) (n : ℕ) (c : Placed) → IsBegun w → slice_get (commands_of w.plan) n ≡ Some c
     → IsUntouched w n
@@ -161,8 +190,10 @@ order_begun w b = record {
 
 pub in_order : (w : World) → Legal w → IsInOrder w
 in_order _ (starts w begun) = order_begun w begun
-in_order _ (steps v w n c legal ready is) = subst IsInOrder (sym is) (order_done v n c (next_of v c.command (own_replies v n)) (in_order v legal) ready)
-in_order _ (refused_memory v w n c legal ready is) = subst IsInOrder (sym is) (order_answered v n c OutOfMemory (in_order v legal) ready)
+in_order _ (steps v w n c legal ready is) =
+    subst IsInOrder (sym is) (order_done v n c (next_of v c.command (own_replies v n)) (in_order v legal) ready)
+in_order _ (refused_memory v w n c legal ready is) =
+    subst IsInOrder (sym is) (order_answered v n c OutOfMemory (in_order v legal) ready)
 in_order _ (turns v w legal less over is) = subst IsInOrder (sym is) (order_next_round v (in_order v legal) over)
 
 -- ---- beside a ready command
@@ -180,7 +211,9 @@ apart_in_container w m n d c order ready other at is_open container =
     elim (cases_order d.round w.round) [
       | inl same ↦ elim (cases_order m n) [
         | inl eq ↦ absurd (other eq)
-        | inr (inl below) ↦ absurd (not_both w m (before_ready w m n d c order ready below at (same ∙ sym ready.current) container) is_open)
+        | inr (inl below) ↦
+            absurd (not_both w m
+            (before_ready w m n d c order ready below at (same ∙ sym ready.current) container) is_open)
         | inr (inr above) ↦ elim (order.first n m c d above ready.there at (ready.current ∙ sym same, sym container)) [
           | inl u ↦ u.no_reply
           | inr a ↦ absurd (not_both w n a ready.unanswered)
@@ -213,7 +246,9 @@ pub alone_apart : (w : World) → Legal w → (m n : ℕ) (d c : Placed) → IsR
 alone_apart w legal m n d c ready other at is_open exclusive =
     let order = in_order w legal in
     elim (cases_order d.round w.round) [
-      | inl same ↦ absurd (other (one_alone w.plan m n d c (stand_alone w.plan (fine w legal).plan) at ready.there (same ∙ sym ready.current) exclusive))
+      | inl same ↦
+          absurd (other (one_alone w.plan m n d c (stand_alone w.plan (fine w legal).plan) at ready.there
+          (same ∙ sym ready.current) exclusive))
       | inr (inl less) ↦ absurd (not_both w m (order.past m d at less) is_open)
       | inr (inr more) ↦ (order.later m d at more).no_reply
     ]

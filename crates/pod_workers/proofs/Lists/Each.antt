@@ -5,7 +5,8 @@ use Rattle.std.proofs.lemmas.List.Elements.{All-from_recursion, All-map, recursi
 
 pub each-append : {X : Type 0} (P : X → Type 0) (xs ys : List X) → AllByRecursion P xs → AllByRecursion P ys
     → AllByRecursion P (xs ++ ys)
-each-append P xs ys h g = recursion_from_All P (xs ++ ys) (All-append P xs ys (All-from_recursion P xs h) (All-from_recursion P ys g))
+each-append P xs ys h g =
+    recursion_from_All P (xs ++ ys) (All-append P xs ys (All-from_recursion P xs h) (All-from_recursion P ys g))
 
 pub each-prefix : {X : Type 0} (P : X → Type 0) (xs ys : List X) → AllByRecursion P (xs ++ ys) → AllByRecursion P xs
 each-prefix P [] ys h = tt
@@ -23,10 +24,12 @@ each-map P f w xs = recursion_from_All P (map f xs) (All-map P f xs (λ k d lt. 
 pub each-map_of : {X Y : Type 0} (P : Y → Type 0) (f : X → Y) (q : X → Bool) → ((x : X) → q x ≡ true → P (f x))
     → (xs : List X) → list_all q xs ≡ true → AllByRecursion P (map f xs)
 each-map_of P f q w [] h = tt
-each-map_of P f q w (x ∷ xs) h = let both = and_parts (q x) (list_all q xs) h in (w x both.0, each-map_of P f q w xs both.1)
+each-map_of P f q w (x ∷ xs) h =
+    let both = and_parts (q x) (list_all q xs) h in (w x both.0, each-map_of P f q w xs both.1)
 
 -- where they all pass a test besides
 pub each-both : {X : Type 0} (p : X → Bool) (P : X → Type 0) (xs : List X) → list_all p xs ≡ true → AllByRecursion P xs
     → AllByRecursion (λ x. (p x ≡ true) × P x) xs
 each-both p P [] h g = tt
-each-both p P (x ∷ xs) h g = let both = and_parts (p x) (list_all p xs) h in ((both.0, g.0), each-both p P xs both.1 g.1)
+each-both p P (x ∷ xs) h g =
+    let both = and_parts (p x) (list_all p xs) h in ((both.0, g.0), each-both p P xs both.1 g.1)

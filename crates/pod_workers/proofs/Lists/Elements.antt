@@ -7,7 +7,9 @@ use Rattle.pod_workers.specs.World.{at_number}
 pub at_number-is : {X : Type 0} (xs : List X) (number n : ℕ) → number ≡ n + 1 → at_number xs number ≡ slice_get xs n
 at_number-is xs number n is = elim (eqb_tells number 0) [
   | inl t ↦ absurd (let none = t.1 in omega arith)
-  | inr f ↦ (let place : number - 1 ≡ n = omega arith in ap (λ (b : Bool). if b then None else slice_get xs (number - 1)) f.0 ∙ ap (slice_get xs) place)
+  | inr f ↦
+      (let place : number - 1 ≡ n = omega arith in
+      ap (λ (b : Bool). if b then None else slice_get xs (number - 1)) f.0 ∙ ap (slice_get xs) place)
 ]
 
 -- what stands at a number stands at the place before it
@@ -15,7 +17,8 @@ pub numbered : {X : Type 0} (xs : List X) (number : ℕ) (x : X) → at_number x
     → (number ≡ (number - 1) + 1) × (slice_get xs (number - 1) ≡ Some x)
 numbered xs number x is = elim (eqb_tells number 0) [
   | inl t ↦ absurd (none-some x (sym (ap (λ (b : Bool). if b then None else slice_get xs (number - 1)) t.0) ∙ is))
-  | inr f ↦ ((let ne = f.1 in omega arith), sym (ap (λ (b : Bool). if b then None else slice_get xs (number - 1)) f.0) ∙ is)
+  | inr f ↦
+      ((let ne = f.1 in omega arith), sym (ap (λ (b : Bool). if b then None else slice_get xs (number - 1)) f.0) ∙ is)
 ]
 
 pub slice_get-before : {X : Type 0} (xs ys : List X) (i : ℕ) → i < length xs → slice_get (xs ++ ys) i ≡ slice_get xs i
@@ -42,7 +45,10 @@ pub at_snoc : {X : Type 0} (xs : List X) (y x : X) (i : ℕ) → slice_get (xs +
 at_snoc [] y x zero is = inr (refl, same_Some x y (sym is))
 at_snoc [] y x (suc i) is = absurd (none-some x is)
 at_snoc (z ∷ zs) y x zero is = inl (omega arith, is)
-at_snoc (z ∷ zs) y x (suc i) is = elim (at_snoc zs y x i is) [ inl t ↦ (let less = t.0 in inl (omega arith, t.1)) | inr t ↦ inr (ap suc t.0, t.1) ]
+at_snoc (z ∷ zs) y x (suc i) is = elim (at_snoc zs y x i is) [
+  | inl t ↦ (let less = t.0 in inl (omega arith, t.1))
+  | inr t ↦ inr (ap suc t.0, t.1)
+]
 
 pub slice_get-map_some : {X Y : Type 0} (f : X → Y) (xs : List X) (i : ℕ) (y : Y) → slice_get (map f xs) i ≡ Some y
     → (x : X) × (slice_get xs i ≡ Some x) × (f x ≡ y)

@@ -17,7 +17,8 @@ pub split_snoc : {X : Type 0} (h before rest : List X) (x e : X) → h ++ x ∷ 
     → ((rest ≡ []) × (h ≡ before) × (x ≡ e)) ⊎ ((more : List X) × (rest ≡ more ++ x ∷ []) × (h ≡ before ++ e ∷ more))
 split_snoc [] [] rest x e is = let p = cons_parts x e [] rest is in inl (sym p.1, refl, p.0)
 split_snoc [] (b ∷ bs) rest x e is = absurd (split_nil bs rest e (cons_parts x b [] (bs ++ e ∷ rest) is).1)
-split_snoc (y ∷ ys) [] rest x e is = let p = cons_parts y e (ys ++ x ∷ []) rest is in inr (ys, sym p.1, ap (λ z. z ∷ ys) p.0)
+split_snoc (y ∷ ys) [] rest x e is =
+    let p = cons_parts y e (ys ++ x ∷ []) rest is in inr (ys, sym p.1, ap (λ z. z ∷ ys) p.0)
 split_snoc (y ∷ ys) (b ∷ bs) rest x e is =
     let p = cons_parts y b (ys ++ x ∷ []) (bs ++ e ∷ rest) is in
     elim (split_snoc ys bs rest x e p.1) [

@@ -18,7 +18,9 @@ all-from q p tells i [] none = refl
 all-from q p tells i (x ∷ xs) none =
     elim (q x) as (λ b. q x ≡ b → cond b (Some i) (position_from q (i + 1) xs) ≡ None → (p x && list_all p xs) ≡ true) [
       | true ↦ λ is h. absurd (none-some i (sym h))
-      | false ↦ λ is h. let here : p x ≡ true = tells x is in let rest : list_all p xs ≡ true = all-from q p tells (i + 1) xs h in grind (arith, here, rest)
+      | false ↦ λ is h.
+          let here : p x ≡ true = tells x is in
+          let rest : list_all p xs ≡ true = all-from q p tells (i + 1) xs h in grind (arith, here, rest)
     ] refl none
 
 all-where_none : {X : Type 0} (q p : X → Bool) → ((x : X) → q x ≡ false → p x ≡ true) → (xs : List X)
@@ -66,15 +68,22 @@ apart : (earlier : List NetList) (place : ℕ) (ls : List NetList) → first_rep
 apart earlier place [] none = (none-later earlier, refl)
 apart earlier place (l ∷ ls) none =
     elim (has_list earlier l.name)
-    as (λ b. has_list earlier l.name ≡ b → cond b (Some place) (first_repeat_after (earlier ++ l ∷ []) (place + 1) ls) ≡ None → AreApart earlier (l ∷ ls)) [
+    as (λ b.
+    has_list earlier l.name ≡ b → cond b (Some place) (first_repeat_after (earlier ++ l ∷ []) (place + 1) ls) ≡ None
+    → AreApart earlier (l ∷ ls)) [
       | true ↦ λ is h. absurd (none-some place (sym h))
-      | false ↦ λ is h. apart-more earlier l ls (sym (is_some-find (λ e. bytes_eq e.name l.name) earlier) ∙ is) (apart (earlier ++ l ∷ []) (place + 1) ls h)
+      | false ↦ λ is h.
+          apart-more earlier l ls (sym (is_some-find (λ e. bytes_eq e.name l.name) earlier) ∙ is)
+          (apart (earlier ++ l ∷ []) (place + 1) ls h)
     ] refl none
 
 -- ---- what was joined
 
 by_refusal : (p q : Plan) (names networks : Option ℕ)
-    → plan_unless (option_or (option_map (λ place. SameName place) names) (option_map (λ place. NoNetwork (place + 1)) networks)) p ≡ Ok q
+    → plan_unless
+    (option_or (option_map (λ place. SameName place) names) (option_map (λ place. NoNetwork (place + 1)) networks))
+    p
+    ≡ Ok q
     → (p ≡ q) × (names ≡ None) × (networks ≡ None)
 by_refusal p q None None h = (cc, refl, refl)
 by_refusal p q None (Some place) h = absurd cc
@@ -103,21 +112,29 @@ joined_is_well_formed p q h lists pods =
 
 repeats-step : (lists : List NetList) (i : ℕ) (l : NetList) → i < length lists → l ≡ get_or lists i l
     → first_repeat_after (take i lists) i (drop i lists)
-    ≡ (if has_list (take i lists) l.name then Some i else first_repeat_after (take (i + 1) lists) (i + 1) (drop (i + 1) lists))
+    ≡ (if has_list (take i lists) l.name
+    then Some i
+    else first_repeat_after (take (i + 1) lists) (i + 1) (drop (i + 1) lists))
 repeats-step lists i l within is =
     ap (first_repeat_after (take i lists) i) (drop_more lists i l within ∙ ap (λ x. x ∷ drop (i + 1) lists) (sym is))
-    ∙ ap (λ earlier. if has_list (take i lists) l.name then Some i else first_repeat_after earlier (i + 1) (drop (i + 1) lists))
+    ∙ ap (λ earlier.
+    if has_list (take i lists) l.name then Some i else first_repeat_after earlier (i + 1) (drop (i + 1) lists))
     (ap (λ x. take i lists ++ x ∷ []) is ∙ sym (take_more lists i l within))
 
 pub repeats-here : (lists : List NetList) (i : ℕ) (l : NetList) → i < length lists → l ≡ get_or lists i l
     → has_list (take i lists) l.name ≡ true
-    → first_repeat_after (take i lists) i (drop i lists) ≡ first_repeat_after [] 0 lists → Some i ≡ first_repeat_after [] 0 lists
+    → first_repeat_after (take i lists) i (drop i lists) ≡ first_repeat_after [] 0 lists
+    → Some i ≡ first_repeat_after [] 0 lists
 repeats-here lists i l within is has so_far =
-    sym (sym so_far ∙ repeats-step lists i l within is ∙ ap (λ b. if b then Some i else first_repeat_after (take (i + 1) lists) (i + 1) (drop (i + 1) lists)) has)
+    sym (sym so_far
+    ∙ repeats-step lists i l within is
+    ∙ ap (λ b. if b then Some i else first_repeat_after (take (i + 1) lists) (i + 1) (drop (i + 1) lists)) has)
 
 pub repeats-later : (lists : List NetList) (i : ℕ) (l : NetList) → i < length lists → l ≡ get_or lists i l
     → has_list (take i lists) l.name ≡ false
     → first_repeat_after (take i lists) i (drop i lists) ≡ first_repeat_after [] 0 lists
     → first_repeat_after (take (i + 1) lists) (i + 1) (drop (i + 1) lists) ≡ first_repeat_after [] 0 lists
 repeats-later lists i l within is has_none so_far =
-    sym (repeats-step lists i l within is ∙ ap (λ b. if b then Some i else first_repeat_after (take (i + 1) lists) (i + 1) (drop (i + 1) lists)) has_none) ∙ so_far
+    sym (repeats-step lists i l within is
+    ∙ ap (λ b. if b then Some i else first_repeat_after (take (i + 1) lists) (i + 1) (drop (i + 1) lists)) has_none)
+    ∙ so_far

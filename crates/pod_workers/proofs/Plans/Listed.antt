@@ -18,7 +18,8 @@ pub listed_network : EachNetworkCommandHasItsList
 unfolding list_for
 listed_network w legal n c at network =
     named-list (is_of_network c.command.verb) (list_named w.plan.lists c.command.network) network
-    (list_all-at (λ (d : Placed). not (lacks_list w.plan.lists d.command)) (commands_of w.plan) n c (fine w legal).plan.networks at)
+    (list_all-at (λ (d : Placed). not (lacks_list w.plan.lists d.command)) (commands_of w.plan) n c
+    (fine w legal).plan.networks at)
 
 gc-of_network : (v : Verb) → is_gc v ≡ true → is_of_network v ≡ true
 gc-of_network verbs.Gc gc = refl
@@ -29,7 +30,8 @@ command-listed : (w : World) → Legal w → (n : ℕ) (c : Placed) → slice_ge
 unfolding list_for
 command-listed w legal n c at gc = ap is_some (listed_network w legal n c at (gc-of_network c.command.verb gc)).1
 
-pub found-listed : (host : Host) (slots : List (Option RunView)) (places : List Place) (before : ℕ) (w : World) (number n : ℕ) (s : Option RunView) (of : Command)
+pub found-listed : (host : Host) (slots : List (Option RunView)) (places : List Place) (before : ℕ) (w : World)
+    (number n : ℕ) (s : Option RunView) (of : Command)
     → IsFound host slots places before w number n s of → IsListed w.plan.lists of
 found-listed host slots places before w number n s of f =
     subst (IsListed w.plan.lists) (sym f.of_is) (command-listed w f.here.kept.legal n f.command f.here.ready.there)

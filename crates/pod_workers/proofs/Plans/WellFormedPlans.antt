@@ -24,7 +24,8 @@ AreNumbered p = (n : ℕ) (c : Placed) → slice_get (commands_of p) n ≡ Some 
 each_apart : (sets : List RangeSet) → All IsWellFormedSet sets → list_all (λ set. are_apart set.ranges) sets ≡ true
 each_apart [] all = refl
 each_apart (set ∷ sets) all =
-    and_from _ _ (All-get_or IsWellFormedSet (set ∷ sets) 0 set (omega arith) all).apart (each_apart sets (All-drop IsWellFormedSet 1 (set ∷ sets) all))
+    and_from _ _ (All-get_or IsWellFormedSet (set ∷ sets) 0 set (omega arith) all).apart
+    (each_apart sets (All-drop IsWellFormedSet 1 (set ∷ sets) all))
 
 ipam_apart : (ipam : Option HostLocalConf) → IsWellFormedIpam ipam
     → list_all (λ set. are_apart set.ranges) (range_sets_of ipam) ≡ true
@@ -57,7 +58,8 @@ file_order p = all_placed 0 p.pods.rounds
 pub few_placed : (rounds : List (List Command)) → AreWellFormedRounds rounds
     → length (placed_from 0 rounds) ≤ file_limit
 few_placed rounds formed =
-    let same : length (placed_from 0 rounds) ≡ length (in_file_order rounds) = sym (length-map (placed_from 0 rounds) (λ (c : Placed). c.command)) ∙ ap length (all_placed 0 rounds) in
+    let same : length (placed_from 0 rounds) ≡ length (in_file_order rounds) =
+    sym (length-map (placed_from 0 rounds) (λ (c : Placed). c.command)) ∙ ap length (all_placed 0 rounds) in
     rw same formed.few_commands
 
 pub few_commands : (p : Plan) → IsWellFormedPods p.pods → length (commands_of p) ≤ file_limit
@@ -67,14 +69,17 @@ few_commands p formed = few_placed p.pods.rounds formed.rounds
 pub are_numbered : (p : Plan) → IsWellFormedPods p.pods → AreNumbered p
 are_numbered p formed n c at =
     formed.rounds.numbers n c.command
-    (ap (λ xs. slice_get xs n) (sym (file_order p)) ∙ slice_get-map (λ (d : Placed). d.command) (commands_of p) n ∙ ap (option_map (λ (d : Placed). d.command)) at)
+    (ap (λ xs. slice_get xs n) (sym (file_order p))
+    ∙ slice_get-map (λ (d : Placed). d.command) (commands_of p) n
+    ∙ ap (option_map (λ (d : Placed). d.command)) at)
 
 -- ---- the plan
 
 lists_apart : (lists : List NetList) → All IsWellFormedList lists → list_all has_pools_apart lists ≡ true
 lists_apart [] all = refl
 lists_apart (list ∷ lists) all =
-    and_from _ _ (first_apart list.first (All-get_or IsWellFormedList (list ∷ lists) 0 list (omega arith) all).first) (lists_apart lists (All-drop IsWellFormedList 1 (list ∷ lists) all))
+    and_from _ _ (first_apart list.first (All-get_or IsWellFormedList (list ∷ lists) 0 list (omega arith) all).first)
+    (lists_apart lists (All-drop IsWellFormedList 1 (list ∷ lists) all))
 
 pub pools_apart : (p : Plan) → IsWellFormed p → list_all has_pools_apart p.lists ≡ true
 pools_apart p well = lists_apart p.lists well.lists

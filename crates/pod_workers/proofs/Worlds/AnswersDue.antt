@@ -25,11 +25,14 @@ pub cut_stands : (w : World) (stop : Option ℕ) (last : Option Entry) → EachF
 cut_stands w None last each is cut = absurd (let t : false ≡ true = cut in cc)
 cut_stands w (Some number) None each is cut = absurd (let t : false ≡ true = cut in cc)
 cut_stands w (Some number) (Some e) each is cut =
-    let both = and_parts (length w.history == number) (is_in_round w.round (at_number (commands_of w.plan) e.command)) cut in
+    let both =
+    and_parts (length w.history == number) (is_in_round w.round (at_number (commands_of w.plan) e.command)) cut in
     let split = last_entry-splits w.history e is in
     let follows = each split.0 [] e split.1 in
     let here : is_in_round w.round (Some follows.by) ≡ true =
-    ap (is_in_round w.round) (sym (at_number-is (commands_of w.plan) e.command follows.place follows.of.number ∙ follows.of.there)) ∙ both.1 in (
+    ap (is_in_round w.round)
+    (sym (at_number-is (commands_of w.plan) e.command follows.place follows.of.number ∙ follows.of.there))
+    ∙ both.1 in (
       split.0,
       [],
       e,
@@ -44,15 +47,25 @@ cut_stands w (Some number) (Some e) each is cut =
 pub stands-append : (p : Plan) (h : List Entry) (x : Entry) (stop : Option ℕ) (round : ℕ)
     → EntryIsInRound p h stop round → EntryIsInRound p (h ++ x ∷ []) stop round
 stands-append p h x None round is = is
-stands-append p h x (Some number) round is =
-    (is.0, is.1 ++ x ∷ [], is.2, is.3, is.4, ap (λ l. l ++ x ∷ []) is.5 ∙ append_assoc is.0 (is.2 ∷ is.1) (x ∷ []), is.6, is.7, is.8)
+stands-append p h x (Some number) round is = (
+  is.0,
+  is.1 ++ x ∷ [],
+  is.2,
+  is.3,
+  is.4,
+  ap (λ l. l ++ x ∷ []) is.5 ∙ append_assoc is.0 (is.2 ∷ is.1) (x ∷ []),
+  is.6,
+  is.7,
+  is.8,
+)
 
 -- ---- why a step gives an answer
 
 -- the script's answer, or a stop where the script has a call
 abbrev AnswersBy : Option NetList → Command → ℕ → Bool → Turn → Answer → Type 0
 AnswersBy list c made cut t a =
-    ((finish : Finish) × (t ≡ Finishes finish) × (a ≡ answer_by list c finish)) ⊎ ((call : Call) × (t ≡ Calls call) × (a ≡ Stopped made) × ((is_stop c.stop made || cut) ≡ true))
+    ((finish : Finish) × (t ≡ Finishes finish) × (a ≡ answer_by list c finish))
+    ⊎ ((call : Call) × (t ≡ Calls call) × (a ≡ Stopped made) × ((is_stop c.stop made || cut) ≡ true))
 
 stopping_by : (c : Command) (made : ℕ) (k : Call) (a : Answer) (faulty b : Bool)
     → (if b then next.Answer (Stopped made) else next.Call k faulty) ≡ next.Answer a → (a ≡ Stopped made) × (b ≡ true)
@@ -62,7 +75,8 @@ stopping_by c made k a faulty false is = absurd cc
 answers_by : (list : Option NetList) (c : Command) (made : ℕ) (cut : Bool) (t : Turn) (a : Answer)
     → next_by list c made cut t ≡ next.Answer a → AnswersBy list c made cut t a
 answers_by list c made cut (Finishes finish) a is = inl (finish, refl, cc)
-answers_by list c made cut (Calls k) a is = let s = stopping_by c made k a (is_faulty c made) (is_stop c.stop made || cut) is in inr (k, refl, s.0, s.1)
+answers_by list c made cut (Calls k) a is =
+    let s = stopping_by c made k a (is_faulty c made) (is_stop c.stop made || cut) is in inr (k, refl, s.0, s.1)
 
 at_stop : (o : Option ℕ) (made : ℕ) → is_stop o made ≡ true → IsUpToStop o made → o ≡ Some made
 at_stop None made is within = absurd (let t : false ≡ true = is in cc)
@@ -85,7 +99,9 @@ due_now v n c a legal ready is =
         (stopped.0, stopped.1, stopped.2),
         elim (or_cases (is_stop c.command.stop made) (is_cut v) stopped.3) [
           | inl own ↦ inl (at_stop c.command.stop made own (keeps_stop v legal n c ready.there))
-          | inr cut ↦ inr (subst (EntryIsInRound v.plan v.history v.plan.stop_at) (sym ready.current) (cut_stands v v.plan.stop_at (last_entry v.history) (each_follows v legal) refl cut))
+          | inr cut ↦
+              inr (subst (EntryIsInRound v.plan v.history v.plan.stop_at) (sym ready.current)
+              (cut_stands v v.plan.stop_at (last_entry v.history) (each_follows v legal) refl cut))
         ],
       )
     ]
@@ -98,7 +114,11 @@ due_answered : (v : World) (n : ℕ) (c : Placed) (b : Answer) → AnswerIsDue v
 due_answered v n c b due ready why = λ m d there a at. elim (eqb_tells m n) [
   | inl t ↦
       let within = slice_get_within v.answers n None ready.unanswered in
-      let same_a : a ≡ b = same_Some a b (same_Some (Some a) (Some b) (sym at ∙ ap (slice_get (slice_set v.answers n (Some b))) t.1 ∙ slice_get-set_same v.answers n (Some b) within)) in
+      let same_a : a ≡ b =
+      same_Some a b (same_Some (Some a) (Some b)
+      (sym at
+      ∙ ap (slice_get (slice_set v.answers n (Some b))) t.1
+      ∙ slice_get-set_same v.answers n (Some b) within)) in
       let same_d : d ≡ c = same_Some d c (sym there ∙ ap (slice_get (commands_of v.plan)) t.1 ∙ ready.there) in
       rw (same_a, same_d, t.1) why
   | inr f ↦ due m d there a (sym (slice_get-set_other v.answers n m (Some b) f.1) ∙ at)
@@ -111,22 +131,33 @@ due_stays v m d a e other (inl scripts) = inl (rw (replies_of-other m v.history 
 due_stays v m d a e other (inr (inr lacking)) = inr (inr lacking)
 due_stays v m d a e other (inr (inl stopped)) = inr (inl (
   rw (replies_of-other m v.history e other) stopped.0,
-  elim stopped.1 [ inl own ↦ inl (rw (replies_of-other m v.history e other) own) | inr cut ↦ inr (stands-append v.plan v.history e v.plan.stop_at d.round cut) ],
+  elim stopped.1 [
+    | inl own ↦ inl (rw (replies_of-other m v.history e other) own)
+    | inr cut ↦ inr (stands-append v.plan v.history e v.plan.stop_at d.round cut)
+  ],
 ))
 
 due_entered : (v : World) (n : ℕ) (c : Placed) (e : Entry) → AnswerIsDue v → IsReady v n c → e.command ≡ n + 1
     → AnswerIsDue (with_entry v e)
 due_entered v n c e due ready own = λ m d there a at.
-    let other : e.command ≢ m + 1 = λ same. none-some a (same_Some None (Some a) (sym ready.unanswered ∙ ap (slice_get v.answers) (let place : n ≡ m = omega arith in place) ∙ at)) in
+    let other : e.command ≢ m + 1 = λ same.
+    none-some a (same_Some None (Some a)
+    (sym ready.unanswered ∙ ap (slice_get v.answers) (let place : n ≡ m = omega arith in place) ∙ at)) in
     due_stays v m d a e other (due m d there a at)
 
 due_done : (v : World) (n : ℕ) (c : Placed) (x : Next) → Legal v → AnswerIsDue v → IsReady v n c
     → next_of v c.command (own_replies v n) ≡ x → AnswerIsDue (done v n x)
-due_done v n c (next.Answer b) legal due ready is = due_answered v n c b due ready (elim (due_now v n c b legal ready is) [ inl scripts ↦ inl scripts | inr stopped ↦ inr (inl stopped) ])
-due_done v n c (next.Call call faulty) legal due ready is = due_entered v n c (entry_of (host_of v) n call faulty) due ready refl
+due_done v n c (next.Answer b) legal due ready is =
+    due_answered v n c b due ready
+    (elim (due_now v n c b legal ready is) [ inl scripts ↦ inl scripts | inr stopped ↦ inr (inl stopped) ])
+due_done v n c (next.Call call faulty) legal due ready is =
+    due_entered v n c (entry_of (host_of v) n call faulty) due ready refl
 
 pub answer_is_due : (w : World) → Legal w → AnswerIsDue w
 answer_is_due _ (starts w begun) = λ n c there a at. absurd (none_answered w n a begun at)
-answer_is_due _ (steps v w n c legal ready is) = subst AnswerIsDue (sym is) (due_done v n c (next_of v c.command (own_replies v n)) legal (answer_is_due v legal) ready refl)
-answer_is_due _ (refused_memory v w n c legal ready is) = subst AnswerIsDue (sym is) (due_answered v n c OutOfMemory (answer_is_due v legal) ready (inr (inr refl)))
+answer_is_due _ (steps v w n c legal ready is) =
+    subst AnswerIsDue (sym is)
+    (due_done v n c (next_of v c.command (own_replies v n)) legal (answer_is_due v legal) ready refl)
+answer_is_due _ (refused_memory v w n c legal ready is) =
+    subst AnswerIsDue (sym is) (due_answered v n c OutOfMemory (answer_is_due v legal) ready (inr (inr refl)))
 answer_is_due _ (turns v w legal less over is) = subst AnswerIsDue (sym is) (answer_is_due v legal)

@@ -15,9 +15,11 @@ within_done v n (next.Call call faulty) is = is
 
 round_within_plan : (w : World) → Legal w → w.round ≤ length w.plan.pods.rounds
 round_within_plan _ (starts w begun) = let first : w.round ≡ 0 = ap (λ (v : World). v.round) begun.is in omega arith
-round_within_plan _ (steps v w n c legal ready is) = subst IsWithinPlan (sym is) (within_done v n (next_of v c.command (own_replies v n)) (round_within_plan v legal))
+round_within_plan _ (steps v w n c legal ready is) =
+    subst IsWithinPlan (sym is) (within_done v n (next_of v c.command (own_replies v n)) (round_within_plan v legal))
 round_within_plan _ (refused_memory v w n c legal ready is) = subst IsWithinPlan (sym is) (round_within_plan v legal)
-round_within_plan _ (turns v w legal less over is) = subst IsWithinPlan (sym is) (let more : v.round + 1 ≤ length v.plan.pods.rounds = omega arith in more)
+round_within_plan _ (turns v w legal less over is) =
+    subst IsWithinPlan (sym is) (let more : v.round + 1 ≤ length v.plan.pods.rounds = omega arith in more)
 
 pub meets_each_clause : (w : World) → Legal w → IsLegalByClauses w
 meets_each_clause w legal = record {

@@ -30,7 +30,9 @@ slice_get-set_other (y ∷ ys) (suc i) (suc j) x h = slice_get-set_other ys i j 
 pub same_entry : (e g : Entry) → e.command ≡ g.command → e.call ≡ g.call → e.reply ≡ g.reply → e ≡ g
 same_entry e g number call reply =
     let made : ℕ → Call → Reply → Entry = λ n k r. record { command = n; call = k; reply = r } in
-    ap (λ (n : ℕ). made n e.call e.reply) number ∙ ap (λ (k : Call). made g.command k e.reply) call ∙ ap (made g.command g.call) reply
+    ap (λ (n : ℕ). made n e.call e.reply) number
+    ∙ ap (λ (k : Call). made g.command k e.reply) call
+    ∙ ap (made g.command g.call) reply
 
 pub is_of-own : (n : ℕ) (e : Entry) → e.command ≡ n + 1 → is_of n e ≡ true
 is_of-own n e is = elim (eqb_tells e.command (n + 1)) [ inl t ↦ t.0 | inr f ↦ absurd (f.1 is) ]
@@ -48,7 +50,8 @@ own_entries-other n h e is = filter-push_dropped (is_of n) h e is
 
 pub replies_of-own : (n : ℕ) (h : List Entry) (e : Entry) → e.command ≡ n + 1
     → replies_of n (h ++ e ∷ []) ≡ replies_of n h ++ e.reply ∷ []
-replies_of-own n h e is = ap replies_in (own_entries-own n h e (is_of-own n e is)) ∙ map_push (λ (x : Entry). x.reply) (own_entries n h) e
+replies_of-own n h e is =
+    ap replies_in (own_entries-own n h e (is_of-own n e is)) ∙ map_push (λ (x : Entry). x.reply) (own_entries n h) e
 
 pub replies_of-other : (n : ℕ) (h : List Entry) (e : Entry) → e.command ≢ n + 1
     → replies_of n (h ++ e ∷ []) ≡ replies_of n h
@@ -56,7 +59,9 @@ replies_of-other n h e not = ap replies_in (own_entries-other n h e (is_of-other
 
 -- a command has no more entries than the history
 pub length-replies_of : (n : ℕ) (h : List Entry) → length (replies_of n h) ≤ length h
-length-replies_of n h = rw (length-map (own_entries n h) (λ (e : Entry). e.reply), length-filter (is_of n) h) (count_by-le-length (is_of n) h)
+length-replies_of n h =
+    rw (length-map (own_entries n h) (λ (e : Entry). e.reply), length-filter (is_of n) h)
+    (count_by-le-length (is_of n) h)
 
 pub after-append : (host : Host) (es : List Entry) (e : Entry)
     → after host (es ++ e ∷ []) ≡ after_entry (after host es) e
@@ -66,7 +71,9 @@ after-append host (x ∷ xs) e = after-append (after_entry host x) xs e
 -- ---- parts of a history
 
 pub replies_of-append : (n : ℕ) (g h : List Entry) → replies_of n (g ++ h) ≡ replies_of n g ++ replies_of n h
-replies_of-append n g h = ap replies_in (filter-append (is_of n) g h) ∙ map-append (λ (x : Entry). x.reply) (own_entries n g) (own_entries n h)
+replies_of-append n g h =
+    ap replies_in (filter-append (is_of n) g h)
+    ∙ map-append (λ (x : Entry). x.reply) (own_entries n g) (own_entries n h)
 
 -- a command of which an entry stands in the history has a reply
 pub has_reply : (n : ℕ) (h before rest : List Entry) (e : Entry) → h ≡ before ++ e ∷ rest → e.command ≡ n + 1
@@ -76,7 +83,10 @@ has_reply n h before rest e at own none =
       | inl t ↦
           let here : replies_of n (e ∷ rest) ≡ e.reply ∷ replies_of n rest = rw t.0 refl in
           split_nil (replies_of n before) (replies_of n rest) e.reply
-          (sym none ∙ ap (replies_of n) at ∙ replies_of-append n before (e ∷ rest) ∙ ap (λ rs. replies_of n before ++ rs) here)
+          (sym none
+          ∙ ap (replies_of n) at
+          ∙ replies_of-append n before (e ∷ rest)
+          ∙ ap (λ rs. replies_of n before ++ rs) here)
       | inr f ↦ absurd (f.1 own)
     ]
 
@@ -98,16 +108,26 @@ pub last_entry-splits : (h : List Entry) (e : Entry) → last_entry h ≡ Some e
     → (before : List Entry) × (h ≡ before ++ e ∷ [])
 last_entry-splits h e is = elim (empty_or_last h) [
   | inl none ↦ absurd (none-some e (ap last_entry (sym none) ∙ is))
-  | inr split ↦ (split.0, split.2 ∙ ap (λ x. split.0 ++ x ∷ []) (same_Some split.1 e (sym (last_entry-append split.0 split.1) ∙ ap last_entry (sym split.2) ∙ is)))
+  | inr split ↦ (
+    split.0,
+    split.2
+        ∙ ap (λ x. split.0 ++ x ∷ [])
+        (same_Some split.1 e (sym (last_entry-append split.0 split.1) ∙ ap last_entry (sym split.2) ∙ is)),
+  )
 ]
 
 -- a command has no reply, or a first entry
 pub entry_or_none : (n : ℕ) (h : List Entry)
-    → (replies_of n h ≡ []) ⊎ ((before rest : List Entry) × (e : Entry) × (h ≡ before ++ e ∷ rest) × (e.command ≡ n + 1) × (replies_of n before ≡ []))
+    → (replies_of n h ≡ [])
+    ⊎ ((before rest : List Entry) × (e : Entry) × (h ≡ before ++ e ∷ rest) × (e.command ≡ n + 1)
+    × (replies_of n before ≡ []))
 entry_or_none n [] = inl refl
 entry_or_none n (x ∷ xs) = elim (eqb_tells x.command (n + 1)) [
   | inl t ↦ inr ([], xs, x, refl, t.1, refl)
-  | inr f ↦ elim (entry_or_none n xs) [ inl none ↦ inl (rw f.0 none) | inr is ↦ inr (x ∷ is.0, is.1, is.2, ap (λ l. x ∷ l) is.3, is.4, rw f.0 is.5) ]
+  | inr f ↦ elim (entry_or_none n xs) [
+    | inl none ↦ inl (rw f.0 none)
+    | inr is ↦ inr (x ∷ is.0, is.1, is.2, ap (λ l. x ∷ l) is.3, is.4, rw f.0 is.5)
+  ]
 ]
 
 -- what was written is written back

@@ -42,7 +42,11 @@ few-before : (n : ℕ) (h before rest : List Entry) (e : Entry) → h ≡ before
 few-before n h before rest e split none =
     let front = before ++ e ∷ [] in
     let whole : h ≡ front ++ rest = split ∙ sym (append_assoc before (e ∷ []) rest) in
-    let own : replies_of n h ≡ replies_of n front = ap (replies_of n) whole ∙ replies_of-append n front rest ∙ ap (λ rs. replies_of n front ++ rs) none ∙ append-nil (replies_of n front) in
+    let own : replies_of n h ≡ replies_of n front =
+    ap (replies_of n) whole
+    ∙ replies_of-append n front rest
+    ∙ ap (λ rs. replies_of n front ++ rs) none
+    ∙ append-nil (replies_of n front) in
     let count = ap length own in
     let few = length-replies_of n front in
     let long = length_push before e in
@@ -55,7 +59,11 @@ none-behind : (w : World) (n m : ℕ) (c d : Placed) (before rest : List Entry) 
     → slice_get (commands_of w.plan) n ≡ Some c → replies_of n rest ≡ []
 none-behind w n m c d before rest e stopped stop split of_e round at = elim (entry_or_none n rest) [
   | inl none ↦ none
-  | inr t ↦ absurd (let later = stopped.round before t.0 t.1 e t.2 m n d c (split ∙ ap (λ l. before ++ e ∷ l) t.3) of_e (record { number = t.4; there = at }) stop in omega (arith, later, round))
+  | inr t ↦
+      absurd (let later =
+      stopped.round before t.0 t.1 e t.2 m n d c (split ∙ ap (λ l. before ++ e ∷ l) t.3) of_e
+      (record { number = t.4; there = at }) stop in
+      omega (arith, later, round))
 ]
 
 within-stop : (w : World) (n : ℕ) (c : Placed) (stop : Option ℕ) → Stops w → slice_get (commands_of w.plan) n ≡ Some c

@@ -5,6 +5,7 @@ use Rattle.exec_protocol.proofs.chaining.with_chained.Given as goal
 -- what was called and what is left to call are the whole, and the result likewise
 abbrev pub invariant-loop-plugin : goal.invariant-loop-plugin
 invariant-loop-plugin l = record {
-  calls : l.calls.items ++ all_chained_calls (drop l.plugin-index l.chained) l.att l.netns l.mappings l.prev ≡ l.initial.calls.items ++ all_chained_calls l.chained l.att l.netns l.mappings l.initial.prev;
+  calls : l.calls.items ++ all_chained_calls (drop l.plugin-index l.chained) l.att l.netns l.mappings l.prev
+      ≡ l.initial.calls.items ++ all_chained_calls l.chained l.att l.netns l.mappings l.initial.prev;
   last : all_chained_results (drop l.plugin-index l.chained) l.prev ≡ all_chained_results l.chained l.initial.prev;
 }

@@ -14,11 +14,14 @@ returns-clause-calls c =
     let given = c.args.given.now in
     let all = c.in_ok-plugins.ensures
     ∙ ap (λ (a : Att). plugins_work list a command.netns c.as_slice.result.now given) c.in_ok-att.ensures
-    ∙ ap (λ (m : List PortMapping). plugins_work list (att_of command) command.netns m given) (c.as_slice.ensures ∙ c.in_ok-mappings.ensures) in
+    ∙ ap (λ (m : List PortMapping). plugins_work list (att_of command) command.netns m given)
+    (c.as_slice.ensures ∙ c.in_ok-mappings.ensures) in
     let whole : c.in_ok-work.work ≡ work_of_add list command given =
     c.in_ok-work.ensures
-    ∙ ap (λ (a : Att). add_work a command.netns c.in_ok-mappings.mappings c.in_ok-plugins.plugins) (c.att-owner.ensures ∙ c.in_ok-att.ensures)
-    ∙ ap (λ (m : List PortMapping). add_work (att_of command) command.netns m c.in_ok-plugins.plugins) c.in_ok-mappings.ensures
+    ∙ ap (λ (a : Att). add_work a command.netns c.in_ok-mappings.mappings c.in_ok-plugins.plugins)
+    (c.att-owner.ensures ∙ c.in_ok-att.ensures)
+    ∙ ap (λ (m : List PortMapping). add_work (att_of command) command.netns m c.in_ok-plugins.plugins)
+    c.in_ok-mappings.ensures
     ∙ ap (λ (w : Work). add_work (att_of command) command.netns (mappings_of list command) w) all in
     ap (λ (w : Work). w.calls) whole ∙ plugins_calls_of_add list command given c.requires
 
@@ -29,10 +32,13 @@ returns-clause-last c =
     let given = c.args.given.now in
     let all = c.in_ok-plugins.ensures
     ∙ ap (λ (a : Att). plugins_work list a command.netns c.as_slice.result.now given) c.in_ok-att.ensures
-    ∙ ap (λ (m : List PortMapping). plugins_work list (att_of command) command.netns m given) (c.as_slice.ensures ∙ c.in_ok-mappings.ensures) in
+    ∙ ap (λ (m : List PortMapping). plugins_work list (att_of command) command.netns m given)
+    (c.as_slice.ensures ∙ c.in_ok-mappings.ensures) in
     let whole : c.in_ok-work.work ≡ work_of_add list command given =
     c.in_ok-work.ensures
-    ∙ ap (λ (a : Att). add_work a command.netns c.in_ok-mappings.mappings c.in_ok-plugins.plugins) (c.att-owner.ensures ∙ c.in_ok-att.ensures)
-    ∙ ap (λ (m : List PortMapping). add_work (att_of command) command.netns m c.in_ok-plugins.plugins) c.in_ok-mappings.ensures
+    ∙ ap (λ (a : Att). add_work a command.netns c.in_ok-mappings.mappings c.in_ok-plugins.plugins)
+    (c.att-owner.ensures ∙ c.in_ok-att.ensures)
+    ∙ ap (λ (m : List PortMapping). add_work (att_of command) command.netns m c.in_ok-plugins.plugins)
+    c.in_ok-mappings.ensures
     ∙ ap (λ (w : Work). add_work (att_of command) command.netns (mappings_of list command) w) all in
     ap (λ (w : Work). w.result) whole ∙ plugins_result list command given c.requires

@@ -6,4 +6,6 @@ use Rattle.exec_protocol.proofs.members.runtime_mappings.Goals as goal
 
 pub returns : goal.returns
 unfolding runtime_mappings_at
-returns c = c.read_list_or.ensures (refusal.Invalid (codes "runtimeConfig")) (record { tells = λ e is. search rules }) mapping_at (record { gives = λ member r is. search rules })
+returns c =
+    c.read_list_or.ensures (refusal.Invalid (codes "runtimeConfig")) (record { tells = λ e is. search rules })
+    mapping_at (record { gives = λ member r is. search rules })

@@ -10,7 +10,9 @@ returns c =
     let here : nat_lt p.at (length p.owners.items) ≡ true = grind (arith, nat_tests, c.requires.here) in
     let leaves : leaves_owner c.args.reply.now ≡ true = search rules in
     record {
-      work = λ list network. owner_stays (record { network = network; valid = list; kinds = ks }) (jobs_left ks p) (sweeps_after ks p.stage) c.args.reply.now
+      work = λ list network.
+          owner_stays (record { network = network; valid = list; kinds = ks }) (jobs_left ks p)
+          (sweeps_after ks p.stage) c.args.reply.now
           (has_job_left (sweep_of ks p.stage) p.step p.at p.owners.items c.requires.range ∙ here) leaves;
       range = c.requires.range;
     }
@@ -20,4 +22,6 @@ returns-in-Gone-false-clause-work c = λ list network.
     let ks = c.args.kinds.now in
     let p = c.args.place.now in
     let ends : ends_step c.args.reply.now ≡ true = search rules in
-    c.step_done.ensures.work list network ∙ step_ends (record { network = network; valid = list; kinds = ks }) (jobs_left ks p) (sweeps_after ks p.stage) c.args.reply.now ends
+    c.step_done.ensures.work list network
+    ∙ step_ends (record { network = network; valid = list; kinds = ks }) (jobs_left ks p) (sweeps_after ks p.stage)
+    c.args.reply.now ends

@@ -13,6 +13,14 @@ returns-in-Some-clause-trails g c =
     let writes = c.get_mut.follows.holds c.keep_passing.new.trail in
     λ group_of same.
     let owned = has_key g.G.PartialEq.eq group_of c.args.group.now in
-    trails-trimmed g.G.PartialEq.eq g.met.G.Eq.laws group_of c.args.places.now c.args.trails.now (c.get_mut.follows.lender c.keep_passing.new.trail) c.args.group.now c.in-Some.trail.now c.keep_passing.new.trail
-    was (writes.3 (search rules)).0 (λ n h. ap (list_all (λ p. nat_lt p n)) c.keep_passing.ensures ∙ list_all-filter (λ q. nat_lt q n) (λ p. passes test (row_at c.args.places.now p)) c.in-Some.trail.now.items h)
-    (passing-same owned test (λ row. sym (same row)) c.args.places.now c.keep_passing.new.trail.items ∙ (ap (passing test c.args.places.now) c.keep_passing.ensures ∙ passing-twice test c.args.places.now c.in-Some.trail.now.items) ∙ passing-same test owned same c.args.places.now c.in-Some.trail.now.items)
+    trails-trimmed g.G.PartialEq.eq g.met.G.Eq.laws group_of c.args.places.now c.args.trails.now
+    (c.get_mut.follows.lender c.keep_passing.new.trail) c.args.group.now c.in-Some.trail.now
+    c.keep_passing.new.trail
+    was (writes.3 (search rules)).0 (λ n h.
+    ap (list_all (λ p. nat_lt p n)) c.keep_passing.ensures
+    ∙ list_all-filter (λ q. nat_lt q n) (λ p. passes test (row_at c.args.places.now p))
+    c.in-Some.trail.now.items h)
+    (passing-same owned test (λ row. sym (same row)) c.args.places.now c.keep_passing.new.trail.items
+    ∙ (ap (passing test c.args.places.now) c.keep_passing.ensures
+    ∙ passing-twice test c.args.places.now c.in-Some.trail.now.items)
+    ∙ passing-same test owned same c.args.places.now c.in-Some.trail.now.items)

@@ -8,7 +8,8 @@ pub add_leased-requires-clause-absent : goal.add_leased-requires-clause-absent
 add_leased-requires-clause-absent c =
     let leases = c.args.leases.now in
     let i = c.loop-lease.lease-index in
-    c.make_room.ensures.same c.lease-item.result.network c.lease-item.result.addr ∙ c.loop-lease.invariant c.lease-item.result.network c.lease-item.result.addr
+    c.make_room.ensures.same c.lease-item.result.network c.lease-item.result.addr
+    ∙ c.loop-lease.invariant c.lease-item.result.network c.lease-item.result.addr
     ∙ address-free leases i c.lease-item.result (search rules) (search rules) c.requires
 
 pub loop-lease-preserved : goal.loop-lease-preserved
@@ -17,4 +18,7 @@ loop-lease-preserved c =
     let i = c.loop-lease.lease-index in
     let lease = c.lease-item.result in
     AreLeased-more leases i lease (search rules) (search rules) c.loop-lease.leased c.add_leased.new.leased
-    (λ n a. c.add_leased.ensures n a ∙ ap (λ b. bytes_eq lease.network n && addr_eq lease.addr a || b) (c.make_room.ensures.same n a)) c.loop-lease.invariant
+    (λ n a.
+    c.add_leased.ensures n a
+    ∙ ap (λ b. bytes_eq lease.network n && addr_eq lease.addr a || b) (c.make_room.ensures.same n a))
+    c.loop-lease.invariant

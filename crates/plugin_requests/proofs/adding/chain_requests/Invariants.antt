@@ -9,7 +9,8 @@ use Rattle.plugin_requests.specs.{Adding.chain_requests, Raw.IsPluginObject}
 abbrev pub invariant-loop-plugin : goal.invariant-loop-plugin
 invariant-loop-plugin l = record {
   requests : map view l.requests.items
-      ++ requests_left l.list l.mappings (iter_rest (zip_first l.plugin-iterator)) (map view (iter_rest (zip_second l.plugin-iterator))) l.prev
+      ++ requests_left l.list l.mappings (iter_rest (zip_first l.plugin-iterator))
+      (map view (iter_rest (zip_second l.plugin-iterator))) l.prev
       ≡ chain_requests l.raw l.mappings l.initial.prev;
   numbers : All (λ v. has_float (view v) ≡ false) l.requests.items;
   objects : All (λ v. IsPluginObject (view v)) (iter_rest (zip_second l.plugin-iterator));

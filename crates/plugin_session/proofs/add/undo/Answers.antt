@@ -10,4 +10,5 @@ returns-clause-ends g c =
 
 pub returns-clause-refused : goal.returns-clause-refused
 returns-clause-refused g c =
-    undone-refused c.args.row.now.att c.as_slice.result.now c.args.cause c.args.journal.now c.take_back.new.journal c.take_back.result c.take_back.ensures.ends
+    undone-refused c.args.row.now.att c.as_slice.result.now c.args.cause c.args.journal.now c.take_back.new.journal
+    c.take_back.result c.take_back.ensures.ends

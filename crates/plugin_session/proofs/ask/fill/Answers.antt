@@ -23,12 +23,16 @@ returns-clause-ok g c =
     let may_result = g.P.Promise.may_result c.args.plugin.now.name in
     let row = record c.args.row.now { calls = c.in_ok-calls.calls; cached = Some c.in_ok-cached.cached } in
     let own_by : List Kind → Type 0 = λ ks. OwnCalls c.in_ok-ask.ask ks c.in_ok-calls.calls in
-    let cached : c.in_ok-cached.cached ≡ record { netns = c.in_ok-ask.ask.netns; mappings = []; result = c.in_ok-result.result } = search rules in
+    let cached : c.in_ok-cached.cached
+    ≡ record { netns = c.in_ok-ask.ask.netns; mappings = []; result = c.in_ok-result.result } =
+    search rules in
     let P : Ask → Type 0 = λ a. IsAnswer may_call may_result a row c.in_ok-cached.cached in
     subst P same (record {
       calls = c.in_ok-calls.ensures.may;
       own = subst own_by (sym c.requires.kinds) c.in_ok-calls.ensures.own;
       netns = ap (λ (k : Cached). k.netns) cached;
       mappings = ap (λ (k : Cached). k.mappings) cached;
-      result = subst (may_result c.in_ok-ask.ask) (sym (ap (λ (k : Cached). k.result) cached)) c.in_ok-result.ensures.may;
+      result =
+          subst (may_result c.in_ok-ask.ask) (sym (ap (λ (k : Cached). k.result) cached))
+          c.in_ok-result.ensures.may;
     })

@@ -12,12 +12,14 @@ returns-then-not-may_go-clause-ends g c =
 pub returns-in_err-end-clause-ends : goal.returns-in_err-end-clause-ends
 returns-in_err-end-clause-ends g c =
     let p = err_from_is_err_and c.from_residual.result c.from_residual.ensures.1 in
-    stays-refused c.args.att.now c.args.kind c.args.journal.now c.loop-kind.journal c.delete_one.new.journal c.from_residual.result p.0
+    stays-refused c.args.att.now c.args.kind c.args.journal.now c.loop-kind.journal c.delete_one.new.journal
+    c.from_residual.result p.0
     c.loop-kind.invariant.went c.in_err-end.ensures.err p.1
 
 pub returns-in_err-end-clause-ready : goal.returns-in_err-end-clause-ready
 returns-in_err-end-clause-ready g c =
-    ready-same c.args.journal.now c.loop-kind.journal c.delete_one.new.journal c.loop-kind.invariant.ready c.in_err-end.ensures.err
+    ready-same c.args.journal.now c.loop-kind.journal c.delete_one.new.journal c.loop-kind.invariant.ready
+    c.in_err-end.ensures.err
 
 pub returns-in-Some-clause-ends : goal.returns-in-Some-clause-ends
 returns-in-Some-clause-ends g c =
@@ -26,17 +28,23 @@ returns-in-Some-clause-ends g c =
 
 pub returns-in-Some-clause-ready : goal.returns-in-Some-clause-ready
 returns-in-Some-clause-ready g c =
-    ready-more c.args.att.now c.args.kind c.args.journal.now c.loop-kind.journal c.delete_one.new.journal c.loop-kind.invariant.ready c.in_ok-end.ensures.ok
+    ready-more c.args.att.now c.args.kind c.args.journal.now c.loop-kind.journal c.delete_one.new.journal
+    c.loop-kind.invariant.ready c.in_ok-end.ensures.ok
 
 pub loop-kind-smaller : goal.loop-kind-smaller
 loop-kind-smaller g c =
-    deletions-fewer c.args.att.now c.args.kind c.loop-kind.journal c.delete_one.new.journal c.loop-kind.invariant.sound c.in_ok-end.ensures.ok
+    deletions-fewer c.args.att.now c.args.kind c.loop-kind.journal c.delete_one.new.journal c.loop-kind.invariant.sound
+    c.in_ok-end.ensures.ok
     (sym c.in_ok-end.ensures.end ∙ c.in_default.is)
 
 pub loop-kind-preserved : goal.loop-kind-preserved
 loop-kind-preserved g c = record {
-  went = stays-more c.args.att.now c.args.kind c.args.journal.now c.loop-kind.journal c.delete_one.new.journal c.loop-kind.invariant.went
+  went =
+      stays-more c.args.att.now c.args.kind c.args.journal.now c.loop-kind.journal c.delete_one.new.journal
+      c.loop-kind.invariant.went
       c.in_ok-end.ensures.ok (sym c.in_ok-end.ensures.end ∙ c.in_default.is);
-  ready = ready-more c.args.att.now c.args.kind c.args.journal.now c.loop-kind.journal c.delete_one.new.journal c.loop-kind.invariant.ready c.in_ok-end.ensures.ok;
+  ready =
+      ready-more c.args.att.now c.args.kind c.args.journal.now c.loop-kind.journal c.delete_one.new.journal
+      c.loop-kind.invariant.ready c.in_ok-end.ensures.ok;
   sound = c.delete_one.ensures.sound;
 }

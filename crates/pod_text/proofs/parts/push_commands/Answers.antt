@@ -6,4 +6,6 @@ use Rattle.pod_text.proofs.parts.push_commands.Goals as goal
 pub returns : goal.returns
 returns g c =
     let lines = lines_of_commands (command_line c.args.book.now) _ _ _ c.as_slice.ensures c.plan.ensures in
-    subst (λ (text : List ℕ). OnOk c.push_rounds.result (c.push_rounds.new.lines.items ≡ c.args.lines.now.items ++ text)) lines c.push_rounds.ensures
+    subst
+    (λ (text : List ℕ). OnOk c.push_rounds.result (c.push_rounds.new.lines.items ≡ c.args.lines.now.items ++ text))
+    lines c.push_rounds.ensures

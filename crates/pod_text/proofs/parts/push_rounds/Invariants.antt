@@ -5,4 +5,5 @@ use Rattle.pod_text.proofs.parts.push_rounds.Given as goal
 
 -- the rounds so far have their lines
 abbrev pub invariant-loop-commands : goal.invariant-loop-commands
-invariant-loop-commands g l = l.lines.items ≡ l.initial.lines.items ++ flat_map (flat_map (command_line l.book)) (take l.commands-index l.rounds)
+invariant-loop-commands g l =
+    l.lines.items ≡ l.initial.lines.items ++ flat_map (flat_map (command_line l.book)) (take l.commands-index l.rounds)

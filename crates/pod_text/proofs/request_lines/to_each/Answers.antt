@@ -10,7 +10,10 @@ returns c =
     let objects = c.objects-objects.result.now in
     let past : length objects ≤ c.loop-object.object-index = omega arith in
     c.loop-object.invariant
-    ∙ ap (map (λ o. request_data c.get-list.result.now (view o) (option_copied c.args.prev) c.args.mappings.now (option_copied c.args.valid)))
+    ∙ ap (map (λ o.
+    request_data c.get-list.result.now (view o) (option_copied c.args.prev) c.args.mappings.now
+    (option_copied c.args.valid)))
     (take_all c.loop-object.object-index objects past)
-    ∙ to_each-view c.args.raw.now (option_copied c.args.prev) c.args.mappings.now (option_copied c.args.valid) c.get-list.result.now objects
+    ∙ to_each-view c.args.raw.now (option_copied c.args.prev) c.args.mappings.now (option_copied c.args.valid)
+    c.get-list.result.now objects
     (search rules) c.objects-objects.ensures.all

@@ -8,4 +8,5 @@ use Rattle.pod_text.proofs.request_lines.to_each.Given as goal
 abbrev pub invariant-loop-object : goal.invariant-loop-object
 invariant-loop-object l =
     l.made.items
-    ≡ map (λ o. request_data l.list (view o) (option_copied l.prev) l.mappings (option_copied l.valid)) (take l.object-index l.objects)
+    ≡ map (λ o. request_data l.list (view o) (option_copied l.prev) l.mappings (option_copied l.valid))
+    (take l.object-index l.objects)

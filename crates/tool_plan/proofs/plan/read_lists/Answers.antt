@@ -16,8 +16,11 @@ loop-name-preserved g c =
     let files = g.F.Files.files c.args.files.now in
     let name = c.as_str.result.now in
     let grown : c.push.new.self ≡ front ++ raw ∷ [] = c.in_ok-push.ensures.ok in
-    let at : name ≡ slice_index_or names i name = subst (λ (n : List ℕ). n ≡ slice_index_or names i n) (sym c.as_str.ensures) c.name-item.is in
-    let next = front-next files names front i name raw c.loop-name-test.true at before.front (λ stored told. read.gives stored (before.keeps ∙ told)) in
+    let at : name ≡ slice_index_or names i name =
+    subst (λ (n : List ℕ). n ≡ slice_index_or names i n) (sym c.as_str.ensures) c.name-item.is in
+    let next =
+    front-next files names front i name raw c.loop-name-test.true at before.front
+    (λ stored told. read.gives stored (before.keeps ∙ told)) in
     let longer : length (front ++ raw ∷ []) ≡ i + 1 = length-append front (raw ∷ []) ∙ ap (λ n. n + 1) before.count in
     record {
       keeps = read.keeps ∙ before.keeps;
@@ -33,12 +36,17 @@ returns-in_err-raw-clause-gives g c =
     let names = c.args.names.now in
     let i = c.loop-name.name-index in
     let name = c.as_str.result.now in
-    let at : name ≡ slice_index_or names i name = subst (λ (n : List ℕ). n ≡ slice_index_or names i n) (sym c.as_str.ensures) c.name-item.is in
-    let stops = lists-stop (g.F.Files.files c.args.files.now) (g.F.Files.files c.loop-name.files) (g.F.Files.failure_count c.args.files.now) (g.F.Files.failure_count c.loop-name.files)
-    (g.F.Files.failure_count c.read_list.new.files) names c.loop-name.raws i name c.in_err-raw.field-0.0 before.keeps before.later c.loop-name-test.true at before.front
+    let at : name ≡ slice_index_or names i name =
+    subst (λ (n : List ℕ). n ≡ slice_index_or names i n) (sym c.as_str.ensures) c.name-item.is in
+    let stops =
+    lists-stop (g.F.Files.files c.args.files.now) (g.F.Files.files c.loop-name.files)
+    (g.F.Files.failure_count c.args.files.now) (g.F.Files.failure_count c.loop-name.files)
+    (g.F.Files.failure_count c.read_list.new.files) names c.loop-name.raws i name c.in_err-raw.field-0.0
+    before.keeps before.later c.loop-name-test.true at before.front
     c.in_err-raw.ensures.gives in
     rw (p.1, p.2) stops
 
 pub returns-clause-gives : goal.returns-clause-gives
 returns-clause-gives g c =
-    front-whole (g.F.Files.files c.args.files.now) c.args.names.now c.loop-name.raws c.loop-name.name-index (omega (arith, c.loop-name-test.false)) c.loop-name.invariant.front
+    front-whole (g.F.Files.files c.args.files.now) c.args.names.now c.loop-name.raws c.loop-name.name-index
+    (omega (arith, c.loop-name-test.false)) c.loop-name.invariant.front

@@ -8,8 +8,15 @@ pub loop-raw-preserved : goal.loop-raw-preserved
 loop-raw-preserved c =
     let raw = c.raw-item.result in
     let before = c.loop-raw.invariant in
-    let grown : c.push.new.self ≡ c.loop-raw.lists ++ raw.list ∷ [] = c.in_ok-push.ensures.ok ∙ ap (λ (l : NetList). c.loop-raw.lists ++ l ∷ []) (c.in_ok-copy.ensures ∙ c.list.ensures) in
+    let grown : c.push.new.self ≡ c.loop-raw.lists ++ raw.list ∷ [] =
+    c.in_ok-push.ensures.ok
+    ∙ ap (λ (l : NetList). c.loop-raw.lists ++ l ∷ []) (c.in_ok-copy.ensures ∙ c.list.ensures) in
     record {
-      lists = grown ∙ ap (λ (ls : List NetList). ls ++ raw.list ∷ []) before.lists ∙ sym (lists-one_more c.args.raws.now c.loop-raw.raw-index raw c.loop-raw-test.true c.raw-item.is);
-      formed = subst (All IsWellFormedList) (sym grown) (All-push IsWellFormedList c.loop-raw.lists raw.list before.formed c.is_raw.ensures.list);
+      lists =
+          grown
+          ∙ ap (λ (ls : List NetList). ls ++ raw.list ∷ []) before.lists
+          ∙ sym (lists-one_more c.args.raws.now c.loop-raw.raw-index raw c.loop-raw-test.true c.raw-item.is);
+      formed =
+          subst (All IsWellFormedList) (sym grown)
+          (All-push IsWellFormedList c.loop-raw.lists raw.list before.formed c.is_raw.ensures.list);
     }

@@ -12,7 +12,9 @@ returns g c =
     let outcome = c.report.result in
     let how = ends words files sink settled.result outcome settled.ensures.settles c.report.ensures in
     record {
-      run = is_run words files sink _ _ outcome.status (record { book = outcome.book; session = outcome.session }) c.every_legal_history_is_guaranteed.ensures c.every_packet_goes_as_cached.ensures c.one_outcome.ensures
+      run =
+          is_run words files sink _ _ outcome.status (record { book = outcome.book; session = outcome.session })
+          c.every_legal_history_is_guaranteed.ensures c.every_packet_goes_as_cached.ensures c.one_outcome.ensures
           (λ asked. ordered sink settled.result outcome c.report.ensures (settled.ensures.order asked))
           (held _ sink settled.result outcome c.report.ensures settled.ensures.tasks) how;
       keeps = settled.ensures.keeps;

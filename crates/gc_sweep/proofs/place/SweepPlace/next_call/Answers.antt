@@ -11,5 +11,7 @@ returns-in_ok-of c =
     let sweep = sweep_of ks p.stage in
     let here : p.at < length p.owners.items = grind (arith, nat_tests, c.has_owner.ensures, c.if-has_owner.true) in
     ap Some (c.in_ok-of.ensures ∙ c.in_ok-call.ensures)
-    ∙ sym (next_here c.args.network.now sweep p.step p.at p.owners.items (sweeps_after ks p.stage) c.index.result.now (step_of c.owner_step_at-step.result)
-    (slice_get_read p.owners.items (length p.owners.items) p.at c.index.result.now refl here c.index.ensures) c.owner_step_at-step.ensures here c.requires)
+    ∙ sym (next_here c.args.network.now sweep p.step p.at p.owners.items (sweeps_after ks p.stage) c.index.result.now
+    (step_of c.owner_step_at-step.result)
+    (slice_get_read p.owners.items (length p.owners.items) p.at c.index.result.now refl here c.index.ensures)
+    c.owner_step_at-step.ensures here c.requires)

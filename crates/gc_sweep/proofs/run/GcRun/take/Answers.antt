@@ -8,5 +8,6 @@ returns-clause-ok c =
     let opened = subst (λ (p : Progress). IsOpen p.state) (sym c.self.view_is) c.requires.open in
     let note = c.in_ok-note_fault.ensures.ok ∙ ap (faults_after (r.made + 1) r.faults) c.is_fault-faulty.ensures in
     rw (← c.self.view_is)
-    (taken r.list r.command r.made r.kinds c.as_slice.result.now r.place c.take.new.self r.faults c.note_fault.new.faults c.args.reply.now opened c.self.invariant.0.0
+    (taken r.list r.command r.made r.kinds c.as_slice.result.now r.place c.take.new.self r.faults
+    c.note_fault.new.faults c.args.reply.now opened c.self.invariant.0.0
     c.as_slice.ensures (c.in_ok-take.ensures.work r.command.valid c.self.invariant.1) note)

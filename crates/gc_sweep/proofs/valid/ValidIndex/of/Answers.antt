@@ -7,7 +7,8 @@ use Rattle.gc_sweep.proofs.valid.ValidIndex.of.Goals as goal
 
 pub invariant_of-result : goal.invariant_of-result
 invariant_of-result c =
-    c.in_ok-sort_by.ensures.sorted (λ v w. is_lt (names_cmp (names_of v) (names_of w))) (ranks_by names_total names_of) (answers_always _ _ _ (λ f a r g h. search rules))
+    c.in_ok-sort_by.ensures.sorted (λ v w. is_lt (names_cmp (names_of v) (names_of w))) (ranks_by names_total names_of)
+    (answers_always _ _ _ (λ f a r g h. search rules))
 
 pub returns : goal.returns
 returns c = λ att.

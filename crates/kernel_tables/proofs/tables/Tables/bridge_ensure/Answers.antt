@@ -12,7 +12,8 @@ push-requires-clause-key c =
     let nothing : find (is_host_link name) c.args.self.now.links ≡ None = search rules in
     let free : list_any (is_at c.in_ok-bridge.bridge.ns c.in_ok-bridge.bridge.name) links ≡ false =
     ap (λ (b : Link). list_any (is_at b.ns b.name) links) c.in_ok-bridge.ensures ∙ sym (any-host name links)
-    ∙ ap (λ host. list_any (is_host_link name) host.links) c.self.view_is ∙ list_any-find_none (is_host_link name) c.args.self.now.links nothing in
+    ∙ ap (λ host. list_any (is_host_link name) host.links) c.self.view_is
+    ∙ list_any-find_none (is_host_link name) c.args.self.now.links nothing in
     link-key_free links c.in_ok-bridge.bridge free
 
 pub push-requires-clause-alias : goal.push-requires-clause-alias
@@ -22,5 +23,6 @@ push-requires-clause-alias c =
     let nothing : find (is_host_link name) c.args.self.now.links ≡ None = search rules in
     let free : list_any (is_at c.in_ok-bridge.bridge.ns c.in_ok-bridge.bridge.name) links ≡ false =
     ap (λ (b : Link). list_any (is_at b.ns b.name) links) c.in_ok-bridge.ensures ∙ sym (any-host name links)
-    ∙ ap (λ host. list_any (is_host_link name) host.links) c.self.view_is ∙ list_any-find_none (is_host_link name) c.args.self.now.links nothing in
+    ∙ ap (λ host. list_any (is_host_link name) host.links) c.self.view_is
+    ∙ list_any-find_none (is_host_link name) c.args.self.now.links nothing in
     link-alias_free links c.in_ok-bridge.bridge free

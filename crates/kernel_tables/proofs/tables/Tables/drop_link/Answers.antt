@@ -16,8 +16,10 @@ returns c =
     let is : c.take.result ≡ Some link = search rules in
     let rest : c.take.new.self ≡ filter (λ (l : Link). not (is_at key.ns key.name l)) t.links = c.take.ensures.rest in
     let here : find (is_at key.ns key.name) t.links ≡ Some link = sym c.take.ensures.row ∙ is in
-    let found : find (is_at key.ns key.name) host.links ≡ Some link = ap (λ (h : Host). find (is_at key.ns key.name) h.links) (sym c.self.view_is) ∙ here in
-    let left : c.drop_with.new.self ≡ left_with link (record host { links = filter (λ (l : Link). not (is_at key.ns key.name l)) host.links }) =
+    let found : find (is_at key.ns key.name) host.links ≡ Some link =
+    ap (λ (h : Host). find (is_at key.ns key.name) h.links) (sym c.self.view_is) ∙ here in
+    let left : c.drop_with.new.self
+    ≡ left_with link (record host { links = filter (λ (l : Link). not (is_at key.ns key.name l)) host.links }) =
     c.drop_with.ensures ∙ rw (rest, ← c.self.view_is) refl in
     ap (λ h. (h, Gone true)) left ∙ drop_link-there host key link there c.requires found
 
@@ -30,7 +32,19 @@ returns-in_default c =
     let is : c.take.result ≡ None = search rules in
     let rest : c.take.new.self ≡ filter (λ (l : Link). not (is_at key.ns key.name l)) t.links = c.take.ensures.rest in
     let here : find (is_at key.ns key.name) t.links ≡ None = sym c.take.ensures.row ∙ is in
-    let found : find (is_at key.ns key.name) host.links ≡ None = ap (λ (h : Host). find (is_at key.ns key.name) h.links) (sym c.self.view_is) ∙ here in
-    let left : record { namespaces = t.namespaces; links = c.take.new.self; addresses = t.addresses; routes = t.routes; rules = t.rules; settings = t.settings; leases = t.leases; cached = t.cached; lasts = t.lasts }
-    ≡ record host { links = filter (λ (l : Link). not (is_at key.ns key.name l)) host.links } = rw (rest, ← c.self.view_is) refl in
+    let found : find (is_at key.ns key.name) host.links ≡ None =
+    ap (λ (h : Host). find (is_at key.ns key.name) h.links) (sym c.self.view_is) ∙ here in
+    let left : record {
+      namespaces = t.namespaces;
+      links = c.take.new.self;
+      addresses = t.addresses;
+      routes = t.routes;
+      rules = t.rules;
+      settings = t.settings;
+      leases = t.leases;
+      cached = t.cached;
+      lasts = t.lasts;
+    }
+    ≡ record host { links = filter (λ (l : Link). not (is_at key.ns key.name l)) host.links } =
+    rw (rest, ← c.self.view_is) refl in
     ap (λ h. (h, Gone false)) left ∙ drop_link-none host key there found

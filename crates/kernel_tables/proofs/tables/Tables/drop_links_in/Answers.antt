@@ -16,10 +16,16 @@ loop-link-preserved c =
     let host : Host = c.loop-link.self in
     let link = c.in-Some.link in
     let is : c.take_first_at.result ≡ Some link = search rules in
-    let found : find (λ (l : Link). is_key bytes_eq (inner_ns l.ns) name) host.links ≡ Some link = ap (λ (h : Host). find (λ (l : Link). is_key bytes_eq (inner_ns l.ns) name) h.links) (sym c.self.view_is) ∙ sym c.take_first_at.ensures.first ∙ is in
-    let left : c.drop_with.new.self ≡ left_with link (record host { links = without_first (λ (l : Link). is_key bytes_eq (inner_ns l.ns) name) host.links }) =
+    let found : find (λ (l : Link). is_key bytes_eq (inner_ns l.ns) name) host.links ≡ Some link =
+    ap (λ (h : Host). find (λ (l : Link). is_key bytes_eq (inner_ns l.ns) name) h.links) (sym c.self.view_is)
+    ∙ sym c.take_first_at.ensures.first
+    ∙ is in
+    let left : c.drop_with.new.self
+    ≡ left_with link
+    (record host { links = without_first (λ (l : Link). is_key bytes_eq (inner_ns l.ns) name) host.links }) =
     c.drop_with.ensures ∙ rw (c.take_first_at.ensures.rest, ← c.self.view_is) refl in (
-      step-leaves name inner host c.loop-link.invariant.1 link found c.drop_with.new.self left ∙ c.loop-link.invariant.0,
+      step-leaves name inner host c.loop-link.invariant.1 link found c.drop_with.new.self left
+          ∙ c.loop-link.invariant.0,
       step-sound name inner host c.loop-link.invariant.1 link found c.drop_with.new.self left,
     )
 
@@ -31,8 +37,13 @@ loop-link-smaller c =
     let host : Host = c.loop-link.self in
     let link = c.in-Some.link in
     let is : c.take_first_at.result ≡ Some link = search rules in
-    let found : find (λ (l : Link). is_key bytes_eq (inner_ns l.ns) name) host.links ≡ Some link = ap (λ (h : Host). find (λ (l : Link). is_key bytes_eq (inner_ns l.ns) name) h.links) (sym c.self.view_is) ∙ sym c.take_first_at.ensures.first ∙ is in
-    let left : c.drop_with.new.self ≡ left_with link (record host { links = without_first (λ (l : Link). is_key bytes_eq (inner_ns l.ns) name) host.links }) =
+    let found : find (λ (l : Link). is_key bytes_eq (inner_ns l.ns) name) host.links ≡ Some link =
+    ap (λ (h : Host). find (λ (l : Link). is_key bytes_eq (inner_ns l.ns) name) h.links) (sym c.self.view_is)
+    ∙ sym c.take_first_at.ensures.first
+    ∙ is in
+    let left : c.drop_with.new.self
+    ≡ left_with link
+    (record host { links = without_first (λ (l : Link). is_key bytes_eq (inner_ns l.ns) name) host.links }) =
     c.drop_with.ensures ∙ rw (c.take_first_at.ensures.rest, ← c.self.view_is) refl in
     step-fewer name inner host c.loop-link.invariant.1 link found c.drop_with.new.self left
 
@@ -43,8 +54,24 @@ returns c =
     let t = c.self.inside in
     let host : Host = c.loop-link.self in
     let is : c.take_first_at.result ≡ None = search rules in
-    let here : find (λ (l : Link). is_key bytes_eq (inner_ns l.ns) name) t.links ≡ None = sym c.take_first_at.ensures.first ∙ is in
-    let none : find (λ (l : Link). is_key bytes_eq (inner_ns l.ns) name) host.links ≡ None = ap (λ (h : Host). find (λ (l : Link). is_key bytes_eq (inner_ns l.ns) name) h.links) (sym c.self.view_is) ∙ here in
-    let rest : c.take_first_at.new.self ≡ t.links = c.take_first_at.ensures.rest ∙ without_first-none (λ (l : Link). is_key bytes_eq (inner_ns l.ns) name) t.links (list_any-find_none (λ (l : Link). is_key bytes_eq (inner_ns l.ns) name) t.links here) in
-    (λ i. record { namespaces = t.namespaces; links = rest i; addresses = t.addresses; routes = t.routes; rules = t.rules; settings = t.settings; leases = t.leases; cached = t.cached; lasts = t.lasts })
+    let here : find (λ (l : Link). is_key bytes_eq (inner_ns l.ns) name) t.links ≡ None =
+    sym c.take_first_at.ensures.first ∙ is in
+    let none : find (λ (l : Link). is_key bytes_eq (inner_ns l.ns) name) host.links ≡ None =
+    ap (λ (h : Host). find (λ (l : Link). is_key bytes_eq (inner_ns l.ns) name) h.links) (sym c.self.view_is)
+    ∙ here in
+    let rest : c.take_first_at.new.self ≡ t.links =
+    c.take_first_at.ensures.rest
+    ∙ without_first-none (λ (l : Link). is_key bytes_eq (inner_ns l.ns) name) t.links
+    (list_any-find_none (λ (l : Link). is_key bytes_eq (inner_ns l.ns) name) t.links here) in
+    (λ i. record {
+      namespaces = t.namespaces;
+      links = rest i;
+      addresses = t.addresses;
+      routes = t.routes;
+      rules = t.rules;
+      settings = t.settings;
+      leases = t.leases;
+      cached = t.cached;
+      lasts = t.lasts;
+    })
     ∙ c.self.view_is ∙ sym (none-leaves name inner host c.loop-link.invariant.1 none) ∙ c.loop-link.invariant.0

@@ -12,8 +12,21 @@ returns-in_default c =
     let t = c.self.inside in
     let peer : link.peer ≡ None = search rules in
     let links : t.links ≡ filter (λ (l : Link). not (is_peer link.peer l)) t.links = no-peer link.peer t.links peer in
-    let addresses : c.remove_owned.new.self ≡ filter (λ (a : AddrObj). not (is_own att a.tag && has_end_at link a.ns a.link)) t.addresses =
+    let addresses : c.remove_owned.new.self
+    ≡ filter (λ (a : AddrObj). not (is_own att a.tag && has_end_at link a.ns a.link)) t.addresses =
     c.remove_owned.ensures ∙ gone-own (λ (x : AddrObj). x.tag) att (λ a. has_end_at link a.ns a.link) t.addresses in
-    let routes : c.remove_owned-2.new.self ≡ filter (λ (r : RouteObj). not (is_own att r.tag && has_end_at link r.ns r.link)) t.routes =
+    let routes : c.remove_owned-2.new.self
+    ≡ filter (λ (r : RouteObj). not (is_own att r.tag && has_end_at link r.ns r.link)) t.routes =
     c.remove_owned-2.ensures ∙ gone-own (λ (x : RouteObj). x.tag) att (λ r. has_end_at link r.ns r.link) t.routes in
-    rw (← c.self.view_is) (λ i. record { namespaces = t.namespaces; links = links i; addresses = addresses i; routes = routes i; rules = t.rules; settings = t.settings; leases = t.leases; cached = t.cached; lasts = t.lasts })
+    rw (← c.self.view_is) (λ i.
+    record {
+      namespaces = t.namespaces;
+      links = links i;
+      addresses = addresses i;
+      routes = routes i;
+      rules = t.rules;
+      settings = t.settings;
+      leases = t.leases;
+      cached = t.cached;
+      lasts = t.lasts;
+    })

@@ -7,4 +7,5 @@ use Rattle.kernel_tables.proofs.tables.Tables.gateway_ensure.Goals as goal
 pub push-requires-clause-alias : goal.push-requires-clause-alias
 push-requires-clause-alias c =
     let free : list_any (is_same_addr c.in_ok-gateway.gateway) c.args.self.now.addresses ≡ false = search rules in
-    λ alias is. addr-alias_free c.self.inside.addresses c.in_ok-gateway.gateway alias (ap (λ host. list_any (is_same_addr c.in_ok-gateway.gateway) host.addresses) c.self.view_is ∙ free) is
+    λ alias is. addr-alias_free c.self.inside.addresses c.in_ok-gateway.gateway alias
+    (ap (λ host. list_any (is_same_addr c.in_ok-gateway.gateway) host.addresses) c.self.view_is ∙ free) is

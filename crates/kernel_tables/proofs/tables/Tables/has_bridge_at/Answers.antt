@@ -13,8 +13,11 @@ returns-then-is_bridge c =
     let at : find (λ l. is_key bytes_eq (host_name l) name) links ≡ Some c.in-Some.link.now = search rules in
     let bridge : is_bridge c.in-Some.link.now.kind ≡ true = search rules in
     let same : c.eq.result ≡ mac_eq c.in-Some.link.now.mac mac = search rules in
-    same ∙ sym (one-named name (is_bridge_with name mac) (λ l. is_bridge l.kind && mac_eq l.mac mac) (bridge-named name mac) links c.requires.sound.links.keys
-    ∙ ap (λ o. option_map_or (λ l. is_bridge l.kind && mac_eq l.mac mac) o false) at ∙ ap (λ b. b && mac_eq c.in-Some.link.now.mac mac) bridge)
+    same
+    ∙ sym (one-named name (is_bridge_with name mac) (λ l. is_bridge l.kind && mac_eq l.mac mac) (bridge-named name mac)
+    links c.requires.sound.links.keys
+    ∙ ap (λ o. option_map_or (λ l. is_bridge l.kind && mac_eq l.mac mac) o false) at
+    ∙ ap (λ b. b && mac_eq c.in-Some.link.now.mac mac) bridge)
 
 pub returns-else-is_bridge : goal.returns-else-is_bridge
 returns-else-is_bridge c =
@@ -24,8 +27,11 @@ returns-else-is_bridge c =
     let at : find (λ l. is_key bytes_eq (host_name l) name) links ≡ Some c.in-Some.link.now = search rules in
     let bridge : is_bridge c.in-Some.link.now.kind ≡ false = search rules in
     let no : c.is_bridge.result ≡ false = search rules in
-    no ∙ sym (one-named name (is_bridge_with name mac) (λ l. is_bridge l.kind && mac_eq l.mac mac) (bridge-named name mac) links c.requires.sound.links.keys
-    ∙ ap (λ o. option_map_or (λ l. is_bridge l.kind && mac_eq l.mac mac) o false) at ∙ ap (λ b. b && mac_eq c.in-Some.link.now.mac mac) bridge)
+    no
+    ∙ sym (one-named name (is_bridge_with name mac) (λ l. is_bridge l.kind && mac_eq l.mac mac) (bridge-named name mac)
+    links c.requires.sound.links.keys
+    ∙ ap (λ o. option_map_or (λ l. is_bridge l.kind && mac_eq l.mac mac) o false) at
+    ∙ ap (λ b. b && mac_eq c.in-Some.link.now.mac mac) bridge)
 
 pub returns-in-None : goal.returns-in-None
 returns-in-None c =
@@ -33,5 +39,6 @@ returns-in-None c =
     let mac = c.args.mac.now in
     let links = c.args.self.now.links in
     let at : find (λ l. is_key bytes_eq (host_name l) name) links ≡ None = search rules in
-    sym (one-named name (is_bridge_with name mac) (λ l. is_bridge l.kind && mac_eq l.mac mac) (bridge-named name mac) links c.requires.sound.links.keys
+    sym (one-named name (is_bridge_with name mac) (λ l. is_bridge l.kind && mac_eq l.mac mac) (bridge-named name mac)
+    links c.requires.sound.links.keys
     ∙ ap (λ o. option_map_or (λ l. is_bridge l.kind && mac_eq l.mac mac) o false) at)

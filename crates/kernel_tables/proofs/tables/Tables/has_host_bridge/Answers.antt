@@ -7,11 +7,14 @@ use Rattle.kernel_tables.proofs.tables.Tables.has_host_bridge.Goals as goal
 pub returns-in-Some : goal.returns-in-Some
 returns-in-Some c =
     let found : find (is_host_link c.args.name.now) c.args.self.now.links ≡ Some c.in-Some.link.now = search rules in
-    c.is_bridge.ensures ∙ sym (any-both (λ a b. is_same_link b a) (is_host_link c.args.name.now) (λ (l : Link). is_bridge l.kind) (host-alike c.args.name.now) c.args.self.now.links c.requires.links.keys
+    c.is_bridge.ensures
+    ∙ sym (any-both (λ a b. is_same_link b a) (is_host_link c.args.name.now) (λ (l : Link). is_bridge l.kind)
+    (host-alike c.args.name.now) c.args.self.now.links c.requires.links.keys
     ∙ ap (λ o. option_map_or (λ (l : Link). is_bridge l.kind) o false) found)
 
 pub returns-in-None : goal.returns-in-None
 returns-in-None c =
     let found : find (is_host_link c.args.name.now) c.args.self.now.links ≡ None = search rules in
-    sym (any-both (λ a b. is_same_link b a) (is_host_link c.args.name.now) (λ (l : Link). is_bridge l.kind) (host-alike c.args.name.now) c.args.self.now.links c.requires.links.keys
+    sym (any-both (λ a b. is_same_link b a) (is_host_link c.args.name.now) (λ (l : Link). is_bridge l.kind)
+    (host-alike c.args.name.now) c.args.self.now.links c.requires.links.keys
     ∙ ap (λ o. option_map_or (λ (l : Link). is_bridge l.kind) o false) found)

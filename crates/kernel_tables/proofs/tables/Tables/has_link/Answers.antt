@@ -7,5 +7,6 @@ use Rattle.kernel_tables.proofs.tables.Tables.has_link.Goals as goal
 pub returns-in-Own : goal.returns-in-Own
 returns-in-Own c =
     let tag : c.args.link.now.tag ≡ Own c.in-Own.att = search rules in
-    c.any_owned.ensures ∙ (λ i. list_any (λ l. sym (equal-owned c.in-Own.att c.args.link.now tag l) i) c.self.inside.links)
+    c.any_owned.ensures
+    ∙ (λ i. list_any (λ l. sym (equal-owned c.in-Own.att c.args.link.now tag l) i) c.self.inside.links)
     ∙ ap (λ h. list_any (λ l. link_eq l c.args.link.now) h.links) c.self.view_is

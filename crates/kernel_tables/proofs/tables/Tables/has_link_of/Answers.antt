@@ -8,7 +8,10 @@ pub returns-in-Some : goal.returns-in-Some
 returns-in-Some c =
     let found : Some c.in-Some.link.now ≡ find (is_at c.args.ns.now c.args.name.now) c.args.self.now.links =
     rw (← c.in_ok-copy.ensures, ← c.in_ok-copy-2.ensures, ← c.self.view_is) c.in-Some.ensures in
-    c.eq.ensures ∙ tag-same c.in-Some.link.now.tag c.args.tag.now ∙ link-found c.args.ns.now c.args.name.now c.args.tag.now c.args.self.now.links c.in-Some.link.now c.requires.sound.links.keys found
+    c.eq.ensures
+    ∙ tag-same c.in-Some.link.now.tag c.args.tag.now
+    ∙ link-found c.args.ns.now c.args.name.now c.args.tag.now c.args.self.now.links c.in-Some.link.now
+    c.requires.sound.links.keys found
 
 pub returns : goal.returns
 returns c =

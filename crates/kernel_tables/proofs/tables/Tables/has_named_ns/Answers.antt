@@ -7,5 +7,8 @@ use Rattle.kernel_tables.proofs.tables.Tables.has_named_ns.Goals as goal
 
 pub returns : goal.returns
 returns c =
-    c.is_some.ensures ∙ some-copied c.find.result ∙ ap is_some c.find.ensures ∙ is_some-find (λ (n : NsObj). bytes_eq n.name c.args.name.now) c.self.inside.namespaces
+    c.is_some.ensures
+    ∙ some-copied c.find.result
+    ∙ ap is_some c.find.ensures
+    ∙ is_some-find (λ (n : NsObj). bytes_eq n.name c.args.name.now) c.self.inside.namespaces
     ∙ ap (λ host. has_named_ns host c.args.name.now) c.self.view_is

@@ -7,6 +7,11 @@ use Rattle.kernel_tables.proofs.tables.Tables.has_same_setting.Goals as goal
 
 pub returns : goal.returns
 returns c =
-    c.is_some.ensures ∙ some-copied c.find.result ∙ ap is_some c.find.ensures ∙ is_some-find _ c.self.inside.settings ∙ any-setting c.in_ok-key.key c.self.inside.settings
-    ∙ ap (λ (key : SettingKey). list_any (λ s. bytes_eq s.ns key.ns && bytes_eq s.key key.key) c.self.inside.settings) c.in_ok-key.ensures
+    c.is_some.ensures
+    ∙ some-copied c.find.result
+    ∙ ap is_some c.find.ensures
+    ∙ is_some-find _ c.self.inside.settings
+    ∙ any-setting c.in_ok-key.key c.self.inside.settings
+    ∙ ap (λ (key : SettingKey). list_any (λ s. bytes_eq s.ns key.ns && bytes_eq s.key key.key) c.self.inside.settings)
+    c.in_ok-key.ensures
     ∙ ap (λ host. list_any (is_same_setting c.args.obj.now) host.settings) c.self.view_is

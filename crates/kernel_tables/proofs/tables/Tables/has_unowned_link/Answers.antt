@@ -11,17 +11,24 @@ returns-in-Some c =
     let links = c.args.self.now.links in
     let at : find (λ l. is_key bytes_eq (host_name l) link.name) links ≡ Some c.in-Some.found.now = search rules in
     let same : c.eq.result ≡ link_eq c.in-Some.found.now link = search rules in
-    same ∙ sym (one-named link.name (λ l. link_eq l link) (λ l. link_eq l link) (equal-named link (search rules)) links c.requires.sound.links.keys ∙ ap (λ o. option_map_or (λ l. link_eq l link) o false) at)
+    same
+    ∙ sym (one-named link.name (λ l. link_eq l link) (λ l. link_eq l link) (equal-named link (search rules)) links
+    c.requires.sound.links.keys
+    ∙ ap (λ o. option_map_or (λ l. link_eq l link) o false) at)
 
 pub returns-in-None : goal.returns-in-None
 returns-in-None c =
     let link = c.args.link.now in
     let links = c.args.self.now.links in
     let at : find (λ l. is_key bytes_eq (host_name l) link.name) links ≡ None = search rules in
-    sym (one-named link.name (λ l. link_eq l link) (λ l. link_eq l link) (equal-named link (search rules)) links c.requires.sound.links.keys ∙ ap (λ o. option_map_or (λ l. link_eq l link) o false) at)
+    sym (one-named link.name (λ l. link_eq l link) (λ l. link_eq l link) (equal-named link (search rules)) links
+    c.requires.sound.links.keys
+    ∙ ap (λ o. option_map_or (λ l. link_eq l link) o false) at)
 
 pub returns-else-is_host_ns : goal.returns-else-is_host_ns
 returns-else-is_host_ns c =
     let link = c.args.link.now in
     let inner : is_host_ns link.ns ≡ false = search rules in
-    c.any_at.ensures ∙ (λ i. list_any (λ l. sym (equal-sited link inner l) i) c.self.inside.links) ∙ ap (λ h. list_any (λ l. link_eq l link) h.links) c.self.view_is
+    c.any_at.ensures
+    ∙ (λ i. list_any (λ l. sym (equal-sited link inner l) i) c.self.inside.links)
+    ∙ ap (λ h. list_any (λ l. link_eq l link) h.links) c.self.view_is

@@ -7,5 +7,9 @@ use Rattle.kernel_tables.proofs.tables.Tables.is_host_or_ns.Goals as goal
 
 pub returns-else-is_host_ns : goal.returns-else-is_host_ns
 returns-else-is_host_ns c =
-    let there = c.is_some.ensures ∙ some-copied c.find.result ∙ ap is_some c.find.ensures ∙ is_some-find (λ (n : NsObj). bytes_eq n.name c.args.ns.now) c.self.inside.namespaces in
+    let there =
+    c.is_some.ensures
+    ∙ some-copied c.find.result
+    ∙ ap is_some c.find.ensures
+    ∙ is_some-find (λ (n : NsObj). bytes_eq n.name c.args.ns.now) c.self.inside.namespaces in
     search rules

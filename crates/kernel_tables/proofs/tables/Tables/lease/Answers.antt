@@ -12,7 +12,10 @@ push_lease-requires c =
     let network = c.args.att.now.network in
     let is : c.in_ok-lease.lease ≡ lease_of c.args.att.now c.args.addr = search rules in
     record {
-      absent = rw is (sym (taken-leased c.self.inside.leases network c.args.addr) ∙ ap (λ h. is_taken (leased_addresses h network) c.args.addr) c.self.view_is ∙ c.requires.free);
+      absent =
+          rw is (sym (taken-leased c.self.inside.leases network c.args.addr)
+          ∙ ap (λ h. is_taken (leased_addresses h network) c.args.addr) c.self.view_is
+          ∙ c.requires.free);
     }
 
 pub invariant_of-self-2 : goal.invariant_of-self-2
@@ -22,4 +25,7 @@ invariant_of-self-2 c =
     let pushed : c.push_lease.new.leases ≡ c.self.inside.leases ++ c.in_ok-lease.lease ∷ [] = search rules in
     subst (AreLeased c.add_leased.new.leased) (sym (pushed ∙ ap (λ l. c.self.inside.leases ++ l ∷ []) is))
     (AreLeased-new c.self.inside.leased c.add_leased.new.leased c.self.inside.leases lease
-    (λ n a. c.add_leased.ensures n a ∙ ap (λ b. bytes_eq c.args.att.now.network n && addr_eq c.args.addr a || b) (c.make_room.ensures.same n a)) c.self.invariant)
+    (λ n a.
+    c.add_leased.ensures n a
+    ∙ ap (λ b. bytes_eq c.args.att.now.network n && addr_eq c.args.addr a || b) (c.make_room.ensures.same n a))
+    c.self.invariant)

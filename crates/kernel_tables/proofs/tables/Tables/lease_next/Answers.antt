@@ -9,6 +9,9 @@ lease-requires-clause-free c =
     let host = c.args.self.now in
     let network = c.in_ok-copy.field-0 in
     let same : network ≡ c.args.att.now.network = search rules in
-    let picked : pick_of c.args.set.now (last_leased host network c.args.number) (leased_addresses host network) ≡ Some c.in-Some.addr = sym c.next_address.ensures ∙ c.in-Some.is in
+    let picked : pick_of c.args.set.now (last_leased host network c.args.number) (leased_addresses host network)
+    ≡ Some c.in-Some.addr =
+    sym c.next_address.ensures ∙ c.in-Some.is in
     subst (λ n. is_taken (leased_addresses host n) c.in-Some.addr ≡ false) same
-    (picked-free c.args.set.now (last_leased host network c.args.number) (leased_addresses host network) c.in-Some.addr picked)
+    (picked-free c.args.set.now (last_leased host network c.args.number) (leased_addresses host network)
+    c.in-Some.addr picked)

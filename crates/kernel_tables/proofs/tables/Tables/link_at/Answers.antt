@@ -5,4 +5,6 @@ use Rattle.kernel_tables.proofs.tables.Tables.link_at.Goals as goal
 
 pub returns : goal.returns
 returns c =
-    c.find.ensures ∙ find-at c.args.key.now c.self.inside.links ∙ ap (λ host. link_at host c.args.key.now.ns c.args.key.now.name) c.self.view_is
+    c.find.ensures
+    ∙ find-at c.args.key.now c.self.inside.links
+    ∙ ap (λ host. link_at host c.args.key.now.ns c.args.key.now.name) c.self.view_is

@@ -7,4 +7,5 @@ use Rattle.kernel_tables.proofs.tables.Tables.link_set.Goals as goal
 pub returns : goal.returns
 returns c =
     let own : list_any (is_own_at c.args.att.now c.args.key.now) c.args.self.now.links ≡ true = search rules in
-    values-set c.args.att.now c.args.key.now c.args.mac c.args.mtu c.args.tx_qlen c.args.promisc c.args.allmulti _ c.args.self.now c.update.new.self c.self.view_is c.requires.links.keys own c.update.ensures
+    values-set c.args.att.now c.args.key.now c.args.mac c.args.mtu c.args.tx_qlen c.args.promisc c.args.allmulti _
+    c.args.self.now c.update.new.self c.self.view_is c.requires.links.keys own c.update.ensures

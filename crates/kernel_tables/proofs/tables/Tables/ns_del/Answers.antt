@@ -14,12 +14,36 @@ returns c =
     let inner = inner-named host c.requires name named in
     let t = c.self.inside in
     let left : Host = c.drop_links_in.new.self in
-    let namespaces : c.take.new.self ≡ filter (λ (n : NsObj). not (bytes_eq n.name name)) t.namespaces = c.take.ensures.rest in
-    let settings : c.remove_at.new.self ≡ filter (λ (s : Setting). not (is_key bytes_eq (inner_ns s.ns) name)) t.settings = c.remove_at.ensures in
-    let whole : record { namespaces = c.take.new.self; links = t.links; addresses = t.addresses; routes = t.routes; rules = t.rules; settings = c.remove_at.new.self; leases = t.leases; cached = t.cached; lasts = t.lasts }
+    let namespaces : c.take.new.self ≡ filter (λ (n : NsObj). not (bytes_eq n.name name)) t.namespaces =
+    c.take.ensures.rest in
+    let settings : c.remove_at.new.self
+    ≡ filter (λ (s : Setting). not (is_key bytes_eq (inner_ns s.ns) name)) t.settings =
+    c.remove_at.ensures in
+    let whole : record {
+      namespaces = c.take.new.self;
+      links = t.links;
+      addresses = t.addresses;
+      routes = t.routes;
+      rules = t.rules;
+      settings = c.remove_at.new.self;
+      leases = t.leases;
+      cached = t.cached;
+      lasts = t.lasts;
+    }
     ≡ record left {
       namespaces = filter (λ (n : NsObj). not (bytes_eq n.name name)) left.namespaces;
       settings = filter (λ (s : Setting). not (is_key bytes_eq (inner_ns s.ns) name)) left.settings;
     } =
-    rw (← c.self.view_is) (λ i. record { namespaces = namespaces i; links = t.links; addresses = t.addresses; routes = t.routes; rules = t.rules; settings = settings i; leases = t.leases; cached = t.cached; lasts = t.lasts }) in
+    rw (← c.self.view_is) (λ i.
+    record {
+      namespaces = namespaces i;
+      links = t.links;
+      addresses = t.addresses;
+      routes = t.routes;
+      rules = t.rules;
+      settings = settings i;
+      leases = t.leases;
+      cached = t.cached;
+      lasts = t.lasts;
+    }) in
     ap (λ h. (h, Done)) whole ∙ ns-leaves name inner host c.requires named left c.drop_links_in.ensures

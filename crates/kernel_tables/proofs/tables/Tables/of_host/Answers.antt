@@ -63,4 +63,5 @@ of_rows-requires-9 c = record {
 
 pub invariant_of-result : goal.invariant_of-result
 invariant_of-result c network addr =
-    c.in_ok-leased.ensures network addr ∙ ap (λ leases. is_taken (addresses_in leases network) addr) (c.as_slice.ensures ∙ sym c.in_ok-of_rows-7.ensures)
+    c.in_ok-leased.ensures network addr
+    ∙ ap (λ leases. is_taken (addresses_in leases network) addr) (c.as_slice.ensures ∙ sym c.in_ok-of_rows-7.ensures)

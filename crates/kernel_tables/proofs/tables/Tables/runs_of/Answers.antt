@@ -12,4 +12,7 @@ returns c =
     let kept : c.unwrap_or.result.now.addresses ≡ kept_for c.self.inside.leased network =
     ap (λ r. r.now.addresses) c.unwrap_or.ensures ∙ kept-chosen c.get.result _ c.requires
     ∙ ap (λ o. option_map_or (λ set. set.addresses) o []) c.get.ensures.value in
-    λ a. ap (λ l. is_taken l a) kept ∙ c.self.invariant network a ∙ ap (λ h. is_taken (leased_addresses h network) a) c.self.view_is
+    λ a.
+    ap (λ l. is_taken l a) kept
+    ∙ c.self.invariant network a
+    ∙ ap (λ h. is_taken (leased_addresses h network) a) c.self.view_is

@@ -8,8 +8,12 @@ use Rattle.kernel_tables.proofs.tables.Tables.setting_del.Goals as goal
 
 pub returns : goal.returns
 returns c =
-    let rest : c.take_first_owned.new.self ≡ without_first (λ (x : Setting). is_own c.args.att.now x.tag) c.self.inside.settings =
+    let rest : c.take_first_owned.new.self
+    ≡ without_first (λ (x : Setting). is_own c.args.att.now x.tag) c.self.inside.settings =
     c.take_first_owned.ensures.rest ∙ first-own (λ (x : Setting). x.tag) c.args.att.now c.self.inside.settings in
     let any : c.is_some.result ≡ list_any (λ (x : Setting). is_own c.args.att.now x.tag) c.self.inside.settings =
-    c.is_some.ensures ∙ ap is_some c.take_first_owned.ensures.first ∙ is_some-find _ c.self.inside.settings ∙ any-own (λ (x : Setting). x.tag) c.args.att.now c.self.inside.settings in
+    c.is_some.ensures
+    ∙ ap is_some c.take_first_owned.ensures.first
+    ∙ is_some-find _ c.self.inside.settings
+    ∙ any-own (λ (x : Setting). x.tag) c.args.att.now c.self.inside.settings in
     rw (rest, any, ← c.self.view_is) refl

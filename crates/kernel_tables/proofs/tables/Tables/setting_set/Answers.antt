@@ -9,13 +9,18 @@ use Rattle.kernel_tables.proofs.tables.Tables.setting_set.Goals as goal
 
 pub push-requires-clause-key : goal.push-requires-clause-key
 push-requires-clause-key c =
-    let same : setting_key c.in_ok-copy-2.field-0 ≡ c.in_ok-of.field-0 = ap setting_key c.in_ok-copy-2.ensures ∙ sym c.in_ok-of.ensures in
-    free-key eq-value.it (λ a. Some (setting_key a)) c.self.inside.settings c.in_ok-of.field-0 (setting_key c.in_ok-copy-2.field-0) (list_any-find_none _ c.self.inside.settings (sym c.in_default.ensures)) same
+    let same : setting_key c.in_ok-copy-2.field-0 ≡ c.in_ok-of.field-0 =
+    ap setting_key c.in_ok-copy-2.ensures ∙ sym c.in_ok-of.ensures in
+    free-key eq-value.it (λ a. Some (setting_key a)) c.self.inside.settings c.in_ok-of.field-0
+    (setting_key c.in_ok-copy-2.field-0)
+    (list_any-find_none _ c.self.inside.settings (sym c.in_default.ensures)) same
 
 pub push-requires-clause-alias : goal.push-requires-clause-alias
 push-requires-clause-alias c =
-    let same : setting_key c.in_ok-copy-2.field-0 ≡ c.in_ok-of.field-0 = ap setting_key c.in_ok-copy-2.ensures ∙ sym c.in_ok-of.ensures in
-    free-alias eq-value.it same-value.it setting_key setting-keyed c.self.inside.settings c.in_ok-of.field-0 c.in_ok-copy-2.field-0 (list_any-find_none _ c.self.inside.settings (sym c.in_default.ensures)) same
+    let same : setting_key c.in_ok-copy-2.field-0 ≡ c.in_ok-of.field-0 =
+    ap setting_key c.in_ok-copy-2.ensures ∙ sym c.in_ok-of.ensures in
+    free-alias eq-value.it same-value.it setting_key setting-keyed c.self.inside.settings c.in_ok-of.field-0
+    c.in_ok-copy-2.field-0 (list_any-find_none _ c.self.inside.settings (sym c.in_default.ensures)) same
 
 pub returns-then-not-has_named_ns-clause-ok : goal.returns-then-not-has_named_ns-clause-ok
 returns-then-not-has_named_ns-clause-ok c =

@@ -15,7 +15,10 @@ returns-then-is_err-clause-err c =
     let own = λ (l : Last). pool_eq-value.it (record { network = l.network; set = l.set }) pool in
     let last : Last = record { network = pool.network; set = pool.set; addr = c.args.lease.addr } in
     let pushed : c.push.new.self ≡ c.args.lasts.now ++ last ∷ [] = search rules in
-    let itself : own last ≡ true = same-pool pool last ∙ grind (arith, pool_itself pool.network pool.set c.args.lease.addr) in
+    let itself : own last ≡ true =
+    same-pool pool last ∙ grind (arith, pool_itself pool.network pool.set c.args.lease.addr) in
     let back : c.take.new.self ≡ c.args.lasts.now =
-    c.take.ensures.rest ∙ ap (filter (λ l. not (own l))) pushed ∙ pushed-out own c.args.lasts.now last (any-pool pool c.args.lasts.now ∙ c.requires.none) itself in
+    c.take.ensures.rest
+    ∙ ap (filter (λ l. not (own l))) pushed
+    ∙ pushed-out own c.args.lasts.now last (any-pool pool c.args.lasts.now ∙ c.requires.none) itself in
     on_err-with _ _ c.push-pushed.result c.push-pushed.ensures.err back

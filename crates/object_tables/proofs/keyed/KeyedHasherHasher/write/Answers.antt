@@ -6,5 +6,8 @@ pub returns : goal.returns
 unfolding write
 returns c =
     let words = c.as_chunks.result.0.now in
-    let taken = c.loop-word.invariant ∙ ap (write_words c.args.self.now) (take_all c.loop-word.word-index words c.loop-word-test.false ∙ c.as_chunks.ensures.front) in
+    let taken =
+    c.loop-word.invariant
+    ∙ ap (write_words c.args.self.now)
+    (take_all c.loop-word.word-index words c.loop-word-test.false ∙ c.as_chunks.ensures.front) in
     c.write_rest.ensures ∙ (λ i. write_rest (taken i) (c.as_chunks.ensures.back i))

@@ -5,4 +5,5 @@ use Rattle.object_tables.proofs.keyed.KeyedHasherHasher.write_u64.Goals as goal
 
 pub returns : goal.returns
 unfolding le_bytes write write_word
-returns c = c.write_word.ensures ∙ sym (ap (write_word c.args.self.now) (from_le_bytes-to_le_bytes_8 c.args.i c.ranges.i.fits))
+returns c =
+    c.write_word.ensures ∙ sym (ap (write_word c.args.self.now) (from_le_bytes-to_le_bytes_8 c.args.i c.ranges.i.fits))

@@ -10,10 +10,15 @@ returns-in-Some g c =
     let owned = has_key g.P.PartialEq.eq g.T.Row.site_of c.args.site.now in
     let test = g.Q.Test.passes c.args.test.now in
     let at : get g.P.PartialEq.eq c.self.inside.sites c.args.site.now ≡ Some c.in-Some.trail.now = search rules in
-    let exact : passing owned c.self.inside.places.items c.in-Some.trail.now.items ≡ places_where owned c.self.inside.places.items =
-    ap (λ o. passing owned c.self.inside.places.items (option_map_or deque_items o [])) (sym at) ∙ c.self.invariant.4.exact c.args.site.now in
-    c.any_along.ensures ∙ ap (λ l. list_any (λ p. passes (λ row. owned row && test row) (row_at l p)) c.in-Some.trail.now.items) c.deref.ensures.value
-    ∙ any-along (λ row. owned row && test row) c.self.inside.places.items c.in-Some.trail.now.items (both-along owned test c.self.inside.places.items c.in-Some.trail.now.items exact)
+    let exact : passing owned c.self.inside.places.items c.in-Some.trail.now.items
+    ≡ places_where owned c.self.inside.places.items =
+    ap (λ o. passing owned c.self.inside.places.items (option_map_or deque_items o [])) (sym at)
+    ∙ c.self.invariant.4.exact c.args.site.now in
+    c.any_along.ensures
+    ∙ ap (λ l. list_any (λ p. passes (λ row. owned row && test row) (row_at l p)) c.in-Some.trail.now.items)
+    c.deref.ensures.value
+    ∙ any-along (λ row. owned row && test row) c.self.inside.places.items c.in-Some.trail.now.items
+    (both-along owned test c.self.inside.places.items c.in-Some.trail.now.items exact)
     ∙ ap (list_any (λ row. owned row && test row)) c.self.view_is
 
 pub returns-in-None : goal.returns-in-None
@@ -22,6 +27,8 @@ returns-in-None g c =
     let test = g.Q.Test.passes c.args.test.now in
     let at : get g.P.PartialEq.eq c.self.inside.sites c.args.site.now ≡ None = search rules in
     let exact : passing owned c.self.inside.places.items [] ≡ places_where owned c.self.inside.places.items =
-    ap (λ o. passing owned c.self.inside.places.items (option_map_or deque_items o [])) (sym at) ∙ c.self.invariant.4.exact c.args.site.now in
-    any-along (λ row. owned row && test row) c.self.inside.places.items [] (both-along owned test c.self.inside.places.items [] exact)
+    ap (λ o. passing owned c.self.inside.places.items (option_map_or deque_items o [])) (sym at)
+    ∙ c.self.invariant.4.exact c.args.site.now in
+    any-along (λ row. owned row && test row) c.self.inside.places.items []
+    (both-along owned test c.self.inside.places.items [] exact)
     ∙ ap (list_any (λ row. owned row && test row)) c.self.view_is

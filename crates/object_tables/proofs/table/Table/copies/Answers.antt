@@ -7,4 +7,5 @@ pub loop-place-preserved : goal.loop-place-preserved
 loop-place-preserved g c =
     let pushed : c.push_copy.new.rows ≡ c.loop-place.rows ++ option_to_list c.place-item.result = search rules in
     pushed ∙ ap (λ l. l ++ option_to_list c.place-item.result) c.loop-place.invariant
-    ∙ sym (rows_of-more c.deref-place-items.result.now c.loop-place.place-index c.place-item.result (omega arith) (search rules))
+    ∙ sym (rows_of-more c.deref-place-items.result.now c.loop-place.place-index c.place-item.result
+    (omega arith) (search rules))

@@ -13,7 +13,9 @@ returns-in-Some g c =
     let noted = get g.L.PartialEq.eq c.self.inside.by_alias c.args.alias.now in
     let at : at_first c.self.inside.places.items (option_to_list noted) ≡ Some c.in-Some.row.now = search rules in
     let is : test c.in-Some.row.now ≡ true = search rules in
-    found-noted test c.self.inside.places.items noted c.in-Some.row.now (c.self.invariant.1.exact c.args.alias.now) at is ∙ ap (find test) c.self.view_is
+    found-noted test c.self.inside.places.items noted c.in-Some.row.now (c.self.invariant.1.exact c.args.alias.now)
+    at is
+    ∙ ap (find test) c.self.view_is
 
 pub returns-in_default : goal.returns-in_default
 returns-in_default g c =
@@ -22,9 +24,11 @@ returns-in_default g c =
     let exact = c.self.invariant.1.exact c.args.alias.now in
     elim c.in_default.branch [
       | in_default-via-in-Some+else-has_alias w ↦
-          (let at : at_first c.self.inside.places.items (option_to_list noted) ≡ Some w.in-Some.row.now = search rules in
+          (let at : at_first c.self.inside.places.items (option_to_list noted) ≡ Some w.in-Some.row.now =
+          search rules in
           let is : test w.in-Some.row.now ≡ false = search rules in
-          passed-noted test c.self.inside.places.items noted w.in-Some.row.now exact at is ∙ ap (find test) c.self.view_is)
+          passed-noted test c.self.inside.places.items noted w.in-Some.row.now exact at is
+          ∙ ap (find test) c.self.view_is)
       | in_default-via-in_default w ↦
           (let at : at_first c.self.inside.places.items (option_to_list noted) ≡ None = search rules in
           empty-noted test c.self.inside.places.items noted exact at ∙ ap (find test) c.self.view_is)

@@ -19,7 +19,8 @@ invariant_of-self-in_err-note_place g c =
 pub returns-in_err-note_place-clause-err : goal.returns-in_err-note_place-clause-err
 returns-in_err-note_place-clause-err g c =
     let is : c.push.new.self.items ≡ c.self.inside.places.items ++ None ∷ [] = search rules in
-    let same : rows_of c.push.new.self.items ≡ c.args.self.now = ap rows_of is ∙ rows_of-push_none c.self.inside.places.items ∙ c.self.view_is in
+    let same : rows_of c.push.new.self.items ≡ c.args.self.now =
+    ap rows_of is ∙ rows_of-push_none c.self.inside.places.items ∙ c.self.view_is in
     search rules
 
 pub invariant_of-self-in_err-note_place-2 : goal.invariant_of-self-in_err-note_place-2
@@ -28,8 +29,11 @@ invariant_of-self-in_err-note_place-2 g c =
     let key : c.in_ok-key.key ≡ g.T.Row.key_of c.args.row = search rules in
     let end : c.len-place.result ≡ length c.self.inside.places.items = search rules in
     rw is (
-      index-noted g.K.PartialEq.eq g.met.K.Eq.laws g.T.Row.key_of c.self.inside.places.items c.self.inside.by_key c.note_place.new.index c.args.row c.in_ok-key.key c.len-place.result None
-          c.self.invariant.0 key end c.in_ok-note_place.ensures.ok (λ own e. ap (list_any (has_key g.K.PartialEq.eq g.T.Row.key_of own)) c.self.view_is ∙ c.requires.key own e) (no_row g.K.PartialEq.eq g.T.Row.key_of c.args.row),
+      index-noted g.K.PartialEq.eq g.met.K.Eq.laws g.T.Row.key_of c.self.inside.places.items c.self.inside.by_key
+          c.note_place.new.index c.args.row c.in_ok-key.key c.len-place.result None
+          c.self.invariant.0 key end c.in_ok-note_place.ensures.ok
+          (λ own e. ap (list_any (has_key g.K.PartialEq.eq g.T.Row.key_of own)) c.self.view_is ∙ c.requires.key own e)
+          (no_row g.K.PartialEq.eq g.T.Row.key_of c.args.row),
       Finds-kept None c.self.invariant.1 c.in_err-note_place-2.ensures.err (λ q. refl),
       Finds-kept None c.self.invariant.2 (λ q. refl) (λ q. refl),
       Finds-kept None c.self.invariant.3 (λ q. refl) (λ q. refl),
@@ -39,7 +43,8 @@ invariant_of-self-in_err-note_place-2 g c =
 pub returns-in_err-note_place-2-clause-err : goal.returns-in_err-note_place-2-clause-err
 returns-in_err-note_place-2-clause-err g c =
     let is : c.push.new.self.items ≡ c.self.inside.places.items ++ None ∷ [] = search rules in
-    let same : rows_of c.push.new.self.items ≡ c.args.self.now = ap rows_of is ∙ rows_of-push_none c.self.inside.places.items ∙ c.self.view_is in
+    let same : rows_of c.push.new.self.items ≡ c.args.self.now =
+    ap rows_of is ∙ rows_of-push_none c.self.inside.places.items ∙ c.self.view_is in
     search rules
 
 pub invariant_of-self-in_err-note_group : goal.invariant_of-self-in_err-note_group
@@ -49,10 +54,17 @@ invariant_of-self-in_err-note_group g c =
     let alias : c.in_ok-alias.alias ≡ g.T.Row.alias_of c.args.row = search rules in
     let end : c.len-place.result ≡ length c.self.inside.places.items = search rules in
     rw is (
-      index-noted g.K.PartialEq.eq g.met.K.Eq.laws g.T.Row.key_of c.self.inside.places.items c.self.inside.by_key c.note_place.new.index c.args.row c.in_ok-key.key c.len-place.result None
-          c.self.invariant.0 key end c.in_ok-note_place.ensures.ok (λ own e. ap (list_any (has_key g.K.PartialEq.eq g.T.Row.key_of own)) c.self.view_is ∙ c.requires.key own e) (no_row g.K.PartialEq.eq g.T.Row.key_of c.args.row),
-      index-noted g.L.PartialEq.eq g.met.L.Eq.laws g.T.Row.alias_of c.self.inside.places.items c.self.inside.by_alias c.note_place-2.new.index c.args.row c.in_ok-alias.alias c.len-place.result None
-          c.self.invariant.1 alias end c.in_ok-note_place-2.ensures.ok (λ own e. ap (list_any (has_key g.L.PartialEq.eq g.T.Row.alias_of own)) c.self.view_is ∙ c.requires.alias own e) (no_row g.L.PartialEq.eq g.T.Row.alias_of c.args.row),
+      index-noted g.K.PartialEq.eq g.met.K.Eq.laws g.T.Row.key_of c.self.inside.places.items c.self.inside.by_key
+          c.note_place.new.index c.args.row c.in_ok-key.key c.len-place.result None
+          c.self.invariant.0 key end c.in_ok-note_place.ensures.ok
+          (λ own e. ap (list_any (has_key g.K.PartialEq.eq g.T.Row.key_of own)) c.self.view_is ∙ c.requires.key own e)
+          (no_row g.K.PartialEq.eq g.T.Row.key_of c.args.row),
+      index-noted g.L.PartialEq.eq g.met.L.Eq.laws g.T.Row.alias_of c.self.inside.places.items c.self.inside.by_alias
+          c.note_place-2.new.index c.args.row c.in_ok-alias.alias c.len-place.result None
+          c.self.invariant.1 alias end c.in_ok-note_place-2.ensures.ok
+          (λ own e.
+          ap (list_any (has_key g.L.PartialEq.eq g.T.Row.alias_of own)) c.self.view_is ∙ c.requires.alias own e)
+          (no_row g.L.PartialEq.eq g.T.Row.alias_of c.args.row),
       Finds-kept None c.self.invariant.2 c.in_err-note_group.ensures.err (λ q. refl),
       Finds-kept None c.self.invariant.3 (λ q. refl) (λ q. refl),
       Finds-kept None c.self.invariant.4 (λ q. refl) (λ q. refl),
@@ -61,7 +73,8 @@ invariant_of-self-in_err-note_group g c =
 pub returns-in_err-note_group-clause-err : goal.returns-in_err-note_group-clause-err
 returns-in_err-note_group-clause-err g c =
     let is : c.push.new.self.items ≡ c.self.inside.places.items ++ None ∷ [] = search rules in
-    let same : rows_of c.push.new.self.items ≡ c.args.self.now = ap rows_of is ∙ rows_of-push_none c.self.inside.places.items ∙ c.self.view_is in
+    let same : rows_of c.push.new.self.items ≡ c.args.self.now =
+    ap rows_of is ∙ rows_of-push_none c.self.inside.places.items ∙ c.self.view_is in
     search rules
 
 pub invariant_of-self-in_err-note_group-2 : goal.invariant_of-self-in_err-note_group-2
@@ -72,12 +85,21 @@ invariant_of-self-in_err-note_group-2 g c =
     let owner : c.in_ok-owner.owner ≡ g.T.Row.owner_of c.args.row = search rules in
     let end : c.len-place.result ≡ length c.self.inside.places.items = search rules in
     rw is (
-      index-noted g.K.PartialEq.eq g.met.K.Eq.laws g.T.Row.key_of c.self.inside.places.items c.self.inside.by_key c.note_place.new.index c.args.row c.in_ok-key.key c.len-place.result None
-          c.self.invariant.0 key end c.in_ok-note_place.ensures.ok (λ own e. ap (list_any (has_key g.K.PartialEq.eq g.T.Row.key_of own)) c.self.view_is ∙ c.requires.key own e) (no_row g.K.PartialEq.eq g.T.Row.key_of c.args.row),
-      index-noted g.L.PartialEq.eq g.met.L.Eq.laws g.T.Row.alias_of c.self.inside.places.items c.self.inside.by_alias c.note_place-2.new.index c.args.row c.in_ok-alias.alias c.len-place.result None
-          c.self.invariant.1 alias end c.in_ok-note_place-2.ensures.ok (λ own e. ap (list_any (has_key g.L.PartialEq.eq g.T.Row.alias_of own)) c.self.view_is ∙ c.requires.alias own e) (no_row g.L.PartialEq.eq g.T.Row.alias_of c.args.row),
-      trails-noted g.O.PartialEq.eq g.T.Row.owner_of c.self.inside.places.items c.self.inside.trails c.note_group.new.trails c.args.row c.in_ok-owner.owner c.len-place.result None
-          c.self.invariant.2 owner end c.in_ok-note_group.ensures.ok (no_row g.O.PartialEq.eq g.T.Row.owner_of c.args.row),
+      index-noted g.K.PartialEq.eq g.met.K.Eq.laws g.T.Row.key_of c.self.inside.places.items c.self.inside.by_key
+          c.note_place.new.index c.args.row c.in_ok-key.key c.len-place.result None
+          c.self.invariant.0 key end c.in_ok-note_place.ensures.ok
+          (λ own e. ap (list_any (has_key g.K.PartialEq.eq g.T.Row.key_of own)) c.self.view_is ∙ c.requires.key own e)
+          (no_row g.K.PartialEq.eq g.T.Row.key_of c.args.row),
+      index-noted g.L.PartialEq.eq g.met.L.Eq.laws g.T.Row.alias_of c.self.inside.places.items c.self.inside.by_alias
+          c.note_place-2.new.index c.args.row c.in_ok-alias.alias c.len-place.result None
+          c.self.invariant.1 alias end c.in_ok-note_place-2.ensures.ok
+          (λ own e.
+          ap (list_any (has_key g.L.PartialEq.eq g.T.Row.alias_of own)) c.self.view_is ∙ c.requires.alias own e)
+          (no_row g.L.PartialEq.eq g.T.Row.alias_of c.args.row),
+      trails-noted g.O.PartialEq.eq g.T.Row.owner_of c.self.inside.places.items c.self.inside.trails
+          c.note_group.new.trails c.args.row c.in_ok-owner.owner c.len-place.result None
+          c.self.invariant.2 owner end c.in_ok-note_group.ensures.ok
+          (no_row g.O.PartialEq.eq g.T.Row.owner_of c.args.row),
       Finds-kept None c.self.invariant.3 c.in_err-note_group-2.ensures.err (λ q. refl),
       Finds-kept None c.self.invariant.4 (λ q. refl) (λ q. refl),
     )
@@ -85,7 +107,8 @@ invariant_of-self-in_err-note_group-2 g c =
 pub returns-in_err-note_group-2-clause-err : goal.returns-in_err-note_group-2-clause-err
 returns-in_err-note_group-2-clause-err g c =
     let is : c.push.new.self.items ≡ c.self.inside.places.items ++ None ∷ [] = search rules in
-    let same : rows_of c.push.new.self.items ≡ c.args.self.now = ap rows_of is ∙ rows_of-push_none c.self.inside.places.items ∙ c.self.view_is in
+    let same : rows_of c.push.new.self.items ≡ c.args.self.now =
+    ap rows_of is ∙ rows_of-push_none c.self.inside.places.items ∙ c.self.view_is in
     search rules
 
 pub invariant_of-self-in_err-note_group-3 : goal.invariant_of-self-in_err-note_group-3
@@ -97,21 +120,33 @@ invariant_of-self-in_err-note_group-3 g c =
     let network : c.in_ok-network.network ≡ g.T.Row.network_of c.args.row = search rules in
     let end : c.len-place.result ≡ length c.self.inside.places.items = search rules in
     rw is (
-      index-noted g.K.PartialEq.eq g.met.K.Eq.laws g.T.Row.key_of c.self.inside.places.items c.self.inside.by_key c.note_place.new.index c.args.row c.in_ok-key.key c.len-place.result None
-          c.self.invariant.0 key end c.in_ok-note_place.ensures.ok (λ own e. ap (list_any (has_key g.K.PartialEq.eq g.T.Row.key_of own)) c.self.view_is ∙ c.requires.key own e) (no_row g.K.PartialEq.eq g.T.Row.key_of c.args.row),
-      index-noted g.L.PartialEq.eq g.met.L.Eq.laws g.T.Row.alias_of c.self.inside.places.items c.self.inside.by_alias c.note_place-2.new.index c.args.row c.in_ok-alias.alias c.len-place.result None
-          c.self.invariant.1 alias end c.in_ok-note_place-2.ensures.ok (λ own e. ap (list_any (has_key g.L.PartialEq.eq g.T.Row.alias_of own)) c.self.view_is ∙ c.requires.alias own e) (no_row g.L.PartialEq.eq g.T.Row.alias_of c.args.row),
-      trails-noted g.O.PartialEq.eq g.T.Row.owner_of c.self.inside.places.items c.self.inside.trails c.note_group.new.trails c.args.row c.in_ok-owner.owner c.len-place.result None
-          c.self.invariant.2 owner end c.in_ok-note_group.ensures.ok (no_row g.O.PartialEq.eq g.T.Row.owner_of c.args.row),
-      trails-noted bytes_eq g.T.Row.network_of c.self.inside.places.items c.self.inside.networks c.note_group-2.new.trails c.args.row c.in_ok-network.network c.len-place.result None
-          c.self.invariant.3 network end c.in_ok-note_group-2.ensures.ok (no_row bytes_eq g.T.Row.network_of c.args.row),
+      index-noted g.K.PartialEq.eq g.met.K.Eq.laws g.T.Row.key_of c.self.inside.places.items c.self.inside.by_key
+          c.note_place.new.index c.args.row c.in_ok-key.key c.len-place.result None
+          c.self.invariant.0 key end c.in_ok-note_place.ensures.ok
+          (λ own e. ap (list_any (has_key g.K.PartialEq.eq g.T.Row.key_of own)) c.self.view_is ∙ c.requires.key own e)
+          (no_row g.K.PartialEq.eq g.T.Row.key_of c.args.row),
+      index-noted g.L.PartialEq.eq g.met.L.Eq.laws g.T.Row.alias_of c.self.inside.places.items c.self.inside.by_alias
+          c.note_place-2.new.index c.args.row c.in_ok-alias.alias c.len-place.result None
+          c.self.invariant.1 alias end c.in_ok-note_place-2.ensures.ok
+          (λ own e.
+          ap (list_any (has_key g.L.PartialEq.eq g.T.Row.alias_of own)) c.self.view_is ∙ c.requires.alias own e)
+          (no_row g.L.PartialEq.eq g.T.Row.alias_of c.args.row),
+      trails-noted g.O.PartialEq.eq g.T.Row.owner_of c.self.inside.places.items c.self.inside.trails
+          c.note_group.new.trails c.args.row c.in_ok-owner.owner c.len-place.result None
+          c.self.invariant.2 owner end c.in_ok-note_group.ensures.ok
+          (no_row g.O.PartialEq.eq g.T.Row.owner_of c.args.row),
+      trails-noted bytes_eq g.T.Row.network_of c.self.inside.places.items c.self.inside.networks
+          c.note_group-2.new.trails c.args.row c.in_ok-network.network c.len-place.result None
+          c.self.invariant.3 network end c.in_ok-note_group-2.ensures.ok
+          (no_row bytes_eq g.T.Row.network_of c.args.row),
       Finds-kept None c.self.invariant.4 c.in_err-note_group-3.ensures.err (λ q. refl),
     )
 
 pub returns-in_err-note_group-3-clause-err : goal.returns-in_err-note_group-3-clause-err
 returns-in_err-note_group-3-clause-err g c =
     let is : c.push.new.self.items ≡ c.self.inside.places.items ++ None ∷ [] = search rules in
-    let same : rows_of c.push.new.self.items ≡ c.args.self.now = ap rows_of is ∙ rows_of-push_none c.self.inside.places.items ∙ c.self.view_is in
+    let same : rows_of c.push.new.self.items ≡ c.args.self.now =
+    ap rows_of is ∙ rows_of-push_none c.self.inside.places.items ∙ c.self.view_is in
     search rules
 
 pub invariant_of-self-2 : goal.invariant_of-self-2
@@ -123,18 +158,31 @@ invariant_of-self-2 g c =
     let network : c.in_ok-network.network ≡ g.T.Row.network_of c.args.row = search rules in
     let site : c.in_ok-site.site ≡ g.T.Row.site_of c.args.row = search rules in
     let end : c.len-place.result ≡ length c.self.inside.places.items = search rules in
-    let filled : set c.push.new.self.items c.len-place.result (Some c.args.row) ≡ c.self.inside.places.items ++ Some c.args.row ∷ [] =
-    ap (λ l. set l c.len-place.result (Some c.args.row)) is ∙ ap (λ n. set (c.self.inside.places.items ++ None ∷ []) n (Some c.args.row)) end ∙ set-pushed c.self.inside.places.items (Some c.args.row) in
+    let filled : set c.push.new.self.items c.len-place.result (Some c.args.row)
+    ≡ c.self.inside.places.items ++ Some c.args.row ∷ [] =
+    ap (λ l. set l c.len-place.result (Some c.args.row)) is
+    ∙ ap (λ n. set (c.self.inside.places.items ++ None ∷ []) n (Some c.args.row)) end
+    ∙ set-pushed c.self.inside.places.items (Some c.args.row) in
     rw filled (
-      index-noted g.K.PartialEq.eq g.met.K.Eq.laws g.T.Row.key_of c.self.inside.places.items c.self.inside.by_key c.note_place.new.index c.args.row c.in_ok-key.key c.len-place.result (Some c.args.row)
-          c.self.invariant.0 key end c.in_ok-note_place.ensures.ok (λ own e. ap (list_any (has_key g.K.PartialEq.eq g.T.Row.key_of own)) c.self.view_is ∙ c.requires.key own e) (λ q h. h),
-      index-noted g.L.PartialEq.eq g.met.L.Eq.laws g.T.Row.alias_of c.self.inside.places.items c.self.inside.by_alias c.note_place-2.new.index c.args.row c.in_ok-alias.alias c.len-place.result (Some c.args.row)
-          c.self.invariant.1 alias end c.in_ok-note_place-2.ensures.ok (λ own e. ap (list_any (has_key g.L.PartialEq.eq g.T.Row.alias_of own)) c.self.view_is ∙ c.requires.alias own e) (λ q h. h),
-      trails-noted g.O.PartialEq.eq g.T.Row.owner_of c.self.inside.places.items c.self.inside.trails c.note_group.new.trails c.args.row c.in_ok-owner.owner c.len-place.result (Some c.args.row)
+      index-noted g.K.PartialEq.eq g.met.K.Eq.laws g.T.Row.key_of c.self.inside.places.items c.self.inside.by_key
+          c.note_place.new.index c.args.row c.in_ok-key.key c.len-place.result (Some c.args.row)
+          c.self.invariant.0 key end c.in_ok-note_place.ensures.ok
+          (λ own e. ap (list_any (has_key g.K.PartialEq.eq g.T.Row.key_of own)) c.self.view_is ∙ c.requires.key own e)
+          (λ q h. h),
+      index-noted g.L.PartialEq.eq g.met.L.Eq.laws g.T.Row.alias_of c.self.inside.places.items c.self.inside.by_alias
+          c.note_place-2.new.index c.args.row c.in_ok-alias.alias c.len-place.result (Some c.args.row)
+          c.self.invariant.1 alias end c.in_ok-note_place-2.ensures.ok
+          (λ own e.
+          ap (list_any (has_key g.L.PartialEq.eq g.T.Row.alias_of own)) c.self.view_is ∙ c.requires.alias own e)
+          (λ q h. h),
+      trails-noted g.O.PartialEq.eq g.T.Row.owner_of c.self.inside.places.items c.self.inside.trails
+          c.note_group.new.trails c.args.row c.in_ok-owner.owner c.len-place.result (Some c.args.row)
           c.self.invariant.2 owner end c.in_ok-note_group.ensures.ok (λ q h. h),
-      trails-noted bytes_eq g.T.Row.network_of c.self.inside.places.items c.self.inside.networks c.note_group-2.new.trails c.args.row c.in_ok-network.network c.len-place.result (Some c.args.row)
+      trails-noted bytes_eq g.T.Row.network_of c.self.inside.places.items c.self.inside.networks
+          c.note_group-2.new.trails c.args.row c.in_ok-network.network c.len-place.result (Some c.args.row)
           c.self.invariant.3 network end c.in_ok-note_group-2.ensures.ok (λ q h. h),
-      trails-noted g.P.PartialEq.eq g.T.Row.site_of c.self.inside.places.items c.self.inside.sites c.note_group-3.new.trails c.args.row c.in_ok-site.site c.len-place.result (Some c.args.row)
+      trails-noted g.P.PartialEq.eq g.T.Row.site_of c.self.inside.places.items c.self.inside.sites
+          c.note_group-3.new.trails c.args.row c.in_ok-site.site c.len-place.result (Some c.args.row)
           c.self.invariant.4 site end c.in_ok-note_group-3.ensures.ok (λ q h. h),
     )
 
@@ -142,5 +190,7 @@ pub returns-clause-ok : goal.returns-clause-ok
 returns-clause-ok g c =
     let is : c.push.new.self.items ≡ c.self.inside.places.items ++ None ∷ [] = search rules in
     let end : c.len-place.result ≡ length c.self.inside.places.items = search rules in
-    ap rows_of (ap (λ l. set l c.len-place.result (Some c.args.row)) is ∙ ap (λ n. set (c.self.inside.places.items ++ None ∷ []) n (Some c.args.row)) end ∙ set-pushed c.self.inside.places.items (Some c.args.row))
+    ap rows_of (ap (λ l. set l c.len-place.result (Some c.args.row)) is
+    ∙ ap (λ n. set (c.self.inside.places.items ++ None ∷ []) n (Some c.args.row)) end
+    ∙ set-pushed c.self.inside.places.items (Some c.args.row))
     ∙ rows_of-push c.self.inside.places.items c.args.row ∙ ap (λ l. l ++ c.args.row ∷ []) c.self.view_is

@@ -10,7 +10,10 @@ pub index_mut-requires : goal.index_mut-requires
 index_mut-requires g c =
     let test = has_key g.O.PartialEq.eq g.T.Row.owner_of c.args.owner.now in
     let first : c.first_place.result ≡ first_of (places_where test c.self.inside.places.items) =
-    c.first_place.ensures.first ∙ ap first_of (ap (λ l. passing test l (trail_of g.O.PartialEq.eq c.self.inside.trails c.args.owner.now)) c.deref.ensures.value ∙ c.self.invariant.2.exact c.args.owner.now) in
+    c.first_place.ensures.first
+    ∙ ap first_of (ap (λ l. passing test l (trail_of g.O.PartialEq.eq c.self.inside.trails c.args.owner.now))
+    c.deref.ensures.value
+    ∙ c.self.invariant.2.exact c.args.owner.now) in
     let within = (goes-first test c.self.inside.places.items c.in-Some.place (sym c.in-Some.is ∙ first)).within in
     search rules
 
@@ -18,35 +21,61 @@ pub invariant_of-self : goal.invariant_of-self
 invariant_of-self g c =
     let trails : AreTrails g.O.PartialEq.eq g.T.Row.owner_of c.self.inside.places.items c.first_place.new.trails =
     subst (λ l. AreTrails g.O.PartialEq.eq g.T.Row.owner_of l c.first_place.new.trails) c.deref.ensures.value
-    (c.first_place.ensures.trails g.T.Row.owner_of (λ row. refl) (subst (λ l. AreTrails g.O.PartialEq.eq g.T.Row.owner_of l c.self.inside.trails) (sym c.deref.ensures.value) c.self.invariant.2)) in
-    rw c.take.ensures.after (Finds-clear c.in-Some.place c.self.invariant.0, Finds-clear c.in-Some.place c.self.invariant.1, Finds-clear c.in-Some.place trails, Finds-clear c.in-Some.place c.self.invariant.3, Finds-clear c.in-Some.place c.self.invariant.4)
+    (c.first_place.ensures.trails g.T.Row.owner_of (λ row. refl)
+    (subst (λ l. AreTrails g.O.PartialEq.eq g.T.Row.owner_of l c.self.inside.trails) (sym c.deref.ensures.value)
+    c.self.invariant.2)) in
+    rw c.take.ensures.after (
+      Finds-clear c.in-Some.place c.self.invariant.0,
+      Finds-clear c.in-Some.place c.self.invariant.1,
+      Finds-clear c.in-Some.place trails,
+      Finds-clear c.in-Some.place c.self.invariant.3,
+      Finds-clear c.in-Some.place c.self.invariant.4,
+    )
 
 pub returns-in-Some-clause-first : goal.returns-in-Some-clause-first
 returns-in-Some-clause-first g c =
     let test = has_key g.O.PartialEq.eq g.T.Row.owner_of c.args.owner.now in
     let first : c.first_place.result ≡ first_of (places_where test c.self.inside.places.items) =
-    c.first_place.ensures.first ∙ ap first_of (ap (λ l. passing test l (trail_of g.O.PartialEq.eq c.self.inside.trails c.args.owner.now)) c.deref.ensures.value ∙ c.self.invariant.2.exact c.args.owner.now) in
+    c.first_place.ensures.first
+    ∙ ap first_of (ap (λ l. passing test l (trail_of g.O.PartialEq.eq c.self.inside.trails c.args.owner.now))
+    c.deref.ensures.value
+    ∙ c.self.invariant.2.exact c.args.owner.now) in
     let goes = goes-first test c.self.inside.places.items c.in-Some.place (sym c.in-Some.is ∙ first) in
-    c.take.ensures.value ∙ c.index_mut.ensures.value ∙ get_or_default c.self.inside.places.items c.in-Some.place c.index_mut.result.now None goes.within ∙ goes.row ∙ ap (find test) c.self.view_is
+    c.take.ensures.value
+    ∙ c.index_mut.ensures.value
+    ∙ get_or_default c.self.inside.places.items c.in-Some.place c.index_mut.result.now None goes.within
+    ∙ goes.row
+    ∙ ap (find test) c.self.view_is
 
 pub returns-in-Some-clause-rest : goal.returns-in-Some-clause-rest
 returns-in-Some-clause-rest g c =
     let test = has_key g.O.PartialEq.eq g.T.Row.owner_of c.args.owner.now in
     let first : c.first_place.result ≡ first_of (places_where test c.self.inside.places.items) =
-    c.first_place.ensures.first ∙ ap first_of (ap (λ l. passing test l (trail_of g.O.PartialEq.eq c.self.inside.trails c.args.owner.now)) c.deref.ensures.value ∙ c.self.invariant.2.exact c.args.owner.now) in
+    c.first_place.ensures.first
+    ∙ ap first_of (ap (λ l. passing test l (trail_of g.O.PartialEq.eq c.self.inside.trails c.args.owner.now))
+    c.deref.ensures.value
+    ∙ c.self.invariant.2.exact c.args.owner.now) in
     let goes = goes-first test c.self.inside.places.items c.in-Some.place (sym c.in-Some.is ∙ first) in
-    ap (λ o. rows_of (set c.self.inside.places.items c.in-Some.place o)) c.take.ensures.after ∙ goes.rest ∙ ap (without_first test) c.self.view_is
+    ap (λ o. rows_of (set c.self.inside.places.items c.in-Some.place o)) c.take.ensures.after
+    ∙ goes.rest
+    ∙ ap (without_first test) c.self.view_is
 
 pub returns-in-None-clause-first : goal.returns-in-None-clause-first
 returns-in-None-clause-first g c =
     let test = has_key g.O.PartialEq.eq g.T.Row.owner_of c.args.owner.now in
     let first : c.first_place.result ≡ first_of (places_where test c.self.inside.places.items) =
-    c.first_place.ensures.first ∙ ap first_of (ap (λ l. passing test l (trail_of g.O.PartialEq.eq c.self.inside.trails c.args.owner.now)) c.deref.ensures.value ∙ c.self.invariant.2.exact c.args.owner.now) in
+    c.first_place.ensures.first
+    ∙ ap first_of (ap (λ l. passing test l (trail_of g.O.PartialEq.eq c.self.inside.trails c.args.owner.now))
+    c.deref.ensures.value
+    ∙ c.self.invariant.2.exact c.args.owner.now) in
     (none-goes test c.self.inside.places.items (sym c.in-None.is ∙ first)).0 ∙ ap (find test) c.self.view_is
 
 pub returns-in-None-clause-rest : goal.returns-in-None-clause-rest
 returns-in-None-clause-rest g c =
     let test = has_key g.O.PartialEq.eq g.T.Row.owner_of c.args.owner.now in
     let first : c.first_place.result ≡ first_of (places_where test c.self.inside.places.items) =
-    c.first_place.ensures.first ∙ ap first_of (ap (λ l. passing test l (trail_of g.O.PartialEq.eq c.self.inside.trails c.args.owner.now)) c.deref.ensures.value ∙ c.self.invariant.2.exact c.args.owner.now) in
+    c.first_place.ensures.first
+    ∙ ap first_of (ap (λ l. passing test l (trail_of g.O.PartialEq.eq c.self.inside.trails c.args.owner.now))
+    c.deref.ensures.value
+    ∙ c.self.invariant.2.exact c.args.owner.now) in
     (none-goes test c.self.inside.places.items (sym c.in-None.is ∙ first)).1 ∙ ap (without_first test) c.self.view_is

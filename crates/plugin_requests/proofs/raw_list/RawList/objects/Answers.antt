@@ -7,4 +7,5 @@ use Rattle.plugin_requests.specs.Raw.{IsPluginObject}
 
 pub returns-clause-kept : goal.returns-clause-kept
 returns-clause-kept c =
-    subst (All (λ v. IsPluginObject (view v))) (sym c.as_slice.ensures.value) (All-viewed view IsPluginObject c.self.inside.objects.items c.self.invariant.objects)
+    subst (All (λ v. IsPluginObject (view v))) (sym c.as_slice.ensures.value)
+    (All-viewed view IsPluginObject c.self.inside.objects.items c.self.invariant.objects)

@@ -7,7 +7,8 @@ abbrev pub invariant-loop-self : goal.invariant-loop-self
 invariant-loop-self g l = record {
   extends : Extends l.fn.self l.self;
   own : AppendsOwn l.fn.self l.self l.number;
-  order : ((n : ℕ) → l.number ≡ n + 1 → EarlierAreAnswered l.fn.self n) → IsInFileOrder l.fn.self → IsInFileOrder l.self;
+  order : ((n : ℕ) → l.number ≡ n + 1 → EarlierAreAnswered l.fn.self n) → IsInFileOrder l.fn.self
+      → IsInFileOrder l.self;
 }
 
 abbrev pub decreases-loop-self : goal.decreases-loop-self

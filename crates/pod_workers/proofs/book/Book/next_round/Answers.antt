@@ -14,4 +14,6 @@ overflow_add-self-2 g c =
     record { fits = omega arith }
 
 pub invariant_of-self : goal.invariant_of-self
-invariant_of-self g c = turned-keeps _ _ _ _ _ _ c.self.invariant (round-there c.self.view_is c.current_round.ensures) (subst IsRoundOver (sym c.self.view_is) c.requires.over)
+invariant_of-self g c =
+    turned-keeps _ _ _ _ _ _ c.self.invariant (round-there c.self.view_is c.current_round.ensures)
+    (subst IsRoundOver (sym c.self.view_is) c.requires.over)

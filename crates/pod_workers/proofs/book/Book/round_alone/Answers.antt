@@ -14,24 +14,36 @@ loop-number-init g c = record {
 pub loop-number-preserved : goal.loop-number-preserved
 loop-number-preserved g c = record {
   extends = extends_trans _ _ _ c.loop-number.invariant.extends c.finish.ensures.extends;
-  below = below-more _ _ _ c.finish.ensures.extends c.is_legal.ensures c.loop-number.invariant.below c.finish.ensures.over;
-  appends = below-own c.args.self.now c.loop-number.self c.finish.new.self c.loop-number.number c.loop-number.invariant.appends c.finish.ensures.own;
-  order = λ order. c.finish.ensures.order (λ n is. below-earlier c.loop-number.self c.loop-number.number n c.loop-number.invariant.below is) (c.loop-number.invariant.order order);
+  below =
+      below-more _ _ _ c.finish.ensures.extends c.is_legal.ensures c.loop-number.invariant.below c.finish.ensures.over;
+  appends =
+      below-own c.args.self.now c.loop-number.self c.finish.new.self c.loop-number.number
+      c.loop-number.invariant.appends c.finish.ensures.own;
+  order = λ order.
+      c.finish.ensures.order
+      (λ n is. below-earlier c.loop-number.self c.loop-number.number n c.loop-number.invariant.below is)
+      (c.loop-number.invariant.order order);
 }
 
 pub next_round-requires : goal.next_round-requires
 next_round-requires g c = record {
   left = still-left _ _ c.loop-number.invariant.extends c.requires;
-  over = round-is-over _ _ _ _ c.loop-number.number c.numbers-first.ensures c.loop-number.invariant.extends c.loop-number-test.false c.loop-number.invariant.below;
+  over =
+      round-is-over _ _ _ _ c.loop-number.number c.numbers-first.ensures c.loop-number.invariant.extends
+      c.loop-number-test.false c.loop-number.invariant.below;
 }
 
 pub returns-clause-rounds : goal.returns-clause-rounds
 returns-clause-rounds g c =
     rounds-from _ _ _ c.is_legal-2.ensures c.loop-number.invariant.extends
-    (round-is-over _ _ _ _ c.loop-number.number c.numbers-first.ensures c.loop-number.invariant.extends c.loop-number-test.false c.loop-number.invariant.below) c.next_round.ensures
+    (round-is-over _ _ _ _ c.loop-number.number c.numbers-first.ensures c.loop-number.invariant.extends
+    c.loop-number-test.false c.loop-number.invariant.below)
+    c.next_round.ensures
 
 pub returns-clause-appends : goal.returns-clause-appends
-returns-clause-appends g c = turned-appends c.args.self.now c.loop-number.self c.next_round.new.self c.loop-number.number c.loop-number.invariant.appends c.next_round.ensures
+returns-clause-appends g c =
+    turned-appends c.args.self.now c.loop-number.self c.next_round.new.self c.loop-number.number
+    c.loop-number.invariant.appends c.next_round.ensures
 
 pub returns-clause-order : goal.returns-clause-order
 returns-clause-order g c = λ order. turned-in-order _ _ (c.loop-number.invariant.order order) c.next_round.ensures
