@@ -7,6 +7,7 @@ mod begin;
 mod cached;
 mod changes;
 mod deletions;
+mod forwards;
 mod leaving;
 mod namespaces;
 mod opening;
@@ -16,6 +17,7 @@ mod pool;
 mod questions;
 mod shared;
 
+use self::forwards::Forwards;
 use cni_addr::{NoMemory, RefCounted, Text};
 use ip_pool::AddrRuns;
 use kernel_types::{
@@ -39,6 +41,7 @@ pub(crate) struct Tables {
     cached: Table<Att, Text, Att, Text, CachedObj>,
     lasts: Table<PoolKey, Text, Att, Text, Last>,
     leased: KeyedMap<Text, AddrRuns>,
+    forwards: Forwards,
 }
 
 impl Model for Tables {

@@ -4,6 +4,7 @@ ghost use Rattle.std.specs.Prelude.{◌≡◌, IfOk};
 ghost use Rattle.kernel_types.specs.Sound.{IsSound};
 
 use super::Tables;
+use super::forwards::Forwards;
 use crate::table_key::TableKey;
 use cni_addr::NoMemory;
 use kernel_types::Host;
@@ -30,6 +31,7 @@ impl Tables {
             cached: Table::of_rows(alloc, state, host.cached)?,
             lasts: Table::of_rows(alloc, state, host.lasts)?,
             leased,
+            forwards: Forwards::new(alloc)?,
         })
     }
 }

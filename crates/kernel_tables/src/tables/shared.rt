@@ -102,10 +102,11 @@ impl Tables {
         ensures ok { IfOk result (λ reply. (self.new, reply) ≡ forward_ensure_of self.old family) }
         ensures err { OnErr result (self.new ≡ self.old) }
     {
-        let forward = Setting::forwarding(alloc, family)?;
-        if self.has_same_setting(&forward)? {
+        let forward = self.forwards.of(family);
+        if self.has_same_setting(forward)? {
             return Ok(Reply::Done);
         }
+        let forward = forward.copy()?;
         self.settings.push(alloc, forward)?;
         Ok(Reply::Done)
     }
