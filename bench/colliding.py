@@ -158,7 +158,7 @@ SIP = (0x736F6D6570736575, 0x646F72616E646F6D, 0x6C7967656E657261, 0x74656462797
 
 def digest_of(words, files):
     """The key of the tables: of the words, and of the files as they are read."""
-    return hashlib.sha256("".join(words).encode("utf-8") + b"".join(files)).digest()
+    return hashlib.new("sha512_256", "".join(words).encode("utf-8") + b"".join(files)).digest()
 
 
 def crowding(digest, keys):

@@ -14,7 +14,7 @@ use cni_io::Files;
 use pod_text::{Asked, CommandPart, SessionAsked};
 use pod_workers::Plan;
 use session_file::SessionConf;
-use sha2::{Digest, Sha256};
+use sha2::{Digest, Sha512_256};
 use std::alloc::Global;
 use tool_words::{Source, Words, WordsEnd, read_words};
 
@@ -33,7 +33,7 @@ pub struct DuePlan {
     pub plan: Plan,
     /// What is to be printed of it.
     pub asked: Asked,
-    /// SHA-256 of the words and of all bytes that were read, which nobody who writes them can choose.
+    /// SHA-512/256 of the words and of all bytes that were read, which nobody who writes them can choose.
     pub digest: [u8; 32],
 }
 
@@ -62,8 +62,8 @@ pub fn read_due<F: Files>(alloc: Global, words: &[Text], files: &mut F) -> Resul
 }
 
 /// A digest that has taken the words in.
-fn words_taken_in(words: &[Text]) -> Sha256 {
-    let mut seen = Sha256::new();
+fn words_taken_in(words: &[Text]) -> Sha512_256 {
+    let mut seen = Sha512_256::new();
     for word in words {
         seen.update(word.as_str().as_bytes());
     }
@@ -76,7 +76,7 @@ fn read_due_of<F: Files>(
     given: &[Text],
     words: &Words,
     files: &mut F,
-    mut seen: Sha256,
+    mut seen: Sha512_256,
 ) -> Result<Due, NoPlan>
     requires taken { words_given given.now ≡ Some words.now }
     requires limits { IsWithinLimits words.now }

@@ -18,7 +18,7 @@ use packet_probe::{Packet, PacketsError};
 use plugin_requests::RawList;
 use pod_file::{PodError, Pods};
 use pod_workers::Plan;
-use sha2::{Digest, Sha256};
+use sha2::{Digest, Sha512_256};
 use std::alloc::Global;
 use tool_words::Named;
 
@@ -63,7 +63,7 @@ pub(crate) fn read_input<F: Files>(
     alloc: Global,
     files: &mut F,
     named: &Named,
-    seen: &mut Sha256,
+    seen: &mut Sha512_256,
 ) -> Result<PlanInput, NoPlan>
     requires { length named.now.lists ≤ most_lists }
     ensures gives { GivesStored (λ input. input) (F.files files.old)
@@ -116,7 +116,7 @@ fn read_pods<F: Files>(
     alloc: Global,
     files: &mut F,
     file: &str,
-    seen: &mut Sha256,
+    seen: &mut Sha512_256,
 ) -> Result<Pods, NoPlan>
     ensures gives { GivesStored (λ pods. pods) (F.files files.old)
         (F.failure_count files.old) (F.failure_count files.new)
@@ -146,7 +146,7 @@ fn read_lists<F: Files>(
     alloc: Global,
     files: &mut F,
     names: &[Text],
-    seen: &mut Sha256,
+    seen: &mut Sha512_256,
 ) -> Result<Items<RawList>, NoPlan>
     ensures gives { GivesStored (λ raws. raws) (F.files files.old)
         (F.failure_count files.old) (F.failure_count files.new)
@@ -168,7 +168,7 @@ fn read_list<F: Files>(
     alloc: Global,
     files: &mut F,
     file: &str,
-    seen: &mut Sha256,
+    seen: &mut Sha512_256,
 ) -> Result<RawList, NoPlan>
     ensures gives { GivesStored (λ raw. raw) (F.files files.old)
         (F.failure_count files.old) (F.failure_count files.new)
@@ -211,7 +211,7 @@ fn read_packets<F: Files>(
     alloc: Global,
     files: &mut F,
     file: &Option<Text>,
-    seen: &mut Sha256,
+    seen: &mut Sha512_256,
 ) -> Result<Items<Packet>, NoPlan>
     ensures gives { GivesStored (λ packets. packets) (F.files files.old)
         (F.failure_count files.old) (F.failure_count files.new)
@@ -231,7 +231,7 @@ fn read_packet_file<F: Files>(
     alloc: Global,
     files: &mut F,
     file: &str,
-    seen: &mut Sha256,
+    seen: &mut Sha512_256,
 ) -> Result<Items<Packet>, NoPlan>
     ensures gives { GivesStored (λ packets. packets) (F.files files.old)
         (F.failure_count files.old) (F.failure_count files.new)

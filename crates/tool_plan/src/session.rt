@@ -11,7 +11,7 @@ use crate::refusals::pods_error;
 use cni_io::Files;
 use pod_file::PodError;
 use session_file::{SessionConf, read_session};
-use sha2::{Digest, Sha256};
+use sha2::{Digest, Sha512_256};
 use std::alloc::Global;
 
 /// Reads the session file. The digest takes in all bytes that are read.
@@ -20,7 +20,7 @@ pub(crate) fn read_session_file<F: Files>(
     alloc: Global,
     files: &mut F,
     file: &str,
-    seen: &mut Sha256,
+    seen: &mut Sha512_256,
 ) -> Result<SessionConf, NoPlan>
     ensures gives { GivesStored (λ conf. conf) (F.files files.old)
         (F.failure_count files.old) (F.failure_count files.new)
