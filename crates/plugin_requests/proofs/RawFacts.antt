@@ -1,7 +1,8 @@
 -- What every raw list is, by how it is read.
-use Rattle.std.proofs.Common.{◌≡◌, ℕ, ◌+◌, ◌≤◌, List, [], ◌∷◌, false, Option, Some, None, Result, Ok, Err, refl, ap}
-use Rattle.std.proofs.{Common.arith, lemmas.{Bool.or_parts, List.Elements.{All-nil, All-cons, All-head, All-tail}}}
-use Rattle.std.specs.Prelude.{All, codes, map}
+use Rattle.std.proofs.Common.{◌≡◌, ℕ, ◌+◌, ◌≤◌, List, [], ◌∷◌, false, Option, Some, None, Result, Ok, Err, refl, sym}
+use Rattle.std.proofs.{Common.{ap, ◌∙◌, arith}, lemmas.{Bool.or_parts, List.Elements.{All-nil, All-cons, All-head}}}
+use Rattle.std.proofs.lemmas.List.Elements.{All-tail}
+use Rattle.std.specs.Prelude.{All, IfOk, codes, map}
 use Rattle.serde_json.specs.Data.{Data, null, boolean, number, string, array, object, Items, depth, items_depth}
 use Rattle.serde_json.specs.{Find.{get, as_array}, Read.max_depth, View.items_of, Written.{has_float, items_have_float}}
 use Rattle.cni_json.proofs.{Depths.get-depth, Endings.{goes, ok_same}, WholeNumbers.get-whole}
@@ -49,12 +50,30 @@ all_objects (d ∷ ds) whole shallow =
 
 -- ---- a list that is read
 
+network_list_at-plugins : (d : Data) (list : NetList) → network_list_at d ≡ Ok list
+    → (ds : Items) × (plugins_at d ≡ Ok ds)
+unfolding each_plugin_at
+network_list_at-plugins d list is =
+    let objects =
+    goes (plugins_at d) (each plugin_by_type_at) (plugins_in list.first list.chained)
+    (network_list_at-each d list is) in
+    (objects.value, objects.first)
+
+-- what was taken out for the plugins is the plugins, since the list has some
+plugins_at-taken : (d : Data) (list : NetList) (ds : Items) → network_list_at d ≡ Ok list
+    → IfOk (plugins_at d) (λ plugins. ds ≡ plugins) → plugins_at d ≡ Ok ds
+plugins_at-taken d list ds is taken =
+    let found = network_list_at-plugins d list is in
+    found.1 ∙ ap Ok (sym (rw found.1 at taken))
+
 pub raw_is : (bytes : List ℕ) (d : Data) (list : NetList) (ds : List Data)
     → ((bytes : List ℕ) (list : NetList) → list_of bytes ≡ Ok list → IsWellFormedList list)
-    → read_or_refused (json_of bytes) ≡ Ok d → network_list_at d ≡ Ok list → plugins_at d ≡ Ok (items_of ds)
-    → has_float d ≡ false → depth d ≤ max_depth → IsRaw (record { list = list; objects = ds })
+    → read_or_refused (json_of bytes) ≡ Ok d → network_list_at d ≡ Ok list
+    → IfOk (plugins_at d) (λ plugins. items_of ds ≡ plugins) → has_float d ≡ false → depth d ≤ max_depth
+    → IsRaw (record { list = list; objects = ds })
 unfolding list_of each_plugin_at
-raw_is bytes d list ds well_formed json is plugins whole shallow =
+raw_is bytes d list ds well_formed json is taken whole shallow =
+    let plugins = plugins_at-taken d list (items_of ds) is taken in
     let there = plugins_at-found d (items_of ds) plugins in
     let deeper = get-depth (codes "plugins") d (array (items_of ds)) there in
     record {
@@ -66,10 +85,11 @@ raw_is bytes d list ds well_formed json is plugins whole shallow =
     }
 
 pub raw_of-ok : (bytes : List ℕ) (d : Data) (list : NetList) (ds : List Data) → read_or_refused (json_of bytes) ≡ Ok d
-    → network_list_at d ≡ Ok list → plugins_at d ≡ Ok (items_of ds)
+    → network_list_at d ≡ Ok list → IfOk (plugins_at d) (λ plugins. items_of ds ≡ plugins)
     → raw_of bytes ≡ Ok (record { list = list; objects = ds })
 unfolding raw_of raw_at
-raw_of-ok bytes d list ds json is plugins =
+raw_of-ok bytes d list ds json is taken =
+    let plugins = plugins_at-taken d list (items_of ds) is taken in
     rw (json, is, plugins) (ap (λ es. Ok (record { list = list; objects = es })) (objects_of-items_of ds))
 
 -- ---- its refusals
@@ -83,15 +103,8 @@ by_list (Ok l) plugins there = let found = there l refl in rw (found.1) refl
 by_list (Err e) plugins there = refl
 
 raw_at-list : (d : Data) → network_list_at d ≡ ok_map (λ (raw : RawView). raw.list) (raw_at d)
-unfolding raw_at each_plugin_at
-raw_at-list d = by_list (network_list_at d) (plugins_at d) found
-  where
-    found : (list : NetList) → network_list_at d ≡ Ok list → (ds : Items) × (plugins_at d ≡ Ok ds)
-    found list is =
-        let objects =
-        goes (plugins_at d) (each plugin_by_type_at) (plugins_in list.first list.chained)
-        (network_list_at-each d list is) in
-        (objects.value, objects.first)
+unfolding raw_at
+raw_at-list d = by_list (network_list_at d) (plugins_at d) (network_list_at-plugins d)
 
 after_json : (json : Result Data ConfError)
     → (json >>= network_list_at) ≡ ok_map (λ (raw : RawView). raw.list) (json >>= raw_at)

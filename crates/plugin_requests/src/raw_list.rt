@@ -1,15 +1,17 @@
 //! A network list that keeps the objects of its plugins.
 
-ghost use Rattle.std.specs.Prelude.{◌≡◌, ◌<◌, All, IfOk, length, map};
-ghost use Rattle.serde_json.specs.View.{view};
+ghost use Rattle.std.specs.Prelude.{◌≡◌, ◌<◌, All, IfOk, length, map, option_map};
+ghost use Rattle.serde_json.specs.Find.{get};
+ghost use Rattle.serde_json.specs.View.{view, items_view};
 ghost use Rattle.cni_json.specs.Outcome.{Gives};
 ghost use Rattle.plugin_requests.specs.Raw.{IsPluginObject, IsRaw, raw_of};
 ghost use Rattle.plugin_requests.specs.Request.{object_at};
+ghost use Rattle.net_conf.specs.Plugins.{plugins_at};
 ghost use Rattle.net_conf.specs.Refusals.{is_out_of_memory};
 
-use cni_addr::{NoMemory, RefCounted};
+use cni_addr::RefCounted;
 use cni_json::Value;
-use net_conf::{ConfError, NetList, decode, network_list, network_list_laws, plugin_objects};
+use net_conf::{ConfError, NetList, decode, network_list, network_list_laws};
 use std::alloc::Global;
 use std::marker::Model;
 
@@ -39,18 +41,17 @@ impl Model for RawList {
 
 impl RawList {
     /// The network list that the bytes spell, or its first refusal, as [`net_conf::read_list`] has both. It takes as
-    /// long, and keeps of the bytes what the objects of the plugins have.
+    /// long, and keeps of the bytes what the objects of the plugins have, which are moved and not copied.
     #[tactic(auto, using(cni_json::proofs::Steps::steps), unfolding(crate::specs::Raw::raw_of, crate::specs::Raw::raw_at))]
     pub fn read(alloc: Global, bytes: &[u8]) -> Result<RawList, ConfError>
         ensures { Gives is_out_of_memory result (raw_of bytes.now) }
     {
         let top = decode(alloc, bytes)?;
         let list = network_list(alloc, &top)?;
-        let objects = plugin_objects(alloc, &top)?;
         network_list_laws();
         Ok(RawList {
             list: RefCounted::of(alloc, list)?,
-            objects: copies(alloc, objects)?,
+            objects: objects_out_of(alloc, top),
         })
     }
 
@@ -86,12 +87,23 @@ impl RawList {
     }
 }
 
-fn copies(alloc: Global, objects: &[Value]) -> Result<Vec<Value>, NoMemory>
-    ensures { IfOk result (λ twins. map view twins.items ≡ map view objects.now) }
+/// The objects of the plugins, taken out of the list's value.
+#[tactic(auto, unfolding(net_conf::specs::Plugins::plugins_at))]
+fn objects_out_of(alloc: Global, top: Value) -> Vec<Value>
+    ensures { IfOk (plugins_at (view top)) (λ plugins. items_view result.items ≡ plugins) }
 {
-    let mut twins = Vec::with_capacity(alloc, objects.len())?;
-    for object in objects {
-        twins.push(object.clone()?)?;
+    match member_out_of(top, "plugins") {
+        Some(Value::Array(objects)) => objects,
+        _ => Vec::new(alloc),
     }
-    Ok(twins)
+}
+
+/// The member under the key, taken out of the object.
+fn member_out_of(object: Value, key: &str) -> Option<Value>
+    ensures { option_map view result ≡ get key.now (view object) }
+{
+    match object {
+        Value::Object(mut members) => members.remove(key),
+        _ => None,
+    }
 }
