@@ -1,6 +1,6 @@
 //! An ADD of a registered plugin, after its words, its `type` and its options were tested.
 
-ghost use Rattle.std.specs.Prelude.{◌≡◌, ◌≤◌, [], length, true, false, None, Some, Ok, IfOk, is_some, vec_capacity};
+ghost use Rattle.std.specs.Prelude.{◌≡◌, ◌≤◌, [], length, true, false, None, Some, Ok, is_some, vec_capacity};
 ghost use Rattle.std.specs.Option.{option_copied};
 ghost use Rattle.std.specs.Result.{ForOk};
 ghost use Rattle.kernel_types.specs.Sound.{IsSound};
@@ -20,7 +20,7 @@ ghost use Rattle.plugin_session.specs.Tasks as tasks;
 
 use crate::ask::fill;
 use crate::begun::Begun;
-use crate::delete::take_back;
+use crate::delete::{kinds_back, take_back};
 use crate::journal::Journal;
 use crate::lease::lease_by;
 use crate::part::PartEnd;
@@ -30,32 +30,11 @@ use cni_addr::{Addr, Duplicate, Items, NoMemory};
 use cni_errors::{Cause, Ending};
 use cni_result::AddResult;
 use kernel_model::Kernel;
-use kernel_types::{Call, Kind};
+use kernel_types::Call;
 use net_conf::HostLocalConf;
 use plugin_registry::{Ask, Calls, Plugin, Promise, Results};
 use session_file::{SessionConf, Task};
 use std::alloc::Global;
-
-/// The kinds that a deletion deletes, in order, by the row of its attachment.
-pub(crate) fn kinds_back(
-    alloc: Global,
-    ipam: Option<&HostLocalConf>,
-    row: Option<&Row>,
-) -> Result<Items<Kind>, NoMemory>
-    ensures { IfOk result (λ kinds. kinds ≡ tasks.kinds_back (option_copied ipam.entry) (option_copied row.entry)) }
-{
-    let mut kinds = Items::new(alloc);
-    if let Some(row) = row {
-        for kind in row.kinds.as_slice() {
-            kinds.push(*kind)?;
-        }
-        if ipam.is_some() {
-            kinds.push(Kind::Leases)?;
-        }
-    }
-    kinds.push(Kind::Cached)?;
-    Ok(kinds)
-}
 
 /// Leases, asks the plugin, and makes its calls. The row is filled once the plugin has answered.
 fn make_all<K: Kernel + Drop, P: Promise>(

@@ -1,6 +1,7 @@
 //! A deletion: a DEL, and how an ADD takes back what it made.
 
 ghost use Rattle.std.specs.Prelude.{◌≡◌, ◌∷◌, [], List, true, IfOk, OnErr, OnOk};
+ghost use Rattle.std.specs.Option.{option_copied};
 ghost use Rattle.kernel_types.specs.Replies.{is_fault};
 ghost use Rattle.kernel_types.specs.Sound.{IsSound};
 ghost use Rattle.kernel_types.specs.declared.call.Call.{TheVariants.{CacheGet}};
@@ -13,14 +14,18 @@ ghost use Rattle.plugin_session.specs.Course.{Course};
 ghost use Rattle.plugin_session.specs.Journal.{EndsAs, KindEndsAs, KindsEndAs};
 ghost use Rattle.plugin_session.specs.Journal.{after_entries, kind_end_by, made_next, may_go};
 ghost use Rattle.plugin_session.specs.Pools.{IsReady, Pools};
+ghost use Rattle.plugin_session.specs.Tasks as tasks;
 
 use crate::journal::Journal;
 use crate::part::PartEnd;
-use cni_addr::{Duplicate, NoMemory, RefCounted};
+use crate::row::Row;
+use cni_addr::{Duplicate, Items, NoMemory, RefCounted};
 use cni_errors::{Cause, Ending};
 use kernel_model::Kernel;
 use kernel_types::{Att, Call, Kind, Reply};
+use net_conf::HostLocalConf;
 use plugin_chain::wanted::deletion;
+use std::alloc::Global;
 
 /// How the deletions of one kind end.
 #[derive(Clone, Copy, Drop)]
@@ -30,6 +35,27 @@ pub(crate) enum KindEnd {
     /// The last call was a fault.
     Fault,
     Stopped,
+}
+
+/// The kinds that a deletion deletes, in order, by the row of its attachment.
+pub(crate) fn kinds_back(
+    alloc: Global,
+    ipam: Option<&HostLocalConf>,
+    row: Option<&Row>,
+) -> Result<Items<Kind>, NoMemory>
+    ensures { IfOk result (λ kinds. kinds ≡ tasks.kinds_back (option_copied ipam.entry) (option_copied row.entry)) }
+{
+    let mut kinds = Items::new(alloc);
+    if let Some(row) = row {
+        for kind in row.kinds.as_slice() {
+            kinds.push(*kind)?;
+        }
+        if ipam.is_some() {
+            kinds.push(Kind::Leases)?;
+        }
+    }
+    kinds.push(Kind::Cached)?;
+    Ok(kinds)
 }
 
 /// Makes one deletion of a kind, and says how it ends the kind's deletions, if it does.

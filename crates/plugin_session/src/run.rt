@@ -14,12 +14,11 @@ ghost use Rattle.plugin_session.specs.Ran.{command_for};
 ghost use Rattle.plugin_session.specs.Runs.{IsAnswerToEnd, IsTurnedTo, RanTask, RunsWithoutRow, handed_of, ran_or};
 ghost use Rattle.plugin_session.specs.Runs as runs;
 
-use crate::add::kinds_back;
 use crate::answer::{TaskAnswer, answer_to};
 use crate::begun::Begun;
 use crate::check::check;
 use crate::collect::collect;
-use crate::delete::take_back;
+use crate::delete::{kinds_back, take_back};
 use crate::journal::Journal;
 use crate::part::PartEnd;
 use crate::row::Row;
