@@ -1,7 +1,7 @@
 -- What an undisturbed run reports is determined by what it was told.
-use Rattle.std.proofs.Common.{◌≡◌, ◌≢◌, ◌∙◌, ℕ, zero, suc, List, [], ◌∷◌, ◌++◌, refl, sym, ap, ap₂, subst, arith, inl}
-use Rattle.std.proofs.Common.{inr, Bool, true, cond, Option, Some, None, IfSome, slice_get}
-use Rattle.std.proofs.lemmas.{Map.Keys.any_passes_from_place, Option.{none-some, same_Some}}
+use Rattle.std.proofs.Common.{◌≡◌, ◌≢◌, ◌∙◌, ℕ, List, [], ◌++◌, refl, sym, ap, ap₂, subst, arith, inl, inr, Bool, cond}
+use Rattle.std.proofs.{Common.{Option, Some, None, IfSome, slice_get}, lemmas.Map.Keys.any_passes_from_place}
+use Rattle.std.proofs.lemmas.Option.{none-some}
 use Rattle.std.specs.List.{list_any}
 use Rattle.cni_io.specs.Files.{StoredFiles}
 use Rattle.cni_errors.specs.declared.answer.Answer.{Answer, TheVariants.OutOfMemory}

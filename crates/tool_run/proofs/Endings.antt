@@ -1,6 +1,6 @@
 -- How a run ends, from what it was to report, and what follows of it.
 use Rattle.std.proofs.Common.{◌≡◌, ℕ, List, refl, sym, subst, inl, inr, Option, Some, None, Result, Ok, Err, IfOk}
-use Rattle.std.proofs.{Common.IfSome, lemmas.Map.Keys.any_passes_from_place}
+use Rattle.std.proofs.Common.{IfSome}
 use Rattle.packet_laws.specs.Packets.{EveryPacketGoesAsCached, PacketsGoAsCached}
 use Rattle.pod_laws.specs.Guaranteed.{EveryLegalHistoryIsGuaranteed, IsGuaranteed}
 use Rattle.pod_text.specs.{Statuses.status_of, declared.asked.Asked.Asked}

@@ -23,7 +23,6 @@ use Rattle.pod_laws.proofs.Histories.States.{LeftFit, asked-is_question, is_ques
 use Rattle.pod_laws.proofs.Histories.Steps.{ChangesKeep, EntriesKeep, GoesOn, by-entries, on-entry}
 use Rattle.pod_laws.proofs.Histories.Turns.{AsksOrCollects, removes-changed, turn-of, work-turn}
 use Rattle.pod_laws.proofs.{Shares.Within.opening-share, Tests.middle-passes}
-use Rattle.kernel_types.proofs.Cases.{other_host}
 use Rattle.pod_workers.proofs.Hosts.GoesWell.{list_named-listed}
 
 -- ---- calls that cache nothing

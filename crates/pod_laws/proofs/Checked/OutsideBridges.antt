@@ -1,12 +1,11 @@
 -- Nothing from outside takes a bridge of the host.
-use Rattle.pod_laws.proofs.Names.{◌≡◌, ℕ, Bool, true, false, not, List, Option, Some, None, refl, sym, ◌∙◌, ap, inl}
-use Rattle.pod_laws.proofs.Names.{inr, arith, and_parts, both_ways, cases_Bool, false_from_ne_true, bytes_eq-Decides}
-use Rattle.pod_laws.proofs.Names.{list_any, filter, ◌&&◌, bytes_eq, by_test, bridge_of, IsAllowed, apply}
-use Rattle.pod_laws.proofs.Names.{master_is_bridge_or_none, without_link, is_from_outside, IsSound, has_host_bridge}
-use Rattle.pod_laws.proofs.Names.{has_named_ns, is_at, is_bridge, is_host_bridge, is_host_link, is_host_ns, link_at}
-use Rattle.pod_laws.proofs.Names.{Call, NsChange, Outside, DropLink, Flush, Reply, Host, Link, LinkKey, list_any-kept}
-use Rattle.pod_laws.proofs.Names.{passes-find, First, none-by, Placed, World, after_entry, entry_of, host_of}
-use Rattle.pod_laws.proofs.Names.{sound_host}
+use Rattle.pod_laws.proofs.Names.{◌≡◌, ℕ, Bool, true, false, not, List, Option, Some, None, refl, ◌∙◌, ap, inl, inr}
+use Rattle.pod_laws.proofs.Names.{arith, and_parts, cases_Bool, bytes_eq-Decides, list_any, filter, ◌&&◌, bytes_eq}
+use Rattle.pod_laws.proofs.Names.{by_test, bridge_of, IsAllowed, apply, master_is_bridge_or_none, without_link}
+use Rattle.pod_laws.proofs.Names.{is_from_outside, IsSound, has_host_bridge, has_named_ns, is_at, is_bridge}
+use Rattle.pod_laws.proofs.Names.{is_host_bridge, is_host_link, is_host_ns, link_at, Call, NsChange, Outside, DropLink}
+use Rattle.pod_laws.proofs.Names.{Flush, Reply, Host, Link, LinkKey, list_any-kept, passes-find, First, none-by, Placed}
+use Rattle.pod_laws.proofs.Names.{World, after_entry, entry_of, host_of, sound_host}
 use Rattle.kernel_types.specs.{Apply.Calls.{goes_with, goes_with_ns, has_peer_in}, Sound.peer_fits, Terms.is_peer_at}
 use Rattle.kernel_types.specs.{Terms.is_veth, declared.object.LinkKind.LinkKind}
 use Rattle.kernel_types.specs.declared.object.LinkKind.TheVariants as link_kinds

@@ -16,7 +16,8 @@ use Rattle.kernel_types.proofs.{EveryCall.Touches-apply, LeasedAddress.leased-ca
 use Rattle.kernel_types.proofs.ListLemmas.{passes-list_all}
 use Rattle.kernel_types.specs.declared.call.Kind.TheVariants as kinds
 use Rattle.cni_verbs.specs.Sweep.{Step, AskCached, Delete, step_call}
-use Rattle.pod_workers.specs.{Lasts.AreLastsOfSets, Plans.{IsWellFormed, list_in, list_named}, declared.plan.Plan.Plan}
+use Rattle.pod_workers.specs.{Lasts.AreLastsOfSets, Plans.{IsWellFormed, list_for, list_in, list_named}}
+use Rattle.pod_workers.specs.declared.plan.Plan.{Plan}
 use Rattle.pod_workers.specs.declared.plan.Next.TheVariants as next
 use Rattle.pod_workers.proofs.Hosts.{Asked.IsQuestionOf, Lasts.{list_all-at, same-pool, each-found, lasts-lease}}
 use Rattle.pod_workers.proofs.Hosts.{Lasts.{moves_last, lasts-touches}, OfPlugins.{IsOutside, IsRest, LeftAreOfPlugins}}

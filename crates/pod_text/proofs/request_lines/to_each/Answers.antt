@@ -1,4 +1,4 @@
-use Rattle.std.proofs.{Common.{◌≡◌, ◌∙◌, length, take, map, arith, rules, ap, ◌≤◌}, lemmas.List.take_all}
+use Rattle.std.proofs.{Common.{◌∙◌, length, map, arith, rules, ap, ◌≤◌}, lemmas.List.take_all}
 use Rattle.std.specs.Option.{option_copied}
 use Rattle.serde_json.specs.View.{view}
 use Rattle.pod_text.proofs.Objects.{to_each-view}
