@@ -1,10 +1,12 @@
 //! What is read of an opening so far, in order and by key, so that no name and no place is sought by going through all.
 //! Whoever writes a file chooses its names, and could choose many of one hash, so they are looked up by their order.
+//! Most names differ at their ends, so these are compared first, as numbers.
 
 ghost use Rattle.std.specs.Prelude.{◌≡◌, [], ◌∷◌, ◌++◌, not, if◌then◌else◌, IfOk};
 ghost use Rattle.std.specs.List.{list_any};
 ghost use Rattle.std.specs.Str.{bytes_eq};
 ghost use Rattle.kernel_types.specs.Terms.{is_at};
+ghost use Rattle.pod_file.specs.Indexed as indexed;
 
 use cni_addr::{Duplicate, Items, NoMemory, Text};
 use kernel_types::Link;
@@ -12,11 +14,30 @@ use std::alloc::Global;
 use std::collections::BTreeSet;
 use std::marker::Model;
 
+/// The last eight bytes of the name as a number.
+#[tactic(auto, unfolding(crate::specs::Indexed::end_of))]
+fn end_of(name: &str) -> u64
+    ensures { result ≡ indexed.end_of name.now }
+{
+    let mut number: u64 = 0;
+    for byte in name.as_bytes() {
+        number = number.wrapping_mul(256).wrapping_add(u64::from(*byte));
+    }
+    number
+}
+
+/// The name behind its end.
+fn ended(name: &Text) -> Result<(u64, Text), NoMemory>
+    ensures { IfOk result (λ ended. ended ≡ (indexed.end_of name.now, name.now)) }
+{
+    Ok((end_of(name.as_str()), name.copy()?))
+}
+
 /// Names in order.
 #[derive(Drop)]
 pub(crate) struct Names {
     in_order: Vec<Text>,
-    keys: BTreeSet<Text>,
+    keys: BTreeSet<(u64, Text)>,
 }
 
 impl Model for Names {
@@ -43,10 +64,10 @@ impl Names {
     }
 
     /// Whether the name is one of these.
-    pub(crate) fn contains(&self, name: &Text) -> bool
-        ensures { result ≡ list_any (bytes_eq name.now) self.now }
+    pub(crate) fn contains(&self, name: &Text) -> Result<bool, NoMemory>
+        ensures { IfOk result (λ found. found ≡ list_any (bytes_eq name.now) self.now) }
     {
-        self.keys.contains(name)
+        Ok(self.keys.contains(&ended(name)?))
     }
 
     /// Puts the name at the end unless it is one of these, and says whether it did. One search does both.
@@ -56,7 +77,8 @@ impl Names {
     {
         // room first, so that no key is there without its name
         self.in_order.reserve(1)?;
-        let is_new = self.keys.insert(name.copy()?)?;
+        let key = ended(&name)?;
+        let is_new = self.keys.insert(key)?;
         if is_new {
             self.in_order.push(name).unwrap();
         }
@@ -74,7 +96,7 @@ impl Names {
 #[derive(Drop)]
 pub(crate) struct PlacedLinks {
     in_order: Vec<Link>,
-    places: BTreeSet<(Text, Text)>,
+    places: BTreeSet<((u64, Text), Text)>,
 }
 
 impl Model for PlacedLinks {
@@ -135,9 +157,9 @@ impl PlacedLinks {
     }
 }
 
-/// The place of a link: its namespace, and its name in it.
-fn place_of(link: &Link) -> Result<(Text, Text), NoMemory>
-    ensures { IfOk result (λ place. place ≡ (link.now.ns, link.now.name)) }
+/// The place of a link: its name behind its end, and its namespace.
+fn place_of(link: &Link) -> Result<((u64, Text), Text), NoMemory>
+    ensures { IfOk result (λ place. place ≡ ((indexed.end_of link.now.name, link.now.name), link.now.ns)) }
 {
-    Ok((link.ns.copy()?, link.name.copy()?))
+    Ok((ended(&link.name)?, link.ns.copy()?))
 }

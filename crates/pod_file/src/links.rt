@@ -1,6 +1,6 @@
 //! The reader of the opening's links.
 
-ghost use Rattle.std.specs.Prelude.{◌≡◌, [], ◌∷◌, ◌++◌, codes, OnOk};
+ghost use Rattle.std.specs.Prelude.{◌≡◌, [], ◌∷◌, ◌++◌, codes, OnOk, IfOk};
 ghost use Rattle.serde_json.specs.View.{view, items_view};
 ghost use Rattle.cni_json.specs.Each.{each_after};
 ghost use Rattle.cni_json.specs.Outcome.{Gives, GivesAs, TellsAs};
@@ -11,7 +11,7 @@ ghost use Rattle.pod_file.specs.declared.error.PodError.TheVariants as refusal;
 
 use crate::error::{PodError, wrong, wrong_member};
 use crate::indexed::{Names, PlacedLinks};
-use cni_addr::{Items, Text};
+use cni_addr::{Items, NoMemory, Text};
 use cni_json::{Field, Value, field_list, field_str, field_u64, need_object};
 use kernel_types::terms::is_host_ns;
 use kernel_types::{Link, LinkKey, LinkKind, Tag, link_kind_text};
@@ -132,7 +132,7 @@ fn place_named(alloc: Global, names: &Names, index: usize, ns: &str) -> Result<T
     ensures { Gives is_out_of_memory result (defined.place_named names.now index ns.now) }
 {
     let ns = Text::of(alloc, ns)?;
-    if is_place(names, &ns) {
+    if is_place(names, &ns)? {
         Ok(ns)
     } else {
         Err(wrong_link(alloc, index))
@@ -140,10 +140,13 @@ fn place_named(alloc: Global, names: &Names, index: usize, ns: &str) -> Result<T
 }
 
 /// Whether the text is the host's, or the name of one of the namespaces.
-fn is_place(names: &Names, ns: &Text) -> bool
-    ensures { result ≡ defined.is_place names.now ns.now }
+fn is_place(names: &Names, ns: &Text) -> Result<bool, NoMemory>
+    ensures { IfOk result (λ found. found ≡ defined.is_place names.now ns.now) }
 {
-    is_host_ns(ns.as_str()) || names.contains(ns)
+    if is_host_ns(ns.as_str()) {
+        return Ok(true);
+    }
+    names.contains(ns)
 }
 
 #[tactic(auto, using(cni_json::proofs::Steps::steps), unfolding(crate::specs::Links::mtu_at))]
