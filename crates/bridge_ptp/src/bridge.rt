@@ -15,9 +15,10 @@ use kernel_types::{Att, Call, Given, Kind, NamedAtt};
 use net_conf::BridgeConf;
 use plugin_base::{
     Asked, EachKeyOnce, addresses_on, ask_all, ask_forward, completed, default_route,
-    first_of_family, masquerade_rules, routes_on,
+    first_of_family, halves, masquerade_rules, routes_on,
 };
 use std::alloc::Global;
+use std::cmp::Ordering;
 
 // ---- before the addresses
 
@@ -152,17 +153,31 @@ pub struct Gateway {
     cidr: Cidr,
 }
 
+impl Duplicate for Gateway {
+    fn copy(&self) -> Result<Gateway, NoMemory> {
+        Ok(Gateway {
+            bridge: self.bridge.copy()?,
+            cidr: self.cidr,
+        })
+    }
+}
+
 impl Asked for Gateway {
     ghost use Rattle.bridge_ptp.specs.Gateways as gateways;
-    ghost use Rattle.bridge_ptp.specs.KeyLaws.{gateway-by_key};
+    ghost use Rattle.plugin_base.specs.EachKey.{halves};
+    ghost use Rattle.bridge_ptp.specs.KeyLaws.{gateway-by_key, gateway-mark};
 
     type Key = Addr;
 
     ghost key_of = { λ gateway. gateway.cidr.addr };
 
+    ghost mark_of = { λ gateway. halves gateway.cidr.addr.bits };
+
     ghost same_key = { gateways.is_same_gateway };
 
     ghost same_by_key = { gateway-by_key };
+
+    ghost same_mark = { gateway-mark };
 
     ghost call_for = { gateways.gateway_call };
 
@@ -170,8 +185,12 @@ impl Asked for Gateway {
         self.cidr.addr == other.cidr.addr
     }
 
-    fn key(&self) -> Result<Addr, NoMemory> {
-        Ok(self.cidr.addr)
+    fn mark(&self) -> u64 {
+        halves(self.cidr.addr.bits)
+    }
+
+    fn key_order(&self, other: &Gateway) -> Ordering {
+        self.cidr.addr.cmp(&other.cidr.addr)
     }
 
     fn ask(self, _alloc: Global) -> Result<Call, NoMemory> {

@@ -20,6 +20,7 @@ use plugin_base::{
     host_key, masquerade_rules, route_at, route_by, route_on,
 };
 use std::alloc::Global;
+use std::cmp::Ordering;
 
 /// An address or a route: both are asked for in one order.
 #[derive(Drop)]
@@ -28,7 +29,16 @@ pub enum AddressOrRoute {
     Route(RouteObj),
 }
 
-/// The key of an address or of a route.
+impl Duplicate for AddressOrRoute {
+    fn copy(&self) -> Result<AddressOrRoute, NoMemory> {
+        match self {
+            AddressOrRoute::Address(obj) => Ok(AddressOrRoute::Address(obj.copy()?)),
+            AddressOrRoute::Route(obj) => Ok(AddressOrRoute::Route(obj.copy()?)),
+        }
+    }
+}
+
+/// The key of an address or of a route: addresses stand before routes.
 #[derive(PartialEq, Eq, PartialOrd, Ord, Drop)]
 pub enum ObjectKey {
     Address(AddrKey),
@@ -37,15 +47,19 @@ pub enum ObjectKey {
 
 impl Asked for AddressOrRoute {
     ghost use Rattle.bridge_ptp.specs.Ptp as plan;
-    ghost use Rattle.bridge_ptp.specs.KeyLaws.{key_of, object-by_key};
+    ghost use Rattle.bridge_ptp.specs.KeyLaws.{key_of, mark_of, object-by_key, object-mark};
 
     type Key = ObjectKey;
 
     ghost key_of = { key_of };
 
+    ghost mark_of = { mark_of };
+
     ghost same_key = { plan.same_key };
 
     ghost same_by_key = { object-by_key };
+
+    ghost same_mark = { object-mark };
 
     ghost call_for = { plan.call_for };
 
@@ -57,10 +71,19 @@ impl Asked for AddressOrRoute {
         }
     }
 
-    fn key(&self) -> Result<ObjectKey, NoMemory> {
+    fn mark(&self) -> u64 {
         match self {
-            AddressOrRoute::Address(obj) => Ok(ObjectKey::Address(obj.key()?)),
-            AddressOrRoute::Route(obj) => Ok(ObjectKey::Route(obj.key()?)),
+            AddressOrRoute::Address(obj) => obj.mark(),
+            AddressOrRoute::Route(obj) => obj.mark(),
+        }
+    }
+
+    fn key_order(&self, other: &AddressOrRoute) -> Ordering {
+        match (self, other) {
+            (AddressOrRoute::Address(a), AddressOrRoute::Address(b)) => a.key_order(b),
+            (AddressOrRoute::Address(_), AddressOrRoute::Route(_)) => Ordering::Less,
+            (AddressOrRoute::Route(_), AddressOrRoute::Address(_)) => Ordering::Greater,
+            (AddressOrRoute::Route(a), AddressOrRoute::Route(b)) => a.key_order(b),
         }
     }
 

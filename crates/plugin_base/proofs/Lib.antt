@@ -4,6 +4,7 @@ pub mod CallLists
 pub mod Counts
 pub mod Deletions
 pub mod KeyLists
+pub mod KeysOnce
 pub mod OtherCalls
 pub mod OwnCalls
 pub mod PluginCalls

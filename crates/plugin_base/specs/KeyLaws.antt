@@ -1,7 +1,8 @@
 -- Objects are the same by the test just where their keys compare as equal.
-use Rattle.std.specs.{Cmp.IsEquivalence, Option.option_eq, Ordering.eq_by_cmp, Prelude.{◌≡◌, Bool, true, false, ◌&&◌}}
-use Rattle.std.specs.{Prelude.{◌==◌, refl}, Str.bytes_eq}
-use Rattle.std.proofs.{Common.{◌∙◌, subst, sym}, Math.Bool.beq}
+use Rattle.std.specs.{Cmp.IsEquivalence, Option.{option_eq, unwrap_or}, Ordering.eq_by_cmp, Prelude.{◌≡◌, ◌+◌, ◌%◌}}
+use Rattle.std.specs.{Prelude.{◌^◌, Bool, true, false, ◌&&◌, ℕ, ◌==◌, Option, Some, None, refl}, Str.bytes_eq}
+use Rattle.std.proofs.{Common.{◌∙◌, ap, eqb-true, subst, sym, true≢false}, Math.Bool.beq, lemmas.Bool.and_parts}
+use Rattle.cni_addr.specs.declared.address.{Addr.Addr, Cidr.Cidr}
 use Rattle.kernel_types.specs.Equal.{addr_eq, chain_eq, cidr_eq, proto_eq, rule_eq, table_eq, tag_eq, target_eq}
 use Rattle.kernel_types.specs.Keys.{addr_key, is_same_addr, is_same_route, is_same_setting, route_key, setting_key}
 use Rattle.kernel_types.specs.contracts.keys.AddrKeyOrd.TheImpl.{cmp-value as addr_key_cmp}
@@ -18,6 +19,7 @@ use Rattle.kernel_types.specs.contracts.rule.TargetPartialEq.TheImpl.{eq-value a
 use Rattle.kernel_types.specs.declared.object.{AddrObj.AddrObj, RouteObj.RouteObj, Setting.Setting, Tag.Tag}
 use Rattle.kernel_types.specs.declared.{object.Tag.TheVariants.{Outside, Base, Own}, rule.{Rule.Rule, Target.Target}}
 use Rattle.kernel_types.specs.declared.rule.Target.TheVariants.{Accept, Masquerade, Dnat}
+use Rattle.plugin_base.specs.EachKey.{bits_or_none, halves, rule_mark}
 
 and-assoc : (a b c : Bool) → (a && b && c) ≡ (a && (b && c))
 and-assoc true b c = refl
@@ -79,3 +81,48 @@ rule_key-laws = subst IsEquivalence (λ i r s. sym (rules_equal r s) i) rule_law
 
 pub rule-by_key : (new r : Rule) → rule_eq new r ≡ eq_by_cmp rule_cmp.it r new
 rule-by_key new r = rule_key-laws.symm new r ∙ rules_equal r new ∙ rule-tied r new
+
+-- ---- objects of one key have one number before it
+
+pub addrs-mark : (a b : Addr) → addr_eq a b ≡ true → a.bits ≡ b.bits
+addrs-mark a b same = eqb-true a.bits b.bits (and_parts _ _ same).1
+
+pub addr-mark : (new a : AddrObj) → is_same_addr new a ≡ true
+    → halves a.cidr.addr.bits ≡ halves new.cidr.addr.bits
+addr-mark new a same = ap halves (addrs-mark a.cidr.addr new.cidr.addr (and_parts _ _ same).1)
+
+cidrs-mark : (a b : Cidr) → cidr_eq a b ≡ true → a.addr.bits ≡ b.addr.bits
+cidrs-mark a b same = addrs-mark a.addr b.addr (and_parts _ _ same).0
+
+pub route-mark : (new r : RouteObj) → is_same_route new r ≡ true
+    → halves r.dst.addr.bits ≡ halves new.dst.addr.bits
+route-mark new r same = ap halves (cidrs-mark r.dst new.dst (and_parts _ _ (and_parts _ _ same).0).1)
+
+networks-mark : (a b : Option Cidr) → option_eq cidr_eq a b ≡ true → bits_or_none a ≡ bits_or_none b
+networks-mark None None same = refl
+networks-mark None (Some b) same = absurd (true≢false (sym same))
+networks-mark (Some a) None same = absurd (true≢false (sym same))
+networks-mark (Some a) (Some b) same = cidrs-mark a b same
+
+ports-mark : (a b : Option ℕ) → option_eq (λ p q. p == q) a b ≡ true → unwrap_or a 0 ≡ unwrap_or b 0
+ports-mark None None same = refl
+ports-mark None (Some b) same = absurd (true≢false (sym same))
+ports-mark (Some a) None same = absurd (true≢false (sym same))
+ports-mark (Some a) (Some b) same = eqb-true a b same
+
+marks-equal : (r s : Rule) → rule_eq r s ≡ true → rule_mark r ≡ rule_mark s
+marks-equal r s h0 =
+    let h1 = and_parts _ _ h0 in
+    let h2 = and_parts _ _ h1.1 in
+    let h3 = and_parts _ _ h2.1 in
+    let h4 = and_parts _ _ h3.1 in
+    let h5 = and_parts _ _ h4.1 in
+    let h6 = and_parts _ _ h5.1 in
+    let h7 = and_parts _ _ h6.1 in
+    let src = networks-mark r.src s.src h3.0 in
+    let dst = networks-mark r.dst s.dst h4.0 in
+    let port = ports-mark r.dport s.dport h7.0 in
+    λ i. (halves ((src i + dst i) % 2 ^ 128) + port i) % 2 ^ 64
+
+pub rule-mark : (new r : Rule) → rule_eq new r ≡ true → rule_mark r ≡ rule_mark new
+rule-mark new r same = sym (marks-equal new r same)

@@ -20,7 +20,7 @@ pub mod laws;
 pub mod results;
 pub mod shapes;
 
-pub use asked::Asked;
+pub use asked::{Asked, halves};
 pub use each_key_once::{EachKeyOnce, ask_all};
 pub use families::{first_given, first_of_family, has_family};
 pub use gateways::Gateways;
