@@ -55,19 +55,22 @@ pub fn read_due<F: Files>(alloc: Global, words: &[Text], files: &mut F) -> Resul
     ensures untouched { NameNoFile words.now → files.new ≡ files.old }
 {
     match read_words(alloc, words) {
-        Ok(taken) => read_due_of(alloc, words, &taken, files, words_taken_in(words)),
+        Ok(taken) => read_due_of(alloc, words, &taken, files),
         Err(WordsEnd::Usage) => Err(NoPlan::Usage),
         Err(WordsEnd::NoMemory) => Err(NoPlan::NoMemory),
     }
 }
 
-/// A digest that has taken the words in.
-fn words_taken_in(words: &[Text]) -> Sha512_256 {
-    let mut seen = Sha512_256::new();
+/// A digest of the words and of the bytes of the files.
+fn digest_of(words: &[Text], taken: &[Vec<u8>]) -> [u8; 32] {
+    let mut digest = Sha512_256::new();
     for word in words {
-        seen.update(word.as_str().as_bytes());
+        digest.update(word.as_str().as_bytes());
     }
-    seen
+    for bytes in taken {
+        digest.update(bytes.as_slice());
+    }
+    digest.finalize()
 }
 
 /// The same, once the words are taken.
@@ -76,7 +79,6 @@ fn read_due_of<F: Files>(
     given: &[Text],
     words: &Words,
     files: &mut F,
-    mut seen: Sha512_256,
 ) -> Result<Due, NoPlan>
     requires taken { words_given given.now ≡ Some words.now }
     requires limits { IsWithinLimits words.now }
@@ -84,18 +86,22 @@ fn read_due_of<F: Files>(
     ensures keeps { F.files files.new ≡ F.files files.old }
     ensures untouched { NameNoFile given.now → files.new ≡ files.old }
 {
+    let mut taken = Vec::new(alloc);
     match &words.source {
         Source::Files(named) => {
-            let input = read_input(alloc, files, named, &mut seen)?;
-            Ok(Due::Plan(due_plan(words, input, seen.finalize())))
+            let input = read_input(alloc, files, named, &mut taken)?;
+            let digest = digest_of(given, taken.as_slice());
+            Ok(Due::Plan(due_plan(words, input, digest)))
         }
         Source::Generated { count, stop_at } => {
             let made = generated_input(alloc, *count, *stop_at)?;
-            Ok(Due::Plan(due_plan(words, made, seen.finalize())))
+            let digest = digest_of(given, taken.as_slice());
+            Ok(Due::Plan(due_plan(words, made, digest)))
         }
         Source::Session { file } => {
-            let conf = read_session_file(alloc, files, file.as_str(), &mut seen)?;
-            Ok(Due::Session(due_session(words, conf, seen.finalize())))
+            let conf = read_session_file(alloc, files, file.as_str(), &mut taken)?;
+            let digest = digest_of(given, taken.as_slice());
+            Ok(Due::Session(due_session(words, conf, digest)))
         }
     }
 }

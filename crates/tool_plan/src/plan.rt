@@ -6,7 +6,9 @@ ghost use Rattle.pod_workers.specs.Plans.{IsWellFormed};
 ghost use Rattle.tool_words.specs.Command.{most_lists};
 ghost use Rattle.tool_words.specs.declared.source.Source.TheVariants.{Files};
 ghost use Rattle.tool_plan.specs.Causes.{GivesJudged, GivesStored, IsReadPods, ReachesFile, ReachesList};
-ghost use Rattle.tool_plan.specs.Verdict.{IsInputBy, input_of_files, judged_list, judged_packets, judged_plan, judged_pods, lists_of, stored_bytes, stored_list, stored_lists, stored_packets, stored_pods};
+ghost use Rattle.tool_plan.specs.Verdict.{IsInputBy, input_of_files, judged_list, judged_packets, judged_plan};
+ghost use Rattle.tool_plan.specs.Verdict.{judged_pods, lists_of, stored_bytes, stored_list, stored_lists};
+ghost use Rattle.tool_plan.specs.Verdict.{stored_packets, stored_pods};
 
 use crate::laws::read_plans_are_well_formed;
 use crate::lines::{error_line, reason_line};
@@ -18,7 +20,6 @@ use packet_probe::{Packet, PacketsError};
 use plugin_requests::RawList;
 use pod_file::{PodError, Pods};
 use pod_workers::Plan;
-use sha2::{Digest, Sha512_256};
 use std::alloc::Global;
 use tool_words::Named;
 
@@ -58,12 +59,12 @@ impl From<NoMemory> for NoPlan {
 }
 
 /// Reads the pod file, then each network list in order, then the packet file if one is named, and joins lists and pods.
-/// The digest takes all bytes in that are read.
+/// The bytes that are taken are kept: the key of the kernel is made of them once there is a plan.
 pub(crate) fn read_input<F: Files>(
     alloc: Global,
     files: &mut F,
     named: &Named,
-    seen: &mut Sha512_256,
+    taken: &mut Vec<Vec<u8>>,
 ) -> Result<PlanInput, NoPlan>
     requires { length named.now.lists ≤ most_lists }
     ensures gives { GivesStored (λ input. input) (F.files files.old)
@@ -75,9 +76,9 @@ pub(crate) fn read_input<F: Files>(
     ensures keeps { F.files files.new ≡ F.files files.old }
     ensures later { F.failure_count files.old ≤ F.failure_count files.new }
 {
-    let pods = read_pods(alloc, files, named.pods.as_str(), seen)?;
-    let raws = read_lists(alloc, files, named.lists.as_slice(), seen)?;
-    let packets = read_packets(alloc, files, &named.packets, seen)?;
+    let pods = read_pods(alloc, files, named.pods.as_str(), taken)?;
+    let raws = read_lists(alloc, files, named.lists.as_slice(), taken)?;
+    let packets = read_packets(alloc, files, &named.packets, taken)?;
     let lists = shared_lists(alloc, raws.as_slice())?;
     let plan = join(alloc, named, pods, lists)?;
     Ok(PlanInput {
@@ -116,7 +117,7 @@ fn read_pods<F: Files>(
     alloc: Global,
     files: &mut F,
     file: &str,
-    seen: &mut Sha512_256,
+    taken: &mut Vec<Vec<u8>>,
 ) -> Result<Pods, NoPlan>
     ensures gives { GivesStored (λ pods. pods) (F.files files.old)
         (F.failure_count files.old) (F.failure_count files.new)
@@ -126,8 +127,9 @@ fn read_pods<F: Files>(
     ensures later { F.failure_count files.old ≤ F.failure_count files.new }
 {
     let bytes = read_bytes(alloc, files, file)?;
-    seen.update(bytes.as_slice());
-    pods_of_bytes(alloc, bytes.as_slice(), file)
+    let pods = pods_of_bytes(alloc, bytes.as_slice(), file)?;
+    keep(taken, bytes)?;
+    Ok(pods)
 }
 
 #[tactic(auto, using(crate::proofs::Stopping::stopping))]
@@ -146,7 +148,7 @@ fn read_lists<F: Files>(
     alloc: Global,
     files: &mut F,
     names: &[Text],
-    seen: &mut Sha512_256,
+    taken: &mut Vec<Vec<u8>>,
 ) -> Result<Items<RawList>, NoPlan>
     ensures gives { GivesStored (λ raws. raws) (F.files files.old)
         (F.failure_count files.old) (F.failure_count files.new)
@@ -157,7 +159,7 @@ fn read_lists<F: Files>(
 {
     let mut raws = Items::new(alloc);
     for name in names {
-        let raw = read_list(alloc, files, name.as_str(), seen)?;
+        let raw = read_list(alloc, files, name.as_str(), taken)?;
         raws.push(raw)?;
     }
     Ok(raws)
@@ -168,7 +170,7 @@ fn read_list<F: Files>(
     alloc: Global,
     files: &mut F,
     file: &str,
-    seen: &mut Sha512_256,
+    taken: &mut Vec<Vec<u8>>,
 ) -> Result<RawList, NoPlan>
     ensures gives { GivesStored (λ raw. raw) (F.files files.old)
         (F.failure_count files.old) (F.failure_count files.new)
@@ -177,8 +179,9 @@ fn read_list<F: Files>(
     ensures later { F.failure_count files.old ≤ F.failure_count files.new }
 {
     let bytes = read_bytes(alloc, files, file)?;
-    seen.update(bytes.as_slice());
-    list_of_bytes(alloc, bytes.as_slice(), file)
+    let raw = list_of_bytes(alloc, bytes.as_slice(), file)?;
+    keep(taken, bytes)?;
+    Ok(raw)
 }
 
 #[tactic(auto, using(crate::proofs::Stopping::stopping))]
@@ -211,7 +214,7 @@ fn read_packets<F: Files>(
     alloc: Global,
     files: &mut F,
     file: &Option<Text>,
-    seen: &mut Sha512_256,
+    taken: &mut Vec<Vec<u8>>,
 ) -> Result<Items<Packet>, NoPlan>
     ensures gives { GivesStored (λ packets. packets) (F.files files.old)
         (F.failure_count files.old) (F.failure_count files.new)
@@ -221,7 +224,7 @@ fn read_packets<F: Files>(
     ensures later { F.failure_count files.old ≤ F.failure_count files.new }
 {
     match file {
-        Some(file) => read_packet_file(alloc, files, file.as_str(), seen),
+        Some(file) => read_packet_file(alloc, files, file.as_str(), taken),
         None => Ok(Items::new(alloc)),
     }
 }
@@ -231,7 +234,7 @@ fn read_packet_file<F: Files>(
     alloc: Global,
     files: &mut F,
     file: &str,
-    seen: &mut Sha512_256,
+    taken: &mut Vec<Vec<u8>>,
 ) -> Result<Items<Packet>, NoPlan>
     ensures gives { GivesStored (λ packets. packets) (F.files files.old)
         (F.failure_count files.old) (F.failure_count files.new)
@@ -240,8 +243,9 @@ fn read_packet_file<F: Files>(
     ensures later { F.failure_count files.old ≤ F.failure_count files.new }
 {
     let bytes = read_bytes(alloc, files, file)?;
-    seen.update(bytes.as_slice());
-    packets_of_bytes(alloc, bytes.as_slice(), file)
+    let packets = packets_of_bytes(alloc, bytes.as_slice(), file)?;
+    keep(taken, bytes)?;
+    Ok(packets)
 }
 
 #[tactic(auto, using(crate::proofs::Stopping::stopping))]
@@ -253,6 +257,12 @@ fn packets_of_bytes(alloc: Global, bytes: &[u8], file: &str) -> Result<Items<Pac
         Err(PacketsError::NoMemory) => Err(NoPlan::NoMemory),
         Err(end) => Err(NoPlan::Line(error_line(alloc, &packets_error(alloc, &end)?, file)?)),
     }
+}
+
+/// Puts the bytes of a file behind those of the files before.
+pub(crate) fn keep(taken: &mut Vec<Vec<u8>>, bytes: Vec<u8>) -> Result<(), NoMemory> {
+    taken.push(bytes)?;
+    Ok(())
 }
 
 #[tactic(auto, using(crate::proofs::Stopping::stopping))]

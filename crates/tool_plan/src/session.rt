@@ -6,21 +6,20 @@ ghost use Rattle.tool_plan.specs.Causes.{GivesJudged, GivesStored};
 ghost use Rattle.tool_plan.specs.Verdict.{judged_session, stored_session};
 
 use crate::lines::error_line;
-use crate::plan::{NoPlan, read_bytes};
+use crate::plan::{NoPlan, keep, read_bytes};
 use crate::refusals::pods_error;
 use cni_io::Files;
 use pod_file::PodError;
 use session_file::{SessionConf, read_session};
-use sha2::{Digest, Sha512_256};
 use std::alloc::Global;
 
-/// Reads the session file. The digest takes in all bytes that are read.
+/// Reads the session file. Its bytes are kept if it is taken.
 #[tactic(auto, using(crate::proofs::Stopping::stopping), unfolding(crate::specs::Verdict::stored_session))]
 pub(crate) fn read_session_file<F: Files>(
     alloc: Global,
     files: &mut F,
     file: &str,
-    seen: &mut Sha512_256,
+    taken: &mut Vec<Vec<u8>>,
 ) -> Result<SessionConf, NoPlan>
     ensures gives { GivesStored (λ conf. conf) (F.files files.old)
         (F.failure_count files.old) (F.failure_count files.new)
@@ -30,8 +29,9 @@ pub(crate) fn read_session_file<F: Files>(
     ensures later { F.failure_count files.old ≤ F.failure_count files.new }
 {
     let bytes = read_bytes(alloc, files, file)?;
-    seen.update(bytes.as_slice());
-    session_of_bytes(alloc, bytes.as_slice(), file)
+    let conf = session_of_bytes(alloc, bytes.as_slice(), file)?;
+    keep(taken, bytes)?;
+    Ok(conf)
 }
 
 #[tactic(auto, using(crate::proofs::Stopping::stopping))]

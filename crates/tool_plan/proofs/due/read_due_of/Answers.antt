@@ -30,8 +30,8 @@ returns-in_err-input-in-Files-clause-untouched g c = λ none.
     absurd (some_named c.args.given.now c.args.words.now _
     (record { words_are = c.requires.taken; source_is = c.in-Files.is }) (files_are_named c.in-Files.named) none)
 
-pub returns-in_ok-input-in-Files-clause-comes : goal.returns-in_ok-input-in-Files-clause-comes
-returns-in_ok-input-in-Files-clause-comes g c =
+pub returns-in-Files-clause-comes : goal.returns-in-Files-clause-comes
+returns-in-Files-clause-comes g c =
     let files = files_seen g.F.Files.files g.F.Files.failure_count c.args.files.now c.read_input.new.files in
     let given = c.args.given.now in
     let words = c.args.words.now in
@@ -43,8 +43,8 @@ returns-in_ok-input-in-Files-clause-comes g c =
     c.due_plan.ensures.asked c.in_ok-input-in-Files.ensures.by c.in_ok-input-in-Files.ensures.well_formed
     c.requires.limits.threads_least comes
 
-pub returns-in_ok-input-in-Files-clause-untouched : goal.returns-in_ok-input-in-Files-clause-untouched
-returns-in_ok-input-in-Files-clause-untouched g c = λ none.
+pub returns-in-Files-clause-untouched : goal.returns-in-Files-clause-untouched
+returns-in-Files-clause-untouched g c = λ none.
     absurd (some_named c.args.given.now c.args.words.now _
     (record { words_are = c.requires.taken; source_is = c.in-Files.is }) (files_are_named c.in-Files.named) none)
 
@@ -64,8 +64,8 @@ returns-in_err-conf-in-Session-clause-untouched g c = λ none.
     (record { words_are = c.requires.taken; source_is = c.in-Session.is })
     (session_is_named c.in-Session.file) none)
 
-pub returns-in_ok-conf-in-Session-clause-comes : goal.returns-in_ok-conf-in-Session-clause-comes
-returns-in_ok-conf-in-Session-clause-comes g c =
+pub returns-clause-comes : goal.returns-clause-comes
+returns-clause-comes g c =
     let files = files_seen g.F.Files.files g.F.Files.failure_count c.args.files.now c.read_session_file.new.files in
     let given = c.args.given.now in
     let words = c.args.words.now in
@@ -78,8 +78,8 @@ returns-in_ok-conf-in-Session-clause-comes g c =
     session_is_due given words _ files conf c.due_session.result is c.due_session.ensures.conf
     c.due_session.ensures.asked c.in_ok-conf-in-Session.ensures.well_formed comes
 
-pub returns-in_ok-conf-in-Session-clause-untouched : goal.returns-in_ok-conf-in-Session-clause-untouched
-returns-in_ok-conf-in-Session-clause-untouched g c = λ none.
+pub returns-clause-untouched : goal.returns-clause-untouched
+returns-clause-untouched g c = λ none.
     absurd (some_named c.args.given.now c.args.words.now _
     (record { words_are = c.requires.taken; source_is = c.in-Session.is })
     (session_is_named c.in-Session.file) none)
