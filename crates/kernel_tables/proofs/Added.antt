@@ -1,7 +1,7 @@
 -- What a look-up says of a list before a row is put at its end.
 use Rattle.std.proofs.Common.{◌≡◌, ℕ, Bool, true, false, ap, List, [], ◌∷◌, Option, Some, None, refl, sym, ◌∙◌, arith}
 use Rattle.std.proofs.lemmas.Option.{same_Some}
-use Rattle.std.specs.{List.list_any, Prelude.{find, ◌&&◌}, Str.bytes_eq}
+use Rattle.std.specs.{List.list_any, Prelude.{find, not, ◌&&◌}, Str.bytes_eq}
 use Rattle.cni_addr.specs.Lists.{distinct}
 use Rattle.kernel_types.proofs.{ListLemmas.{list_any-find_none, list_any-none}, Removal.same_place}
 use Rattle.kernel_types.specs.Equal.{tag_eq, rule_eq}
@@ -23,7 +23,7 @@ use Rattle.kernel_types.specs.contracts.object.SettingPartialEq.TheImpl.{eq-valu
 use Rattle.kernel_types.specs.contracts.keys.AddrKeyPartialEq.TheImpl.{eq-value as addr_key-value}
 use Rattle.kernel_types.specs.contracts.keys.RouteKeyPartialEq.TheImpl.{eq-value as route_key-value}
 use Rattle.kernel_types.specs.contracts.keys.SettingKeyPartialEq.TheImpl.{eq-value as setting_key-value}
-use Rattle.object_tables.specs.Table.{has_key}
+use Rattle.object_tables.specs.Table.{has_key, has_same_key}
 use Rattle.kernel_tables.proofs.Owned.{att-same}
 
 -- a key that is not found is free
@@ -127,3 +127,16 @@ link-missed ns name tag links none =
 pub any-same_rule : (rule : Rule) (rules : List Rule)
     → list_any (has_key rule-value.it (λ r. Some r) rule) rules ≡ list_any (is_same_rule rule) rules
 any-same_rule rule rules = λ i. list_any (λ r. rule-same r rule i) rules
+
+-- it is a new one exactly where none of the list is the same
+pub new-rule : (rule own : Rule) (rules : List Rule) (is_new : Bool) → own ≡ rule
+    → is_new ≡ not (list_any (has_same_key rule-value.it (λ r. Some r) own) rules)
+    → list_any (is_same_rule rule) rules ≡ not is_new
+new-rule rule own rules is_new same is =
+    ap (λ r. list_any (is_same_rule r) rules) (sym same)
+    ∙ sym (any-same_rule own rules)
+    ∙ sym (ap not is ∙ twice (list_any (has_key rule-value.it (λ r. Some r) own) rules))
+  where
+    twice : (b : Bool) → not (not b) ≡ b
+    twice true = refl
+    twice false = refl

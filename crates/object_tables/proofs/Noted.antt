@@ -2,12 +2,14 @@
 use Rattle.std.proofs.Common.{◌≡◌, ℕ, Bool, true, false, cond, ap, List, [], ◌∷◌, ◌++◌, Option, Some, None, inl, inr}
 use Rattle.std.proofs.{Common.{true≢false, refl, sym, ◌∙◌, length, arith}, lemmas.List.Elements.filter_agree}
 use Rattle.std.specs.{Cmp.IsEquivalence, List.{list_any, list_all}, Map.lookup, Option.{option_map_or, option_to_list}}
-use Rattle.std.specs.{Prelude.{if◌then◌else◌, nat_lt}, VecDeque.deque_items, declared.collections.VecDeque.VecDeque}
+use Rattle.std.specs.{Prelude.{◌&&◌, ◌||◌, if◌then◌else◌, is_some, nat_lt, not}, VecDeque.deque_items}
+use Rattle.std.specs.declared.collections.VecDeque.{VecDeque}
 use Rattle.indexmap.specs.IndexMap.{IndexMap, get}
 use Rattle.cni_addr.proofs.Lists.{list_any-same_test}
-use Rattle.object_tables.specs.{Places.{rows_of, row_at, passes, passing}, Table.{is_key, has_key, place_of, IsIndex}}
-use Rattle.object_tables.specs.{Table.AreTrails, Trails.trail_of}
-use Rattle.object_tables.proofs.Places.{Finds-keyed, Finds-trailed, Finds-trimmed, Trims}
+use Rattle.object_tables.specs.{Places.{first_of, rows_of, row_at, passes, passing}, Table.{is_key, is_noted, has_key}}
+use Rattle.object_tables.specs.{Table.{has_same_key, place_of, AreTrails, IsIndex}, Trails.trail_of}
+use Rattle.object_tables.proofs.Places.{any-first, Finds-kept, Finds-keyed, Finds-trailed, Finds-trimmed, Trims}
+use Rattle.object_tables.proofs.Places.{rows_of-push_none}
 
 is_key-same : {K : Type 0} (eq : K → K → Bool) → IsEquivalence eq → (own q : K) → eq own q ≡ true → (key : Option K)
     → is_key eq key q ≡ is_key eq key own
@@ -23,6 +25,25 @@ absent-keys eq laws key_of rows (Some own) absent q is =
     list_any-same_test (has_key eq key_of q) (has_key eq key_of own)
     (λ row. is_key-same eq laws own q is (key_of row)) rows
     ∙ absent own refl
+
+any-false : {T : Type 0} (rows : List T) → list_any (λ r. false) rows ≡ false
+any-false [] = refl
+any-false (row ∷ rows) = any-false rows
+
+any-passing : {T : Type 0} (t : T → Bool) (places : List (Option T)) (cs : List ℕ)
+    → list_any (λ p. passes t (row_at places p)) cs ≡ is_some (first_of (passing t places cs))
+any-passing t places [] = refl
+any-passing t places (c ∷ cs) = by (passes t (row_at places c)) (any-passing t places cs)
+  where
+    by : (b : Bool) → list_any (λ p. passes t (row_at places p)) cs ≡ is_some (first_of (passing t places cs))
+        → (b || list_any (λ p. passes t (row_at places p)) cs)
+        ≡ is_some (first_of (if b then c ∷ passing t places cs else passing t places cs))
+    by true rest = refl
+    by false rest = rest
+
+not-true : (b : Bool) → not b ≡ true → b ≡ false
+not-true true h = absurd (true≢false (sym h))
+not-true false h = refl
 
 pub no_row : {K T : Type 0} (eq : K → K → Bool) (key_of : T → Option K) (row : T) (q : K)
     → passes (has_key eq key_of q) None ≡ true → is_key eq (key_of row) q ≡ true
@@ -42,6 +63,56 @@ index-noted eq laws key_of places index new row key n o f is end says absent fit
     ∙ ap (λ k. if is_key eq k q then n ∷ [] else place_of eq index q) is
     ∙ ap (λ m. if is_key eq (key_of row) q then m ∷ [] else place_of eq index q) end)
     (absent-keys eq laws key_of (rows_of places) (key_of row) absent) fits
+
+-- where no row has the key of the new one, none has the same
+pub none-same : {K T : Type 0} (eq : K → K → Bool) (key_of : T → Option K) (rows : List T) (row : T)
+    → ((key : K) → key_of row ≡ Some key → list_any (has_key eq key_of key) rows ≡ false)
+    → list_any (has_same_key eq key_of row) rows ≡ false
+none-same eq key_of rows row free = by (key_of row) free
+  where
+    by : (k : Option _) → ((key : _) → k ≡ Some key → list_any (has_key eq key_of key) rows ≡ false)
+        → list_any (λ r. option_map_or (λ own. has_key eq key_of own r) k false) rows ≡ false
+    by None h = any-false rows
+    by (Some own) h = h own refl
+
+-- where the last place is empty and stands ready for a row
+module _ {K T S : Type 0} (eq : K → K → Bool) (key_of : T → Option K) (places now : List (Option T))
+    (index : IndexMap K ℕ S) (f : IsIndex eq key_of places index) (ready : now ≡ places ++ None ∷ []) (row : T)
+    (key : Option K) (is : key ≡ key_of row) where
+  any-noted : (own : K) → is_noted eq key_of (places ++ None ∷ []) index (Some own)
+      ≡ list_any (has_key eq key_of own) (rows_of places)
+  any-noted own =
+      let t = has_key eq key_of own in
+      let kept : IsIndex eq key_of (places ++ None ∷ []) index = Finds-kept None f (λ q. refl) (λ q. refl) in
+      any-passing t (places ++ None ∷ []) (place_of eq index own)
+      ∙ any-first t (places ++ None ∷ []) _ (sym (kept.exact own))
+      ∙ ap (list_any t) (rows_of-push_none places)
+
+  any-same : (k : Option K) → is_noted eq key_of (places ++ None ∷ []) index k
+      ≡ list_any (λ r. option_map_or (λ own. has_key eq key_of own r) k false) (rows_of places)
+  any-same None = sym (any-false (rows_of places))
+  any-same (Some own) = any-noted own
+
+  -- a row of the key is at its noted place exactly where there is one
+  pub there-noted : is_noted eq key_of now index key ≡ list_any (has_same_key eq key_of row) (rows_of places)
+  there-noted =
+      ap (λ l. is_noted eq key_of l index key) ready
+      ∙ any-same key
+      ∙ ap (λ k. list_any (λ r. option_map_or (λ own. has_key eq key_of own r) k false) (rows_of places)) is
+
+  -- a key of no row is noted
+  pub key-noted : IsEquivalence eq → (new : IndexMap K ℕ S) (n : ℕ) (o : Option T) (b : Bool)
+      → n ≡ length places → b ≡ true → b ≡ not (is_noted eq key_of now index key)
+      → ((q : K) → place_of eq new q ≡ (if b && is_key eq key q then n ∷ [] else place_of eq index q))
+      → ((q : K) → passes (has_key eq key_of q) o ≡ true → is_key eq (key_of row) q ≡ true)
+      → IsIndex eq key_of (places ++ o ∷ []) new
+  key-noted laws new n o b end told is_new says fits =
+      let free : is_noted eq key_of (places ++ None ∷ []) index key ≡ false =
+      ap (λ l. is_noted eq key_of l index key) (sym ready) ∙ not-true _ (sym is_new ∙ told) in
+      index-noted eq laws key_of places index new row key n o f is end
+      (λ q. says q ∙ ap (λ c. if c && is_key eq key q then n ∷ [] else place_of eq index q) told)
+      (λ own e. sym (any-noted own) ∙ ap (is_noted eq key_of (places ++ None ∷ []) index) (sym (is ∙ e)) ∙ free)
+      fits
 
 pub trails-noted : {O T S Z : Type 0} (eq : O → O → Bool) (owner_of : T → Option O) (places : List (Option T))
     (trails new : IndexMap O (VecDeque ℕ Z) S) (row : T) (owner : Option O) (n : ℕ) (o : Option T)

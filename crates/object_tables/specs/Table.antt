@@ -1,9 +1,9 @@
 -- What a table finds its rows by.
-use Rattle.std.specs.{Option.{option_map_or, option_to_list}, Prelude.{ℕ, Bool, false, List, Option, Some, None}}
-use Rattle.std.specs.declared.collections.VecDeque.{VecDeque}
+use Rattle.std.specs.{List.list_any, Option.{option_map_or, option_to_list}, Prelude.{ℕ, Bool, false, List, Option}}
+use Rattle.std.specs.{Prelude.{Some, None}, declared.collections.VecDeque.VecDeque}
 use Rattle.indexmap.specs.IndexMap.{IndexMap, get}
 use Rattle.kernel_types.specs.Sound.{HasDistinctKeys}
-use Rattle.object_tables.specs.{Places.Finds, Trails.trail_of}
+use Rattle.object_tables.specs.{Places.{Finds, passes, row_at}, Trails.trail_of}
 
 -- it is there, and is this one
 abbrev pub is_key : {K : Type 0} → (K → K → Bool) → Option K → K → Bool
@@ -25,6 +25,13 @@ HasEachKeyOnce eq key_of rows = HasDistinctKeys (has_same_key eq key_of) rows
 -- the place that is noted for a key, if one is
 abbrev pub place_of : {K S : Type 0} → (K → K → Bool) → IndexMap K ℕ S → K → List ℕ
 place_of eq index key = option_to_list (get eq index key)
+
+-- whether a row of the key is at the place that is noted for it
+abbrev pub is_noted : {K T S : Type 0} → (K → K → Bool) → (T → Option K) → List (Option T) → IndexMap K ℕ S → Option K
+    → Bool
+is_noted eq key_of places index None = false
+is_noted eq key_of places index (Some key) =
+    list_any (λ p. passes (has_key eq key_of key) (row_at places p)) (place_of eq index key)
 
 -- the index finds each row by its key
 abbrev pub IsIndex : {K T S : Type 0} → (K → K → Bool) → (T → Option K) → List (Option T) → IndexMap K ℕ S → Type 0

@@ -1,13 +1,15 @@
 //! The indexes of a table: what they note of a place.
 
-ghost use Rattle.std.specs.Prelude.{◌≡◌, ℕ, Option, drop, ◌++◌, ◌∷◌, [], if◌then◌else◌, OnOk, OnErr};
+ghost use Rattle.std.specs.Prelude.{◌≡◌, ℕ, Option, drop, ◌&&◌, ◌++◌, ◌∷◌, [], not, if◌then◌else◌};
+ghost use Rattle.std.specs.Prelude.{IfOk, OnOk, OnErr};
 ghost use Rattle.object_tables.specs.Places.{first_of, passes, passing, row_at};
-ghost use Rattle.object_tables.specs.Table.{has_key, is_key, place_of, AreTrails};
+ghost use Rattle.object_tables.specs.Table.{has_key, is_key, is_noted, place_of, AreTrails};
 ghost use Rattle.object_tables.specs.Trails.{trail_of};
 
 use crate::keyed::KeyedMap;
-use crate::row::Test;
+use crate::row::{Row, Test};
 use cni_addr::NoMemory;
+use indexmap::map::Entry;
 use std::alloc::Global;
 use std::collections::VecDeque;
 use std::hash::Hash;
@@ -26,6 +28,50 @@ pub(crate) fn note_place<K: Eq + Hash + Drop>(
         index.insert(key, place)?;
     }
     Ok(())
+}
+
+/// Notes the place of a key, if there is one, unless a row of the key is at the place that is noted. Says whether it is
+/// a key of no row. The key is hashed once.
+pub(crate) fn note_unless_there<K: Eq + Hash + Drop, L: Eq, O: Eq, P: Eq, T: Row<K, L, O, P>>(
+    places: &[Option<T>],
+    index: &mut KeyedMap<K, usize>,
+    key: Option<K>,
+    place: usize,
+) -> Result<bool, NoMemory>
+    ensures new { IfOk result (λ is_new. is_new ≡ not (is_noted K.eq T.key_of places.now index.old key)) }
+    ensures ok { IfOk result (λ is_new. (q : K) → place_of K.eq index.new q
+        ≡ (if is_new && is_key K.eq key q then place ∷ [] else place_of K.eq index.old q)) }
+    ensures err { OnErr result ((q : K) → place_of K.eq index.new q ≡ place_of K.eq index.old q) }
+{
+    let Some(key) = key else {
+        return Ok(true);
+    };
+    match index.entry(key)? {
+        Entry::Occupied(mut entry) => {
+            if is_keyed_at(places, *entry.get(), entry.key()) {
+                return Ok(false);
+            }
+            entry.insert(place);
+        }
+        Entry::Vacant(entry) => {
+            entry.insert(place);
+        }
+    }
+    Ok(true)
+}
+
+/// Whether the row at the place is there, and has this key.
+pub(crate) fn is_keyed_at<K: Eq, L: Eq, O: Eq, P: Eq, T: Row<K, L, O, P>>(
+    places: &[Option<T>],
+    place: usize,
+    key: &K,
+) -> bool
+    ensures { result ≡ passes (has_key K.eq T.key_of key.now) (row_at places.now place) }
+{
+    match places.get(place) {
+        Some(Some(row)) => row.has_key(key),
+        _ => false,
+    }
 }
 
 /// Adds a place at the end of a group's trail, if there is one.

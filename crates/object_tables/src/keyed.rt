@@ -7,8 +7,8 @@ use indexmap::IndexMap;
 use std::hash::{BuildHasher, Hasher};
 
 /// SipHash-1-3 (Aumasson and Bernstein, 2012), which takes each write in as words of its own: eight bytes a word, and
-/// what is left of it behind a mark that is no byte of UTF-8. So a number is a word, and nothing is put together byte by
-/// byte. Keys of texts and numbers that differ are different words, as long as each text ends in a byte of no text.
+/// what is left of it behind a mark that is no byte of UTF-8. So a number is a word, and nothing is put together byte
+/// by byte. Keys of texts and numbers that differ are different words, as long as each text ends in a byte of no text.
 #[derive(Clone, Copy)]
 pub struct KeyedHasher {
     v0: u64,

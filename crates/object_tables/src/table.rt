@@ -7,11 +7,11 @@ ghost use Rattle.std.specs.List.{list_any, filter_map};
 ghost use Rattle.std.specs.Option.{option_copied, option_map, option_to_list};
 ghost use Rattle.std.specs.Str.{bytes_eq};
 ghost use Rattle.cni_addr.specs.Lists.{each_key_once, without_first};
-ghost use Rattle.object_tables.specs.Table.{has_key, HasEachKeyOnce};
-ghost use Rattle.object_tables.specs.Places.{at_first, passes, row_at};
+ghost use Rattle.object_tables.specs.Table.{has_key, has_same_key, HasEachKeyOnce};
+ghost use Rattle.object_tables.specs.Places.{at_first};
 
 use crate::groups::{AtSite, OfNetwork, OfOwner, Within};
-use crate::indexes::{first_place, note_group, note_place, tidy};
+use crate::indexes::{first_place, is_keyed_at, note_group, note_place, note_unless_there, tidy};
 use crate::keyed::{KeyedMap, KeyedState};
 use crate::row::{Change, Row, Test};
 use crate::walks::{any_along, copied, empty_along, owners_in, row_at};
@@ -138,6 +138,18 @@ impl<
         ensures ok { OnOk result (self.new ≡ self.old ++ row ∷ []) }
         ensures err { OnErr result (self.new ≡ self.old) }
     {
+        self.push_unless_there(alloc, row)?;
+        Ok(())
+    }
+
+    /// Puts a row at the end unless one of its key is there, and says whether it did. A new key is hashed once.
+    pub fn push_unless_there(&mut self, alloc: Global, row: T) -> Result<bool, NoMemory>
+        requires alias { (alias : L) → T.alias_of row ≡ Some alias
+            → list_any (has_key L.eq T.alias_of alias) self.old ≡ false }
+        ensures new { IfOk result (λ is_new. is_new ≡ not (list_any (has_same_key K.eq T.key_of row) self.old)) }
+        ensures ok { IfOk result (λ is_new. self.new ≡ (if is_new then self.old ++ row ∷ [] else self.old)) }
+        ensures err { OnErr result (self.new ≡ self.old) }
+    {
         let key = row.key()?;
         let alias = row.alias()?;
         let owner = copied(row.owner())?;
@@ -145,13 +157,16 @@ impl<
         let site = row.site()?;
         let place = self.places.len();
         self.places.push(None)?;
-        note_place(&mut self.by_key, key, place)?;
+        if !note_unless_there(&self.places, &mut self.by_key, key, place)? {
+            self.places.pop();
+            return Ok(false);
+        }
         note_place(&mut self.by_alias, alias, place)?;
         note_group(alloc, &mut self.trails, owner, place)?;
         note_group(alloc, &mut self.networks, network, place)?;
         note_group(alloc, &mut self.sites, site, place)?;
         self.places[place] = Some(row);
-        Ok(())
+        Ok(true)
     }
 
     /// Whether a row is this owner's.
@@ -311,20 +326,6 @@ impl<
         if let Some(trail) = self.trails.get(owner) {
             empty_along(&mut self.places, trail, &within);
         }
-    }
-}
-
-/// Whether the row at the place is there, and has this key.
-fn is_keyed_at<K: Eq, L: Eq, O: Eq, P: Eq, T: Row<K, L, O, P>>(
-    places: &[Option<T>],
-    place: usize,
-    key: &K,
-) -> bool
-    ensures { result ≡ passes (has_key K.eq T.key_of key.now) (row_at places.now place) }
-{
-    match places.get(place) {
-        Some(Some(row)) => row.has_key(key),
-        _ => false,
     }
 }
 

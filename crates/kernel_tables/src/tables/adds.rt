@@ -3,7 +3,8 @@
 ghost use Rattle.std.specs.Prelude.{◌≡◌, IfOk, OnErr};
 ghost use Rattle.std.specs.Option.{option_copied, option_map};
 ghost use Rattle.kernel_types.specs.Allowed.{IsVethPair};
-ghost use Rattle.kernel_types.specs.Apply.Calls.{veth_add_of, master_is_bridge_or_none, macvlan_add_of, has_master, has_free_master};
+ghost use Rattle.kernel_types.specs.Apply.Calls.{veth_add_of, master_is_bridge_or_none, macvlan_add_of, has_master};
+ghost use Rattle.kernel_types.specs.Apply.Calls.{has_free_master};
 ghost use Rattle.kernel_types.specs.Sound.{IsSound};
 ghost use Rattle.kernel_types.specs.Terms.{link_at};
 

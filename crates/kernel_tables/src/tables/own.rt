@@ -1,7 +1,8 @@
 //! Objects of one attachment.
 
 ghost use Rattle.std.specs.Prelude.{◌≡◌, IfOk, OnErr};
-ghost use Rattle.kernel_types.specs.Apply.Calls.{addr_add_of, has_link_of, route_add_of, rule_append_of, setting_set_of};
+ghost use Rattle.kernel_types.specs.Apply.Calls.{addr_add_of, has_link_of, route_add_of, rule_append_of};
+ghost use Rattle.kernel_types.specs.Apply.Calls.{setting_set_of};
 ghost use Rattle.kernel_types.specs.Sound.{IsSound};
 ghost use Rattle.kernel_types.specs.Terms.{has_named_ns};
 
@@ -69,10 +70,9 @@ impl Tables {
         ensures ok { IfOk result (λ reply. (self.new, reply) ≡ rule_append_of self.old rule.now) }
         ensures err { OnErr result (self.new ≡ self.old) }
     {
-        if self.rules.find(rule).is_some() {
+        if !self.rules.push_unless_there(alloc, rule.copy()?)? {
             return Ok(Reply::Taken(rule.get().tag.copy()?));
         }
-        self.rules.push(alloc, rule.copy()?)?;
         Ok(Reply::Done)
     }
 
