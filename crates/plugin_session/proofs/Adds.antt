@@ -4,5 +4,3 @@ pub mod AddEnds
 pub mod AddRuns
 pub mod AddSteps
 pub mod EarlyAdds
-pub mod QuietRuns
-pub mod Unpooled

@@ -1,4 +1,3 @@
--- What a CHECK asks, and when it succeeds.
+-- What a CHECK asks.
 pub mod Asking
-pub mod Checked
 pub mod Entered

@@ -1,5 +1,4 @@
--- The deletions of a task, and what a collection leaves.
-pub mod Collected
+-- The deletions of a task, and how a collection goes on.
 pub mod KindEnds
 pub mod Sweeping
 pub mod TakenBack

@@ -1,10 +1,7 @@
--- From the parts of one task to what is said of it.
-pub mod Causes
+-- From the parts of one task to what is said of it, and what a session keeps over it.
 pub mod Endings
-pub mod Ends
 pub mod Going
-pub mod Leased
 pub mod Numbers
 pub mod RanTasks
-pub mod Ready
+pub mod SessionKept
 pub mod Turned

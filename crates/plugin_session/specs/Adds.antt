@@ -12,10 +12,10 @@ use Rattle.plugin_registry.specs.{Own.OwnCalls, declared.ask.Ask.Ask}
 use Rattle.cni_errors.specs.{CommandFields.att_of, declared.answer.Ending.TheVariants.Refused}
 use Rattle.cni_verbs.specs.Script.{State, AtBegin, ReadingCache, cause_of, leases_in}
 use Rattle.gc_sweep.specs.Trace.{Made, replies}
-use Rattle.plugin_session.specs.{Course.Course, Holds.has_begun, Journal.{JournalView, Went, IsOver, IsStopped, may_go}}
-use Rattle.plugin_session.specs.{Journal.{after_entries, made_next}, Pools.{Pools, sets_by}, Tasks.forward_of}
-use Rattle.plugin_session.specs.{Tasks.kinds_back, declared.{begun.Begun.Begun, part.PartEnd.PartEnd, row.Row.Row}}
-use Rattle.plugin_session.specs.declared.step.StepEnd.{StepEnd}
+use Rattle.session_laws.specs.{Course.{Course, IsOver}, Holds.has_begun, Pools.{Pools, sets_by}, Tasks.forward_of}
+use Rattle.session_laws.specs.{Tasks.kinds_back, declared.row.Row.Row}
+use Rattle.plugin_session.specs.Journal.{JournalView, Went, IsStopped, may_go, after_entries, made_next}
+use Rattle.plugin_session.specs.declared.{begun.Begun.Begun, part.PartEnd.PartEnd, step.StepEnd.StepEnd}
 use Rattle.session_file.specs.declared.session.{SessionConf.SessionConf, Task.Task}
 use Rattle.plugin_session.specs.declared.part.PartEnd.TheVariants as parts
 use Rattle.plugin_session.specs.declared.step.StepEnd.TheVariants as steps

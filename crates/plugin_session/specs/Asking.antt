@@ -7,8 +7,8 @@ use Rattle.pod_file.specs.declared.command.Command.{Command}
 use Rattle.cni_errors.specs.declared.answer.{Cause.Cause, Ending.TheVariants.Refused, Question.Question}
 use Rattle.cni_verbs.specs.Script.{Asking, asking}
 use Rattle.gc_sweep.specs.Trace.{Made}
-use Rattle.plugin_session.specs.{Course.Course, Journal.{EndsAs, JournalView, Went}, declared.part.PartEnd.PartEnd}
-use Rattle.plugin_session.specs.declared.part.PartEnd.TheVariants.{Over}
+use Rattle.session_laws.specs.Course.{Course}
+use Rattle.plugin_session.specs.{Journal.{EndsAs, JournalView, Went}, declared.part.PartEnd.{PartEnd, TheVariants.Over}}
 use Rattle.cni_errors.specs.declared.answer.Cause.TheVariants as causes
 
 -- the call asks whether an object is there

@@ -1,16 +1,16 @@
 -- The journal: the kernel, the history, and the task at hand.
 use Rattle.std.specs.{Option.option_map_or, Prelude.{◌≡◌, ℕ, ◌+◌, Bool, true, false, List, ◌++◌, length, map, nat_lt}}
-use Rattle.std.specs.Prelude.{◌≤◌, [], ◌∷◌, IfSome, Option, Some, None, Result, Ok, Err, option_map}
+use Rattle.std.specs.Prelude.{◌≤◌, [], ◌∷◌, IfSome, Option, Some, None, Result, Ok, Err}
 use Rattle.kernel_types.specs.declared.call.{Call.Call, Kind.Kind, Reply.{Reply, TheVariants.{Fault, Gone}}}
 use Rattle.kernel_types.specs.declared.object.Host.{Host}
 use Rattle.pod_file.specs.{Faults.are_after, declared.command.Command.Command}
 use Rattle.cni_errors.specs.declared.answer.Ending.{Ending}
-use Rattle.cni_verbs.specs.{Replies.reply_to, Script.{State, Deleting, Over, Finish, IsOpen, deleting, faulted}}
-use Rattle.cni_verbs.specs.Script.{finish_of}
+use Rattle.cni_verbs.specs.{Replies.reply_to, Script.{State, Deleting, Over, IsOpen, deleting, faulted}}
 use Rattle.gc_sweep.specs.Trace.{Made, host_from, replies}
 use Rattle.cni_addr.specs.declared.memory.NoMemory.{NoMemory}
-use Rattle.plugin_session.specs.{Course.{Course, IsRunFrom, state_from}, declared.delete.KindEnd.KindEnd}
-use Rattle.plugin_session.specs.declared.{entry.Entry.Entry, part.PartEnd.PartEnd}
+use Rattle.session_laws.specs.{Course.{Course, IsOver, IsRunFrom, state_from}, Views.entry_of}
+use Rattle.session_laws.specs.declared.entry.Entry.{Entry}
+use Rattle.plugin_session.specs.declared.{delete.KindEnd.KindEnd, part.PartEnd.PartEnd}
 use Rattle.plugin_session.specs.declared.delete.KindEnd.TheVariants as kind_ends
 use Rattle.plugin_session.specs.declared.part.PartEnd.TheVariants as parts
 
@@ -41,9 +41,6 @@ pub record IsLastReply (j : JournalView) (reply : Reply) : Type 0 where
   pub ends : j.history ≡ before ++ entry ∷ []
   pub is : entry.reply ≡ reply
 
-abbrev pub entry_of : ℕ → Made → Entry
-entry_of task e = record { task = task; call = e.call; reply = e.reply }
-
 -- the call that is made next, with its reply
 abbrev pub made_next : JournalView → Call → Made
 made_next j call = record { call = call; reply = reply_to j.host call (are_after j.made j.faults) }
@@ -63,10 +60,6 @@ pub record Went (co : Course) (c : Command) (es : List Made) (old new : JournalV
   pub state : state_from co old.made s (replies es) ≡ t
 
 -- ---- how a part of a task ends
-
--- the course is over, and ends so
-abbrev pub IsOver : State → Ending → Type 0
-IsOver t ending = option_map (λ (f : Finish). f.ending) (finish_of t) ≡ Some ending
 
 -- a call is left, and the task's stop is reached
 abbrev pub IsStopped : JournalView → State → Type 0

@@ -1,16 +1,6 @@
 pub mod Adds
 pub mod Asking
-pub mod Course
-pub mod EachTask
-pub mod Holds
 pub mod Journal
 pub mod Kept
-pub mod Laws
-pub mod LawsOfAnswers
-pub mod Pools
-pub mod Ran
 pub mod Runs
-pub mod Steps
 pub mod Sweeping
-pub mod Tasks
-pub mod Views

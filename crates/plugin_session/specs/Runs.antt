@@ -7,11 +7,12 @@ use Rattle.cni_result.specs.declared.cached.Cached.{Cached}
 use Rattle.cni_errors.specs.declared.answer.{Cause.Cause, Ending.{Ending, TheVariants.{Added, Refused}}}
 use Rattle.cni_verbs.specs.Script.{leases_in}
 use Rattle.gc_sweep.specs.Trace.{Made, host_from, replies}
-use Rattle.plugin_session.specs.{Holds.{Known, Suite, error_by, has_begun, is_faulty}, Journal.JournalView}
-use Rattle.plugin_session.specs.{Journal.{after_entries, entry_of}, Ran.{Handed, IsNewRow, Ran, RanByCourse, WasEarly}}
-use Rattle.plugin_session.specs.declared.{answer.TaskAnswer.TaskAnswer, begun.Begun.Begun, part.PartEnd.PartEnd}
-use Rattle.plugin_session.specs.declared.{row.Row.Row, run.{Hand.Hand, TaskRun.TaskRun}}
-use Rattle.plugin_session.specs.declared.answer.TaskAnswer.TheVariants as answers
+use Rattle.session_laws.specs.{Holds.{Known, Suite, error_by, has_begun, is_faulty}, Ran.{Handed, IsNewRow, Ran}}
+use Rattle.session_laws.specs.{Ran.{RanByCourse, WasEarly}, Views.entry_of, declared.answer.TaskAnswer.TaskAnswer}
+use Rattle.session_laws.specs.declared.row.Row.{Row}
+use Rattle.plugin_session.specs.{Journal.{JournalView, after_entries}, declared.begun.Begun.Begun}
+use Rattle.plugin_session.specs.declared.{part.PartEnd.PartEnd, run.{Hand.Hand, TaskRun.TaskRun}}
+use Rattle.session_laws.specs.declared.answer.TaskAnswer.TheVariants as answers
 use Rattle.plugin_session.specs.declared.part.PartEnd.TheVariants as parts
 
 -- ---- answers

@@ -13,10 +13,10 @@ ghost use Rattle.cni_errors.specs.declared.answer.Ending.TheVariants.{Added};
 ghost use Rattle.cni_verbs.specs.Script.{Over, ReadingCache};
 ghost use Rattle.plugin_session.specs.Adds.{Adds, Fills, GoesOn, IsCourseOf, IsFor, IsUnbegun, Steps, ask_for};
 ghost use Rattle.plugin_session.specs.Adds.{pools_of};
-ghost use Rattle.plugin_session.specs.Course.{Course, leasing};
+ghost use Rattle.session_laws.specs.Course.{Course, leasing};
 ghost use Rattle.plugin_session.specs.Journal.{EndsAs};
-ghost use Rattle.plugin_session.specs.Pools.{IsReady, Pools, sets_by};
-ghost use Rattle.plugin_session.specs.Tasks as tasks;
+ghost use Rattle.session_laws.specs.Pools.{IsReady, Pools, sets_by};
+ghost use Rattle.session_laws.specs.Tasks as tasks;
 
 use crate::ask::fill;
 use crate::begun::Begun;
@@ -24,7 +24,6 @@ use crate::delete::{kinds_back, take_back};
 use crate::journal::Journal;
 use crate::lease::lease_by;
 use crate::part::PartEnd;
-use crate::row::Row;
 use crate::step::{StepEnd, make_call, make_row};
 use cni_addr::{Addr, Duplicate, Items, NoMemory};
 use cni_errors::{Cause, Ending};
@@ -34,6 +33,7 @@ use kernel_types::Call;
 use net_conf::HostLocalConf;
 use plugin_registry::{Ask, Calls, Plugin, Promise, Results};
 use session_file::{SessionConf, Task};
+use session_laws::Row;
 use std::alloc::Global;
 
 /// Leases, asks the plugin, and makes its calls. The row is filled once the plugin has answered.

@@ -1,29 +1,15 @@
-//! What a task is answered.
+//! How answers are made.
 
 ghost use Rattle.std.specs.Prelude.{◌≡◌, IfOk};
-ghost use Rattle.plugin_session.specs.Holds as holds;
+ghost use Rattle.session_laws.specs.Holds as holds;
 ghost use Rattle.plugin_session.specs.Runs as runs;
 
-use cni_addr::{NoMemory, RefCounted};
+use cni_addr::NoMemory;
 use cni_errors::{Answer, Cause, Ending, ErrorKind, plain_answer, plain_error};
-use cni_result::{AddResult, CniError, Version};
+use cni_result::{CniError, Version};
 use pod_file::Command;
+use session_laws::TaskAnswer;
 use std::alloc::Global;
-
-/// What a task is answered.
-#[derive(Drop)]
-pub enum TaskAnswer {
-    /// An ADD made its attachment.
-    Added(RefCounted<AddResult>),
-    /// The verb did what it was asked.
-    Yes,
-    /// The verb refused.
-    Refused(CniError),
-    /// Memory was refused.
-    OutOfMemory,
-    /// The task was stopped after so many calls.
-    Stopped { calls: u32 },
-}
 
 /// The error of what is wrong of a task's configuration, by its key.
 pub(crate) fn wrong_error(alloc: Global, key: &str) -> Result<CniError, NoMemory>

@@ -9,9 +9,8 @@ ghost use Rattle.plugin_registry.specs.Needs.{first_unmet};
 ghost use Rattle.plugin_registry.specs.Promised.{Keeps};
 ghost use Rattle.plugin_session.specs.Adds.{IsAnswer};
 ghost use Rattle.plugin_session.specs.Adds as adds;
-ghost use Rattle.plugin_session.specs.Pools.{sets_by};
+ghost use Rattle.session_laws.specs.Pools.{sets_by};
 
-use crate::row::Row;
 use cni_addr::{Addr, Duplicate, Items, NoMemory, RefCounted, Text};
 use cni_result::{AddResult, Cached};
 use host_local::given_of;
@@ -19,6 +18,7 @@ use kernel_types::{Att, Call, Given};
 use net_conf::HostLocalConf;
 use plugin_registry::{Ask, Calls, Plugin, Promise, Results};
 use session_file::{SessionConf, Task};
+use session_laws::Row;
 use std::alloc::Global;
 
 /// What the leased addresses mean by the ranges of their sets.

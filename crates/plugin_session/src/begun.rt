@@ -3,9 +3,9 @@
 ghost use Rattle.std.specs.Prelude.{IfOk};
 ghost use Rattle.plugin_session.specs.Adds.{IsUnbegun};
 
-use crate::row::Row;
 use cni_addr::{Addr, Items, NoMemory};
 use kernel_types::{Att, Kind};
+use session_laws::Row;
 use std::alloc::Global;
 
 /// What an ADD has made so far. Who runs the ADD makes it beforehand, so that what was made can be kept without more

@@ -11,19 +11,19 @@ ghost use Rattle.cni_errors.specs.declared.answer.Question.{Question};
 ghost use Rattle.cni_verbs.specs.Script as script;
 ghost use Rattle.plugin_session.specs.Asking.{AreProbes, AskedAs, IsProbe};
 ghost use Rattle.plugin_session.specs.Asking as asking;
-ghost use Rattle.plugin_session.specs.Course.{Course};
+ghost use Rattle.session_laws.specs.Course.{Course};
 ghost use Rattle.plugin_session.specs.Journal.{EndsAs};
-ghost use Rattle.plugin_session.specs.Pools.{IsReady, Pools};
-ghost use Rattle.plugin_session.specs.Tasks as asked;
+ghost use Rattle.session_laws.specs.Pools.{IsReady, Pools};
+ghost use Rattle.session_laws.specs.Tasks as asked;
 
 use crate::journal::Journal;
 use crate::part::PartEnd;
-use crate::row::Row;
 use cni_addr::{Addr, Duplicate, Items, NoMemory, RefCounted};
 use cni_errors::object_questions::{Checked, rule_question};
 use cni_errors::{Cause, Ending, Question};
 use kernel_model::Kernel;
 use kernel_types::{Att, Call, Lease, Reply, Rule};
+use session_laws::Row;
 use std::alloc::Global;
 
 // ---- the questions of a row

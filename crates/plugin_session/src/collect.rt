@@ -8,9 +8,9 @@ ghost use Rattle.pod_file.specs.declared.command.ValidAtt.{ValidAtt};
 ghost use Rattle.cni_verbs.specs.Script as script;
 ghost use Rattle.gc_sweep.specs.Valid.{IsIndexOf};
 ghost use Rattle.gc_sweep.specs.View.{HasTaken, IsPlace};
-ghost use Rattle.plugin_session.specs.Course.{Course, start_work};
+ghost use Rattle.session_laws.specs.Course.{Course, start_work};
 ghost use Rattle.plugin_session.specs.Journal.{EndsAs, after_entries, made_next, may_go};
-ghost use Rattle.plugin_session.specs.Pools.{IsReady, Pools};
+ghost use Rattle.session_laws.specs.Pools.{IsReady, Pools};
 ghost use Rattle.plugin_session.specs.Sweeping.{IsNextOf, MayHaveMade};
 
 use crate::journal::Journal;

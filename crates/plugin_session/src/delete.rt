@@ -10,21 +10,21 @@ ghost use Rattle.pod_file.specs.declared.command.Command.{Command};
 ghost use Rattle.cni_errors.specs.CommandFields.{att_of};
 ghost use Rattle.cni_verbs.specs.Script as script;
 ghost use Rattle.plugin_chain.specs.Wanted as wanted;
-ghost use Rattle.plugin_session.specs.Course.{Course};
+ghost use Rattle.session_laws.specs.Course.{Course};
 ghost use Rattle.plugin_session.specs.Journal.{EndsAs, KindEndsAs, KindsEndAs};
 ghost use Rattle.plugin_session.specs.Journal.{after_entries, kind_end_by, made_next, may_go};
-ghost use Rattle.plugin_session.specs.Pools.{IsReady, Pools};
-ghost use Rattle.plugin_session.specs.Tasks as tasks;
+ghost use Rattle.session_laws.specs.Pools.{IsReady, Pools};
+ghost use Rattle.session_laws.specs.Tasks as tasks;
 
 use crate::journal::Journal;
 use crate::part::PartEnd;
-use crate::row::Row;
 use cni_addr::{Duplicate, Items, NoMemory, RefCounted};
 use cni_errors::{Cause, Ending};
 use kernel_model::Kernel;
 use kernel_types::{Att, Call, Kind, Reply};
 use net_conf::HostLocalConf;
 use plugin_chain::wanted::deletion;
+use session_laws::Row;
 use std::alloc::Global;
 
 /// How the deletions of one kind end.

@@ -10,11 +10,11 @@ ghost use Rattle.kernel_types.specs.Sound.{IsSound};
 ghost use Rattle.pod_file.specs.Faults.{are_after};
 ghost use Rattle.plugin_session.specs.Journal.{IsLastReply, after_entries, made_next, may_go};
 
-use crate::entry::Entry;
 use cni_addr::{NoMemory, RefCounted};
 use kernel_model::Kernel;
 use kernel_types::{Call, Host, Reply};
 use pod_file::Faults;
+use session_laws::Entry;
 use std::alloc::Global;
 use std::marker::Model;
 

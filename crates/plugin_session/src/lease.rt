@@ -9,8 +9,8 @@ ghost use Rattle.pod_file.specs.declared.command.Command.{Command};
 ghost use Rattle.cni_errors.specs.CommandFields.{att_of};
 ghost use Rattle.cni_verbs.specs.Script.{leases_in};
 ghost use Rattle.plugin_session.specs.Adds.{LeaseEndsAs, Steps, lease_end_by};
-ghost use Rattle.plugin_session.specs.Course.{Course, leasing};
-ghost use Rattle.plugin_session.specs.Pools.{IsReady, sets_by};
+ghost use Rattle.session_laws.specs.Course.{Course, leasing};
+ghost use Rattle.session_laws.specs.Pools.{IsReady, sets_by};
 
 use crate::journal::Journal;
 use crate::step::{StepEnd, cause_of};

@@ -6,22 +6,21 @@ ghost use Rattle.plugin_registry.specs.Promised.{Keeps};
 ghost use Rattle.pod_file.specs.declared.command.Verb.TheVariants as verbs;
 ghost use Rattle.cni_errors.specs.CommandFields.{del_refusal};
 ghost use Rattle.cni_verbs.specs.Script.{Collecting};
-ghost use Rattle.plugin_session.specs.Course.{begins, start_work};
+ghost use Rattle.session_laws.specs.Course.{begins, start_work};
 ghost use Rattle.plugin_session.specs.Journal.{may_go};
-ghost use Rattle.plugin_session.specs.Kept.{pools_of};
-ghost use Rattle.plugin_session.specs.Pools.{IsReady};
-ghost use Rattle.plugin_session.specs.Ran.{command_for};
+ghost use Rattle.session_laws.specs.Kept.{pools_of};
+ghost use Rattle.session_laws.specs.Pools.{IsReady};
+ghost use Rattle.session_laws.specs.Ran.{command_for};
 ghost use Rattle.plugin_session.specs.Runs.{IsAnswerToEnd, IsTurnedTo, RanTask, RunsWithoutRow, handed_of, ran_or};
 ghost use Rattle.plugin_session.specs.Runs as runs;
 
-use crate::answer::{TaskAnswer, answer_to};
+use crate::answer::answer_to;
 use crate::begun::Begun;
 use crate::check::check;
 use crate::collect::collect;
 use crate::delete::{kinds_back, take_back};
 use crate::journal::Journal;
 use crate::part::PartEnd;
-use crate::row::Row;
 use crate::run_add::run_add;
 use crate::words::command_of;
 use cni_addr::{Addr, Items, NoMemory};
@@ -33,6 +32,7 @@ use kernel_types::Call;
 use plugin_registry::{Ask, Calls, Promise, Registry, Results};
 use pod_file::{Command, Verb};
 use session_file::{SessionConf, Task};
+use session_laws::{Row, TaskAnswer};
 use std::alloc::Global;
 
 /// What a task goes by besides its host: its session's network and pools, and the row of its attachment with what that

@@ -10,21 +10,20 @@ ghost use Rattle.plugin_registry.specs.Needs.{first_unmet};
 ghost use Rattle.plugin_registry.specs.Promised.{Keeps};
 ghost use Rattle.plugin_session.specs.Adds.{IsUnbegun};
 ghost use Rattle.plugin_session.specs.Journal.{may_go};
-ghost use Rattle.plugin_session.specs.Kept.{pools_of};
-ghost use Rattle.plugin_session.specs.Pools.{IsReady, sets_by};
-ghost use Rattle.plugin_session.specs.Ran.{command_for};
+ghost use Rattle.session_laws.specs.Kept.{pools_of};
+ghost use Rattle.session_laws.specs.Pools.{IsReady, sets_by};
+ghost use Rattle.session_laws.specs.Ran.{command_for};
 ghost use Rattle.plugin_session.specs.Runs.{IsAnswerToAdd, IsResultOf, IsTurnedTo, RanTask, RunsAdd, handed_of, ran_or};
 ghost use Rattle.plugin_session.specs.Runs as runs;
-ghost use Rattle.plugin_session.specs.Views.{PluginView, plugin_named};
+ghost use Rattle.session_laws.specs.Views.{PluginView, plugin_named};
 ghost use Rattle.plugin_session.specs.declared.begun.Begun.{Begun};
 ghost use Rattle.std.specs.Bool.{then_some};
 
 use crate::add::add;
-use crate::answer::{TaskAnswer, answer_to, wrong_error};
+use crate::answer::{answer_to, wrong_error};
 use crate::begun::Begun;
 use crate::journal::Journal;
 use crate::part::PartEnd;
-use crate::row::Row;
 use crate::run::{Hand, TaskRun, answer_end, answered, without_row};
 use cni_addr::{Duplicate, Items, NoMemory, RefCounted};
 use cni_errors::Ending;
@@ -35,6 +34,7 @@ use kernel_types::Call;
 use plugin_registry::{Ask, Calls, Plugin, Promise, Registry, Results, first_unmet};
 use pod_file::Command;
 use session_file::SessionConf;
+use session_laws::{Row, TaskAnswer};
 use std::alloc::Global;
 
 /// The answer to an ADD that made its attachment: a copy of the result that its plugin gave.

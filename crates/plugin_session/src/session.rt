@@ -1,20 +1,18 @@
 //! A session: its tasks one after another, and what contracts see of it.
 
-ghost use Rattle.std.specs.Prelude.{◌≡◌, ◌<◌, ◌^◌, ◌++◌, [], IfOk, Contains, length, map, nat_le, slice_get, vec_capacity};
+ghost use Rattle.std.specs.Prelude.{◌≡◌, ◌<◌, ◌^◌, ◌++◌, [], IfOk, Contains, length, map, nat_le, slice_get};
+ghost use Rattle.std.specs.Prelude.{vec_capacity};
 ghost use Rattle.std.specs.Option.{option_and_then, option_copied, option_map, unwrap_or};
 ghost use Rattle.std.specs.Result.{ForOk};
 ghost use Rattle.plugin_registry.specs.Promised.{Keeps};
-ghost use Rattle.plugin_session.specs.Holds.{Grows, TaskHolds};
+ghost use Rattle.session_laws.specs.Holds.{Grows, TaskHolds};
 ghost use Rattle.session_file.specs.WellFormed.{IsSessionConf};
-ghost use Rattle.plugin_session.specs.Steps.{if_any, places_after};
-ghost use Rattle.plugin_session.specs.Views.{answer_of, begun, finish};
+ghost use Rattle.session_laws.specs.Steps.{if_any, places_after};
+ghost use Rattle.session_laws.specs.Views.{answer_of, begun, finish};
 
-use crate::answer::TaskAnswer;
 use crate::attachments::number_attachments;
 use crate::begun::Begun;
-use crate::entry::Entry;
 use crate::journal::Journal;
-use crate::row::Row;
 use crate::run::{Hand, TaskRun, run_task};
 use cni_addr::{Addr, Items, NoMemory};
 use cni_result::AddResult;
@@ -22,6 +20,7 @@ use kernel_model::Kernel;
 use kernel_types::{Call, Host};
 use plugin_registry::{Ask, Calls, Promise, Registry, Results};
 use session_file::SessionConf;
+use session_laws::{Entry, Row, TaskAnswer};
 use std::alloc::Global;
 use std::marker::Model;
 
@@ -43,7 +42,7 @@ pub struct Session<K: Kernel> {
 impl<K: Kernel> Model for Session<K> {
     ghost use Rattle.std.specs.Prelude.{◌≤◌, length, vec_capacity};
     ghost use Rattle.plugin_session.specs.Kept.{IsKept};
-    ghost use Rattle.plugin_session.specs.Views.{SessionView};
+    ghost use Rattle.session_laws.specs.Views.{SessionView};
 
     ghost Value = { SessionView };
 

@@ -13,16 +13,16 @@ ghost use Rattle.cni_verbs.specs.Script.{Over, after_leases};
 ghost use Rattle.cni_verbs.specs.Script as script;
 ghost use Rattle.plugin_session.specs.Adds.{GoesStep, Steps};
 ghost use Rattle.plugin_session.specs.Adds as adds;
-ghost use Rattle.plugin_session.specs.Course.{Course};
-ghost use Rattle.plugin_session.specs.Pools.{IsReady, Pools};
-ghost use Rattle.plugin_session.specs.Tasks.{forward_of};
+ghost use Rattle.session_laws.specs.Course.{Course};
+ghost use Rattle.session_laws.specs.Pools.{IsReady, Pools};
+ghost use Rattle.session_laws.specs.Tasks.{forward_of};
 
 use crate::journal::Journal;
-use crate::row::Row;
 use cni_addr::{Duplicate, NoMemory, RefCounted};
 use cni_errors::Cause;
 use kernel_model::Kernel;
 use kernel_types::{Call, Reply};
+use session_laws::Row;
 
 /// How a step of an ADD ends.
 #[derive(Drop)]

@@ -1,7 +1,7 @@
 //! A task's words as those of a command.
 
 ghost use Rattle.std.specs.Prelude.{IfOk, ◌≡◌};
-ghost use Rattle.plugin_session.specs.Tasks as tasks;
+ghost use Rattle.session_laws.specs.Tasks as tasks;
 
 use cni_addr::{Duplicate, Items, NoMemory, Text};
 use pod_file::Command;

@@ -5,9 +5,9 @@ use Rattle.cni_json.specs.Json.{line_of}
 use Rattle.cni_errors.specs.declared.answer.Answer.{Answer}
 use Rattle.cni_errors.specs.declared.answer.Answer.TheVariants as answers
 use Rattle.kernel_text.specs.{Dump.dump_of, Replies.trace_data}
-use Rattle.plugin_session.specs.{Views.{SessionView, answer_of, finish}, declared.answer.TaskAnswer.TaskAnswer}
-use Rattle.plugin_session.specs.declared.answer.TaskAnswer.TheVariants.{Added, Yes, Refused, OutOfMemory, Stopped}
-use Rattle.plugin_session.specs.declared.entry.Entry.{Entry}
+use Rattle.session_laws.specs.{Views.{SessionView, answer_of, finish}, declared.answer.TaskAnswer.TaskAnswer}
+use Rattle.session_laws.specs.declared.answer.TaskAnswer.TheVariants.{Added, Yes, Refused, OutOfMemory, Stopped}
+use Rattle.session_laws.specs.declared.entry.Entry.{Entry}
 use Rattle.pod_text.specs.{Lines.{answer_line, where_asked}, Statuses.status_of}
 use Rattle.pod_text.specs.declared.asked.SessionAsked.{SessionAsked}
 use Rattle.session_file.specs.declared.session.Task.{Task}

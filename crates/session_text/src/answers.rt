@@ -5,7 +5,7 @@ ghost use Rattle.session_text.specs.SessionText.{answer_as};
 
 use cni_addr::{Duplicate, NoMemory};
 use cni_errors::Answer;
-use plugin_session::TaskAnswer;
+use session_laws::TaskAnswer;
 
 /// The task's answer as a command's. They share a result; an error is copied.
 pub(crate) fn answer_as(answer: &TaskAnswer) -> Result<Answer, NoMemory>

@@ -6,8 +6,9 @@ ghost use Rattle.pod_text.specs.Statuses as statuses;
 ghost use Rattle.session_text.specs.SessionText.{answer_as, status_of_session};
 
 use kernel_model::Kernel;
-use plugin_session::{Session, TaskAnswer};
+use plugin_session::Session;
 use pod_text::{COMMAND_MEMORY_STATUS, FAILURE_STATUS, SUCCESS_STATUS};
+use session_laws::TaskAnswer;
 
 fn is_out_of_memory(answer: &TaskAnswer) -> bool
     ensures { result ≡ statuses.is_out_of_memory (Some (answer_as answer.now)) }

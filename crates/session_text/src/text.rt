@@ -3,7 +3,7 @@
 ghost use Rattle.std.specs.Prelude.{◌≡◌, ◌++◌, IfOk, OnOk};
 ghost use Rattle.std.specs.Option.{option_copied};
 ghost use Rattle.kernel_text.specs.Dump.{dump_of};
-ghost use Rattle.plugin_session.specs.Views.{answer_of, finish};
+ghost use Rattle.session_laws.specs.Views.{answer_of, finish};
 ghost use Rattle.pod_text.specs.Lines.{where_asked};
 ghost use Rattle.session_text.specs.SessionText.{entry_line, numbered, task_line, text_of_session};
 
@@ -11,9 +11,10 @@ use crate::answers::answer_as;
 use cni_addr::NoMemory;
 use kernel_model::Kernel;
 use kernel_text::{push_dump, push_line, trace_value};
-use plugin_session::{Entry, Session, TaskAnswer};
+use plugin_session::Session;
 use pod_text::{SessionAsked, answer_value};
 use session_file::Task;
+use session_laws::{Entry, TaskAnswer};
 use std::alloc::Global;
 
 /// The answer of the task of this number, from 1, where it has one.

@@ -17,9 +17,10 @@ use guard::{guard_calls, guard_kinds, guard_needs, guard_result};
 use kernel_model::{Kernel, ListKernel};
 use kernel_types::{Call, Host, Kind};
 use plugin_registry::{Ask, Calls, Need, Opt, Plugin, Promise, Registry, Results};
-use plugin_session::{Session, TaskAnswer};
+use plugin_session::Session;
 use pod_file::{ValidAtt, Verb, pod_file_laws, read_opening};
 use session_file::{SessionConf, Task};
+use session_laws::TaskAnswer;
 use std::alloc::Global;
 use std::test::Fail;
 

@@ -12,7 +12,7 @@ use Rattle.tool_run.specs.{Reports.{HoldsBySuite, IsSettledInOrder, Reported, Re
 use Rattle.tool_run.specs.{Seen.SinkSeen, Statuses.{Ends, Left, book_left, nothing_left, of_session, session_left}}
 use Rattle.tool_run.specs.Statuses.{IsCarriedOut, IsReport, cut_short, of_book, of_failed_read, of_refusal, of_usage}
 use Rattle.tool_run.specs.{Statuses.{out_of_memory, reported}, declared.{settle.Settled.Settled, top.Ended.Ended}}
-use Rattle.plugin_session.specs.{EachTask.EachTaskHolds, Holds.Suite}
+use Rattle.session_laws.specs.{EachTask.EachTaskHolds, Holds.Suite}
 use Rattle.session_text.specs.SessionText.{status_of_session}
 use Rattle.tool_run.specs.declared.settle.Settled.TheVariants as settled
 use Rattle.tool_run.proofs.Determined.{determined}

@@ -2,9 +2,9 @@
 use Rattle.std.proofs.Common.{◌≡◌, ◌∙◌, ◌≤◌, ◌<◌, ◌-◌, Bool, false, length, sym, ap, arith}
 use Rattle.std.proofs.lemmas.Bool.Decides.{nat_tests}
 use Rattle.std.specs.Prelude.{nat_le}
-use Rattle.plugin_session.specs.EachTask.{EachTaskHolds, EachTaskHoldsWithOneMore, GrownViewsGrow, IsGrown}
-use Rattle.plugin_session.specs.{Holds.{Grows, Suite, TaskHolds}, Views.{SessionView, number}}
-use Rattle.plugin_session.proofs.Steps.EachTask.{number-more}
+use Rattle.session_laws.specs.{EachTask.{EachTaskHolds, EachTaskHoldsWithOneMore, GrownViewsGrow, IsGrown}, Holds.Grows}
+use Rattle.session_laws.specs.{Holds.{Suite, TaskHolds}, Views.{SessionView, number}}
+use Rattle.session_laws.proofs.Steps.EachTask.{number-more}
 
 -- the session is the one that was begun, so far, and of each task that was run holds what the law says
 pub record IsRunning (suite : Suite) (begun now : SessionView) : Type 0 where

@@ -1,6 +1,6 @@
 -- What follows of how a run ended, and of a book that is over.
 use Rattle.std.specs.Prelude.{◌≡◌, ◌≢◌, ◌≤◌, ◌⊎◌, ℕ, List, [], ◌∷◌, length, None}
-use Rattle.plugin_session.specs.Views.{SessionView}
+use Rattle.session_laws.specs.Views.{SessionView}
 use Rattle.cni_addr.specs.Lists.{IsAmong}
 use Rattle.cni_io.specs.Files.{StoredFiles}
 use Rattle.pod_workers.specs.{Legal.Legal, World.{EachCommand, IsAnswered, World}}

@@ -1,7 +1,7 @@
 -- What is to be reported, and how a report ends.
 use Rattle.std.specs.Prelude.{◌≡◌, ◌≤◌, ◌⊎◌, ℕ, List, length, Result, Ok, Err}
 use Rattle.pod_text.specs.{Lines.text_of, Statuses.status_of, declared.asked.{Asked.Asked, SessionAsked.SessionAsked}}
-use Rattle.plugin_session.specs.{EachTask.EachTaskHolds, Holds.Suite}
+use Rattle.session_laws.specs.{EachTask.EachTaskHolds, Holds.Suite}
 use Rattle.session_text.specs.SessionText.{status_of_session, text_of_session}
 use Rattle.pod_workers.specs.{Legal.Legal, Order.IsInFileOrder}
 use Rattle.tool_plan.specs.{Dues.ComesToNoPlan, Lines.usage_line, Seen.FilesSeen, declared.due.DuePlan.DuePlan}

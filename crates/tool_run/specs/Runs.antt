@@ -3,7 +3,7 @@ use Rattle.std.specs.Prelude.{◌≡◌, ℕ, List, Some, IfSome}
 use Rattle.packet_laws.specs.Packets.{PacketsGoAsCached}
 use Rattle.pod_laws.specs.Guaranteed.{IsGuaranteed}
 use Rattle.pod_workers.specs.Order.{IsInFileOrder}
-use Rattle.plugin_session.specs.{EachTask.EachTaskHolds, Holds.Suite}
+use Rattle.session_laws.specs.{EachTask.EachTaskHolds, Holds.Suite}
 use Rattle.tool_words.specs.{Words.words_given, declared.words.Words.Words}
 use Rattle.tool_plan.specs.Seen.{FilesSeen}
 use Rattle.tool_run.specs.{Seen.SinkSeen, Statuses.{Ends, IsDetermined, Left}}
@@ -13,9 +13,9 @@ abbrev pub AskForOneThread : List (List ℕ) → Type 0
 AskForOneThread words = (by : Words) × (words_given words ≡ Some by) × (by.threads ≡ 1)
 
 -- The run ends in one of the ways there are. Its book has the guarantee, and where its host is complete each packet
--- goes as the cached results say. Where one thread makes all rounds, the commands go in the order of the file, and words
--- and files determine what is written and the status. Of its session each task holds what the session's law says, by
--- this suite of plugins.
+-- goes as the cached results say. Where one thread makes all rounds, the commands go in the order of the file, and
+-- words and files determine what is written and the status. Of its session each task holds what the session's law says,
+-- by this suite of plugins.
 pub record IsRunOf (words : List (List ℕ)) (files : FilesSeen) (sink : SinkSeen) (OneThread : Type 0) (suite : Suite)
     (status : ℕ) (left : Left) : Type 0 where
   pub ends : Ends words files sink status left

@@ -7,7 +7,7 @@ use Rattle.pod_workers.specs.{Legal.Legal, Order.IsDoneInFileOrder, World.World}
 use Rattle.tool_words.specs.{Words.words_given, declared.words.Words.Words}
 use Rattle.tool_plan.specs.{Dues.{AreFiles, ComesTo, IsRefusal, IsUnreadOf, NameNoFile}, Lines.usage_line}
 use Rattle.tool_plan.specs.{Seen.{FilesSeen, HasReadFailure}, Verdict.{IsAskedBy, carry, session, session_asked_of}}
-use Rattle.plugin_session.specs.Views.{SessionView}
+use Rattle.session_laws.specs.Views.{SessionView}
 use Rattle.session_text.specs.SessionText.{status_of_session, text_of_session}
 use Rattle.tool_run.specs.Seen.{HasWriteFailure, SinkSeen}
 

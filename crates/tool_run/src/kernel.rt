@@ -4,7 +4,7 @@ ghost use Rattle.std.specs.Prelude.{◌≡◌, IfOk};
 ghost use Rattle.kernel_types.specs.Sound.{IsSound};
 ghost use Rattle.pod_workers.specs.Order.{IsInFileOrder};
 ghost use Rattle.pod_workers.specs.Plans.{IsWellFormed};
-ghost use Rattle.plugin_session.specs.Views as views;
+ghost use Rattle.session_laws.specs.Views as views;
 ghost use Rattle.pod_workers.specs.World.{begun};
 ghost use Rattle.session_file.specs.WellFormed.{IsSessionConf};
 

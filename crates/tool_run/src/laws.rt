@@ -1,7 +1,8 @@
 //! Laws on how a run ends, and on a book that is over. A law is a function that does nothing: a caller gets it by
 //! calling it.
 
-ghost use Rattle.tool_run.specs.Laws.{EachOutcomeIsOfItsVerdict, EachCommandIsAnsweredAtTheEnd, EachStatusIsOfItsVerdict, RefusedWordsAreReported};
+ghost use Rattle.tool_run.specs.Laws.{EachOutcomeIsOfItsVerdict, EachCommandIsAnsweredAtTheEnd};
+ghost use Rattle.tool_run.specs.Laws.{EachStatusIsOfItsVerdict, RefusedWordsAreReported};
 
 use pod_workers::legal_worlds_meet_each_clause;
 

@@ -5,13 +5,13 @@
 //! `IsRunOf` says (`specs/Runs.antt`). They end in one of the ways of `Ends` (`specs/Statuses.antt`): what was to be
 //! reported was written, with its status; or the sink gave up after a prefix of it; or memory ran out outside the
 //! commands, and nothing was written. What is reported is the text of a book or of a session, or one line: that the
-//! words aren't taken, what is refused, or which read failed. The book is of the plan that words and files come to (`tool_plan`), and has
-//! the guarantee `IsGuaranteed` of `pod_laws`, whatever the threads; where its host has all that its cached results
-//! want, each packet goes as they say (`PacketsGoAsCached` of `packet_laws`). Where one thread makes the rounds, the
-//! commands go in the order of the file, and words and files determine what is written and the status, failed reads and
-//! writes and running out of memory aside (`IsDetermined`). Of a session each task holds what `EachTaskHolds` of
-//! `plugin_session` says, by the plugins of the registry that is handed in, each of which keeps what its suite promises.
-//! Where the words name no file, none is read.
+//! words aren't taken, what is refused, or which read failed. The book is of the plan that words and files come to
+//! (`tool_plan`), and has the guarantee `IsGuaranteed` of `pod_laws`, whatever the threads; where its host has all that
+//! its cached results want, each packet goes as they say (`PacketsGoAsCached` of `packet_laws`). Where one thread makes
+//! the rounds, the commands go in the order of the file, and words and files determine what is written and the status,
+//! failed reads and writes and running out of memory aside (`IsDetermined`). Of a session each task holds what
+//! `EachTaskHolds` of `session_laws` says, by the plugins of the registry that is handed in, each of which keeps what
+//! its suite promises. Where the words name no file, none is read.
 //!
 //! ```text
 //! // words: --threads 4 pods.json net.json

@@ -3,8 +3,8 @@
 ghost use Rattle.std.specs.Prelude.{◌≡◌, ◌≤◌, IfOk, Contains, length, map};
 ghost use Rattle.std.specs.Result.{ForOk};
 ghost use Rattle.plugin_registry.specs.Promised.{Keeps};
-ghost use Rattle.plugin_session.specs.EachTask.{EachTaskHolds, IsGrown};
-ghost use Rattle.plugin_session.specs.Views.{number};
+ghost use Rattle.session_laws.specs.EachTask.{EachTaskHolds, IsGrown};
+ghost use Rattle.session_laws.specs.Views.{number};
 ghost use Rattle.session_file.specs.WellFormed.{IsSessionConf};
 ghost use Rattle.tool_run.specs.Reports.{RunsSession};
 
@@ -15,7 +15,8 @@ use kernel_model::Kernel;
 use kernel_tables::TableKey;
 use kernel_types::Call;
 use plugin_registry::{Ask, Calls, Promise, Registry, Results};
-use plugin_session::{Session, each_task_holds, tasks_stay};
+use plugin_session::Session;
+use session_laws::{each_task_holds, tasks_stay};
 use session_text::session_text;
 use std::alloc::Global;
 use tool_plan::DueSession;

@@ -128,8 +128,8 @@ pub fn run_alone_over<K: FromHost + Drop, F: Files, S: Sink, P: Promise>(
 /// gate before each of their steps, and which thread steps when is left to the machine. With one thread, in a round of
 /// one command, and where memory is refused for the threads of a round, the calling thread steps each command of the
 /// round to its answer, in file order, and passes no gate. What is promised is promised if the call returns: no proof
-/// says that a thread gets on, and a gate that holds one for ever holds this call for ever. A session's tasks are run by
-/// the calling thread, one after another, whatever the number of threads.
+/// says that a thread gets on, and a gate that holds one for ever holds this call for ever. A session's tasks are run
+/// by the calling thread, one after another, whatever the number of threads.
 pub fn run<R: Threads + Wait + Sync, F: Files, S: Sink, G: Gate, P: Promise>(
     rt: &R,
     alloc: Global,

@@ -3,16 +3,18 @@ use Rattle.plugin_session.proofs.Names.{◌≡◌, ℕ, zero, suc, true, false, 
 use Rattle.plugin_session.proofs.Names.{Ok, Err, refl, sym, ap, subst, ◌∙◌, arith, slice_get, get_or, drop, length, ◌+◌}
 use Rattle.plugin_session.proofs.Names.{◌<◌, and_parts, append-nil, none-some, same_Some, list_all, Addr, NoMemory}
 use Rattle.plugin_session.proofs.Names.{Cached, IsAllowed, IsSound, Call, CachePut, LeaseNext, Kind, Att, Host, Command}
-use Rattle.plugin_session.proofs.Names.{IsWellFormedCall, is_own_call, Added, Over, State, after_leases, leases_in}
-use Rattle.plugin_session.proofs.Names.{replies}
+use Rattle.plugin_session.proofs.Names.{Added, Over, State, after_leases, leases_in, replies}
+use Rattle.plugin_base.specs.Calls.{IsWellFormedCall}
+use Rattle.plugin_registry.specs.Own.{is_own_call}
 use Rattle.plugin_registry.proofs.OwnCalls.{own-well_formed}
-use Rattle.plugin_session.specs.{Adds.{CallEndsAs, GoesStep, StepEndsAs, Steps}, Course.Course, Journal.JournalView}
-use Rattle.plugin_session.specs.{Journal.Went, Tasks.{forward_by, forward_of}, declared.row.Row.Row}
+use Rattle.plugin_session.specs.{Adds.{CallEndsAs, GoesStep, StepEndsAs, Steps}, Journal.{JournalView, Went}}
 use Rattle.plugin_session.specs.declared.step.StepEnd.{StepEnd}
+use Rattle.session_laws.specs.{Course.Course, Tasks.{forward_by, forward_of}, declared.row.Row.Row}
 use Rattle.plugin_session.specs.declared.step.StepEnd.TheVariants as steps
 use Rattle.plugin_session.proofs.Adds.AddSteps.{IsShort, call-ready, call-step, goes-short, goes-then, left-of}
-use Rattle.plugin_session.proofs.Adds.QuietRuns.{IsQuiet, leases_none, quiet-after_leases, quiet-run}
-use Rattle.plugin_session.proofs.{Removals.KindEnds.{GoesTo, StaysReady}, Tasks.Ready.moves_last}
+use Rattle.plugin_session.proofs.Removals.KindEnds.{GoesTo, StaysReady}
+use Rattle.session_laws.proofs.Courses.QuietRuns.{IsQuiet, leases_none, quiet-after_leases, quiet-run}
+use Rattle.session_laws.proofs.Courses.Ready.{moves_last}
 
 -- ---- the calls of a plugin
 

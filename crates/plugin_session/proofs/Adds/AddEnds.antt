@@ -1,22 +1,24 @@
 -- How an ADD goes on behind Begin, and how it ends.
 use Rattle.plugin_session.proofs.Names.{◌≡◌, ℕ, Bool, true, false, List, [], ◌∷◌, ◌++◌, Option, Some, None, Result, Ok}
 use Rattle.plugin_session.proofs.Names.{Err, refl, sym, ap, subst, ◌∙◌, ◌+◌, inl, inr, find, not, append-nil, list_all}
-use Rattle.plugin_session.proofs.Names.{MatchOption, Addr, NoMemory, RangeSet, Cached, AddResult, is_host_ns, Call}
-use Rattle.plugin_session.proofs.Names.{Begin, Kind, Reply, Done, Att, HostLocalConf, Command, first_unmet, Ask, Need}
-use Rattle.plugin_session.proofs.Names.{att_of, Cause, Ending, Added, Refused, AtBegin, Over, ReadingCache, State}
-use Rattle.plugin_session.proofs.Names.{after_leases, cause_of, finish_of, leases_in, next_call, refused, Made, replies}
+use Rattle.plugin_session.proofs.Names.{MatchOption, Addr, NoMemory, RangeSet, Cached, is_host_ns, Call, Begin, Kind}
+use Rattle.plugin_session.proofs.Names.{Reply, Done, Att, HostLocalConf, Command, first_unmet, Ask, Need, att_of, Cause}
+use Rattle.plugin_session.proofs.Names.{Ending, Added, Refused, AtBegin, Over, ReadingCache, State, after_leases}
+use Rattle.plugin_session.proofs.Names.{finish_of, leases_in, next_call, refused, Made, replies}
+use Rattle.cni_result.specs.declared.result.AddResult.{AddResult}
+use Rattle.cni_verbs.specs.Script.{cause_of}
 use Rattle.pod_file.specs.declared.command.Verb.TheVariants as verbs
 use Rattle.plugin_registry.specs.Needs.{IsAskable, is_met}
 use Rattle.plugin_session.specs.Adds.{Adds, CallEndsAs, EndsWith, Fills, GoesOn, IsAnswer, IsCourseOf, IsFor, IsMade}
-use Rattle.plugin_session.specs.{Adds.{Steps, end_by, is_done}, Course.{Course, advance, at_begin, leasing}}
-use Rattle.plugin_session.specs.{Holds.is_begun, Journal.{EndsAs, IsOver, JournalView, Went, made_next, may_go}}
-use Rattle.plugin_session.specs.{Pools.sets_by, Tasks.{forward_of, kinds_back}, declared.begun.Begun.Begun}
-use Rattle.plugin_session.specs.declared.{part.PartEnd.PartEnd, row.Row.Row, step.StepEnd.StepEnd}
+use Rattle.plugin_session.specs.{Adds.{Steps, end_by, is_done}, Journal.{EndsAs, JournalView, Went, made_next, may_go}}
+use Rattle.plugin_session.specs.declared.{begun.Begun.Begun, part.PartEnd.PartEnd, step.StepEnd.StepEnd}
+use Rattle.session_laws.specs.{Course.{Course, advance, at_begin, leasing, IsOver}, Holds.is_begun, Pools.sets_by}
+use Rattle.session_laws.specs.{Tasks.{forward_of, kinds_back}, declared.row.Row.Row}
 use Rattle.plugin_session.specs.declared.part.PartEnd.TheVariants as parts
 use Rattle.plugin_session.specs.declared.step.StepEnd.TheVariants as steps
 use Rattle.plugin_session.proofs.Adds.{AddCalls.MakesRow, AddSteps.{IsShort, both-leased, same-went, steps-short}}
-use Rattle.plugin_session.proofs.Adds.{AddSteps.{steps-then, steps-unmade}, QuietRuns.{quiet-run, refused-back}}
-use Rattle.plugin_session.proofs.Tasks.Going.{went-one, went-then}
+use Rattle.plugin_session.proofs.{Adds.AddSteps.{steps-then, steps-unmade}, Tasks.Going.{went-one, went-then}}
+use Rattle.session_laws.proofs.Courses.QuietRuns.{quiet-run, refused-back}
 
 -- ---- what the plugin is asked
 

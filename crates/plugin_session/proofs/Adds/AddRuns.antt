@@ -4,15 +4,15 @@ use Rattle.plugin_session.proofs.Names.{sym, ap, subst, ◌∙◌, Result, Ok, E
 use Rattle.plugin_session.proofs.Names.{MatchOption, IsErr, Addr, NoMemory, Cached, Call, Begin, Reply, Done, Att, Host}
 use Rattle.plugin_session.proofs.Names.{Command, OwnCalls, Ask, att_of, Ending, Added, Yes, Refused, State, AtBegin}
 use Rattle.plugin_session.proofs.Names.{finish_of, leases_in, next_call, Made, replies}
-use Rattle.plugin_session.specs.{Adds.{Adds, Fills, IsAnswer, IsCourseOf, IsUnbegun}, Course.{Course, IsRunFrom}}
-use Rattle.plugin_session.specs.{Course.{advance, at_begin, begins, state_from}, Holds.{Suite, has_begun, is_begun}}
-use Rattle.plugin_session.specs.{Journal.{IsOver, JournalView, Went, may_go}, Ran.{Handed, IsAnswerAt, IsAnswered}}
-use Rattle.plugin_session.specs.Ran.{IsNewRow, ask_for, command_for, course_for, leased_after, row_after}
-use Rattle.plugin_session.specs.{Runs.{IsAnswerToAdd, IsTurnedTo, RunsAdd, answered, row_if}, Tasks.course_by}
-use Rattle.plugin_session.specs.{Tasks.{forward_of, kinds_back}, Views.{PluginView, plugin_named}}
-use Rattle.plugin_session.specs.declared.{answer.TaskAnswer.TaskAnswer, begun.Begun.Begun, part.PartEnd.PartEnd}
-use Rattle.plugin_session.specs.declared.row.Row.{Row}
-use Rattle.plugin_session.specs.declared.answer.TaskAnswer.TheVariants as answers
+use Rattle.plugin_session.specs.{Adds.{Adds, Fills, IsAnswer, IsCourseOf, IsUnbegun}, Journal.{JournalView, Went}}
+use Rattle.plugin_session.specs.{Journal.may_go, Runs.{IsAnswerToAdd, IsTurnedTo, RunsAdd, answered, row_if}}
+use Rattle.plugin_session.specs.declared.{begun.Begun.Begun, part.PartEnd.PartEnd}
+use Rattle.session_laws.specs.{Course.{Course, IsRunFrom, advance, at_begin, begins, state_from, IsOver}, Holds.Suite}
+use Rattle.session_laws.specs.{Holds.{has_begun, is_begun}, Ran.{Handed, IsAnswerAt, IsAnswered, IsNewRow, ask_for}}
+use Rattle.session_laws.specs.{Ran.{command_for, course_for, leased_after, row_after}, Tasks.{course_by, forward_of}}
+use Rattle.session_laws.specs.{Tasks.kinds_back, Views.{PluginView, plugin_named}}
+use Rattle.session_laws.specs.declared.{answer.TaskAnswer.TaskAnswer, row.Row.Row}
+use Rattle.session_laws.specs.declared.answer.TaskAnswer.TheVariants as answers
 use Rattle.plugin_session.specs.declared.part.PartEnd.TheVariants as parts
 use Rattle.plugin_session.specs.Adds as adds
 use Rattle.plugin_session.proofs.Tasks.{Endings.{IsEnd, goes-ends}, Turned.{from-begin, made-all, ran-by, same-stop}}

@@ -2,20 +2,22 @@
 use Rattle.plugin_session.proofs.Names.{◌≡◌, ℕ, zero, suc, ◌+◌, ◌<◌, drop, get_or, true, false, List, [], ◌∷◌, ◌++◌}
 use Rattle.plugin_session.proofs.Names.{length, Some, Result, Ok, Err, inl, inr, refl, sym, ap, subst, ◌∙◌, arith}
 use Rattle.plugin_session.proofs.Names.{append_assoc, IfOk, slice_get, append-nil, length-append, map-append, drop_more}
-use Rattle.plugin_session.proofs.Names.{filter_map-append, none-some, same_Some, Addr, NoMemory, RangeSet, are_apart}
-use Rattle.plugin_session.proofs.Names.{ranges_of, HasRangesApart, IsAllowed, Call, LeaseNext, Reply, Done, Leased, Att}
-use Rattle.plugin_session.proofs.Names.{are_after, Command, att_of, State, AfterLeases, Leasing, after_leases}
-use Rattle.plugin_session.proofs.Names.{at_call_after, leased_by, leases_in, next_call, Made, replies}
-use Rattle.std.proofs.lemmas.Option.{slice_get-get_or}
+use Rattle.plugin_session.proofs.Names.{none-some, same_Some, Addr, NoMemory, RangeSet, are_apart, ranges_of, IsAllowed}
+use Rattle.plugin_session.proofs.Names.{Call, LeaseNext, Reply, Done, Leased, Att, are_after, Command, att_of, State}
+use Rattle.plugin_session.proofs.Names.{AfterLeases, Leasing, after_leases, at_call_after, leases_in, next_call, Made}
+use Rattle.plugin_session.proofs.Names.{replies}
+use Rattle.std.proofs.lemmas.{List.Elements.filter_map-append, Option.slice_get-get_or}
+use Rattle.kernel_types.specs.Allowed.{HasRangesApart}
+use Rattle.cni_verbs.specs.Script.{leased_by}
 use Rattle.ip_pool.specs.Pool.{is_apart}
 use Rattle.ip_pool.proofs.InOrder.{all_pairs-left, all_pairs-right}
 use Rattle.plugin_session.specs.Adds.{CallEndsAs, GoesStep, IsMade, LeaseEndsAs, StepEndsAs, Steps, end_by}
-use Rattle.plugin_session.specs.{Adds.lease_end_by, Course.{Course, advance, at_lease, leasing}, Journal.JournalView}
-use Rattle.plugin_session.specs.{Journal.{Went, made_next, may_go}, Pools.{IsReady, Pools}}
+use Rattle.plugin_session.specs.{Adds.lease_end_by, Journal.{JournalView, Went, made_next, may_go}}
 use Rattle.plugin_session.specs.declared.step.StepEnd.{StepEnd}
+use Rattle.session_laws.specs.{Course.{Course, advance, at_lease, leasing}, Pools.{IsReady, Pools}}
 use Rattle.plugin_session.specs.declared.step.StepEnd.TheVariants as steps
-use Rattle.plugin_session.proofs.{Removals.KindEnds.GoesTo, Tasks.Going.{went-none, went-one, went-then}}
-use Rattle.plugin_session.proofs.Tasks.Ready.{lease-allowed, moves_last, ready-call, ready-lease, ready-made}
+use Rattle.plugin_session.proofs.{Removals.KindEnds.GoesTo, Tasks.Going.{went-none, went-one, went-then, ready-made}}
+use Rattle.session_laws.proofs.Courses.Ready.{lease-allowed, moves_last, ready-call, ready-lease}
 
 -- ---- one part, and then a step
 

@@ -1,13 +1,13 @@
 -- What is wrong of an ADD before its first call.
 use Rattle.plugin_session.proofs.Names.{◌≡◌, ℕ, Bool, true, false, List, [], ◌∷◌, Option, Some, None, map, refl, sym}
-use Rattle.plugin_session.proofs.Names.{ap, ◌∙◌, suc, arith, codes, find, or_parts, none-some, same_Some}
-use Rattle.plugin_session.proofs.Names.{bytes_eq-Decides, option_or, option_map, if◌then◌else◌, bytes_eq, is_host_ns}
-use Rattle.plugin_session.proofs.Names.{Kind, add_refusal, Cause, Command, first_unmet, Need, Task}
-use Rattle.std.proofs.Common.{◌||◌}
-use Rattle.std.specs.Prelude.{Contains}
+use Rattle.plugin_session.proofs.Names.{ap, ◌∙◌, suc, arith, codes, find, none-some, same_Some, bytes_eq-Decides}
+use Rattle.plugin_session.proofs.Names.{option_map, if◌then◌else◌, bytes_eq, is_host_ns, Kind, add_refusal, Cause}
+use Rattle.plugin_session.proofs.Names.{Command, first_unmet, Need, Task}
+use Rattle.std.proofs.{Common.◌||◌, lemmas.Bool.or_parts}
+use Rattle.std.specs.{Option.option_or, Prelude.Contains}
 use Rattle.cni_errors.specs.CommandFields.{any_wrong, by_ip_argument, refusal_by, value_of_argument, wrong_for_add}
 use Rattle.cni_errors.specs.declared.answer.{Cause.TheVariants.BadFields, WrongFields.WrongFields}
-use Rattle.plugin_session.specs.{Holds.{Known, Wrong, early_by, wrong_option}, Views.{PluginView, plugin_named}}
+use Rattle.session_laws.specs.{Holds.{Known, Wrong, early_by, wrong_option}, Views.{PluginView, plugin_named}}
 use Rattle.pod_file.specs.declared.command.Verb.TheVariants as verbs
 
 -- the first of a list's images that passes is the image of the first that passes

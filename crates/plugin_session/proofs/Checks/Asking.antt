@@ -7,8 +7,9 @@ use Rattle.plugin_session.proofs.Names.{Host, Command, Made}
 use Rattle.std.proofs.{Math.ListN.drop_of_length-le, lemmas.{Bool.false≢true, List.Elements.All-from_recursion}}
 use Rattle.cni_errors.specs.declared.answer.Cause.TheVariants as causes
 use Rattle.cni_verbs.proofs.Asked.{left_from}
-use Rattle.plugin_session.specs.{Asking.{AreProbes, AskedAs, IsProbe, end_by}, Course.{Course, advance}, Journal.EndsAs}
-use Rattle.plugin_session.specs.{Journal.{JournalView, Went, after_entries, made_next}, declared.part.PartEnd.PartEnd}
+use Rattle.plugin_session.specs.{Asking.{AreProbes, AskedAs, IsProbe, end_by}, Journal.{EndsAs, JournalView, Went}}
+use Rattle.plugin_session.specs.{Journal.{after_entries, made_next}, declared.part.PartEnd.PartEnd}
+use Rattle.session_laws.specs.Course.{Course, advance}
 use Rattle.plugin_session.specs.declared.part.PartEnd.TheVariants as parts
 use Rattle.plugin_session.proofs.Tasks.Going.{ends-then, went-none, went-one, went-then}
 

@@ -1,14 +1,15 @@
 -- A check, from its cached result to its questions.
 use Rattle.plugin_session.proofs.Names.{◌≡◌, ℕ, ◌+◌, List, [], ◌∷◌, ◌++◌, map, Option, Some, None, Result, Ok, refl}
 use Rattle.plugin_session.proofs.Names.{sym, ap, subst, ◌∙◌, IsErr, Addr, NoMemory, att_of, lease_question, Question}
-use Rattle.plugin_session.proofs.Names.{FindingEntry, asking, finish_of, next_call, refused, lease_of, Call, VethAdd}
-use Rattle.plugin_session.proofs.Names.{MacvlanAdd, AddrAdd, RouteAdd, RuleAppend, SettingSet, CacheGet, Reply, Entry}
-use Rattle.plugin_session.proofs.Names.{Att, Command, Made}
+use Rattle.plugin_session.proofs.Names.{FindingEntry, asking, finish_of, next_call, refused, lease_of, Call, CacheGet}
+use Rattle.plugin_session.proofs.Names.{Reply, Entry, Att, Command, Made}
+use Rattle.kernel_types.specs.declared.call.Call.TheVariants.{VethAdd, MacvlanAdd, AddrAdd, RouteAdd, RuleAppend}
+use Rattle.kernel_types.specs.declared.call.Call.TheVariants.{SettingSet}
 use Rattle.cni_errors.specs.declared.answer.Cause.TheVariants as causes
-use Rattle.plugin_session.specs.{Asking.{AreProbes, end_by_entry}, Course.{Course, advance, at_entry}, Journal.EndsAs}
-use Rattle.plugin_session.specs.{Journal.{JournalView, Went, after_entries, made_next}, Tasks.call_questions}
-use Rattle.plugin_session.specs.{Tasks.{next_rule, questions_by, row_questions}, declared.part.PartEnd.PartEnd}
-use Rattle.plugin_session.specs.declared.row.Row.{Row}
+use Rattle.plugin_session.specs.{Asking.{AreProbes, end_by_entry}, Journal.{EndsAs, JournalView, Went, after_entries}}
+use Rattle.plugin_session.specs.{Journal.made_next, declared.part.PartEnd.PartEnd}
+use Rattle.session_laws.specs.{Course.{Course, advance, at_entry}, Tasks.{call_questions, next_rule, questions_by}}
+use Rattle.session_laws.specs.{Tasks.row_questions, declared.row.Row.Row}
 use Rattle.plugin_session.proofs.{Checks.Asking.{failed-ends, made-more}, Tasks.Going.{ends-then, went-one}}
 
 -- ---- all questions may be asked

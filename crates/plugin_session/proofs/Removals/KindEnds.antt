@@ -3,13 +3,15 @@ use Rattle.plugin_session.proofs.Names.{◌≡◌, ℕ, ◌+◌, ◌<◌, ◌≤
 use Rattle.plugin_session.proofs.Names.{Result, Ok, Err, refl, sym, ap, subst, ◌∙◌, arith, same_Some, none-some}
 use Rattle.plugin_session.proofs.Names.{if◌then◌else◌, apply, is_fault, IsSound, Kind, Reply, Fault, Gone, Att, Host}
 use Rattle.plugin_session.proofs.Names.{are_after, Command, att_of, Ending, reply_to, State, Deleting, Over, next_call}
-use Rattle.plugin_session.proofs.Names.{at_deletion, faulted, NoMemory, share_of, deletion, deletions_of, Made, host_on}
+use Rattle.plugin_session.proofs.Names.{at_deletion, faulted, NoMemory, share_of, deletions_of, Made, host_on}
+use Rattle.plugin_chain.specs.Wanted.{deletion}
 use Rattle.net_conf.specs.Sets.{one_if}
 use Rattle.gc_sweep.proofs.Deletable.{deletion-falls}
-use Rattle.plugin_session.specs.{Course.{Course, advance}, Journal.{JournalView, KindEndsAs, Went, after_entries}}
-use Rattle.plugin_session.specs.{Journal.{kind_end_by, made_next, may_go}, Pools.{IsReady, Pools}}
+use Rattle.session_laws.specs.{Course.{Course, advance}, Pools.{IsReady, Pools}}
+use Rattle.plugin_session.specs.Journal.{JournalView, KindEndsAs, Went, after_entries, kind_end_by, made_next, may_go}
 use Rattle.plugin_session.specs.declared.delete.KindEnd.{KindEnd}
-use Rattle.plugin_session.proofs.Tasks.{Going.went-next, Ready.{made_on, ready-deletion, ready-made}}
+use Rattle.plugin_session.proofs.Tasks.Going.{went-next, ready-made}
+use Rattle.session_laws.proofs.Courses.Ready.{made_on, ready-deletion}
 use Rattle.plugin_session.specs.declared.delete.KindEnd.TheVariants as kind_ends
 
 -- entries were made, and left the journal and the state so

@@ -1,20 +1,23 @@
 -- A collection, a call at a time.
 use Rattle.plugin_session.proofs.Names.{◌≡◌, ℕ, ◌+◌, ◌<◌, Bool, true, false, List, [], ◌∷◌, ◌++◌, Option, Some, None}
 use Rattle.plugin_session.proofs.Names.{Result, Ok, sym, ap, subst, ◌∙◌, refl, inl, inr, none-some, same_Some, IsErr}
-use Rattle.plugin_session.proofs.Names.{if◌then◌else◌, NoMemory, IsAllowed, apply, is_fault, Call, OwnersOf, Att, Host}
-use Rattle.plugin_session.proofs.Names.{IsReplyOf-apply, Command, ValidAtt, Ending, host_after, reply_to, State}
-use Rattle.plugin_session.proofs.Names.{Collecting, IsOpen, call_of_work, faults_after, finish_of, next_call, swept, Gc}
-use Rattle.plugin_session.proofs.Names.{Job, Sweep, Work, work_after, Made, host_on, work_of, collection_left}
-use Rattle.cni_verbs.specs.Sweep.{Step, AskCached, Delete, step_call}
+use Rattle.plugin_session.proofs.Names.{if◌then◌else◌, NoMemory, IsAllowed, apply, is_fault, Call, Att, Host, Command}
+use Rattle.plugin_session.proofs.Names.{ValidAtt, Ending, reply_to, State, Collecting, finish_of, next_call, swept, Gc}
+use Rattle.plugin_session.proofs.Names.{Made, host_on, work_of, collection_left}
+use Rattle.kernel_types.specs.declared.call.Call.TheVariants.{OwnersOf}
+use Rattle.kernel_types.proofs.Replies.{IsReplyOf-apply}
+use Rattle.cni_verbs.specs.{Replies.host_after, Script.{IsOpen, call_of_work, faults_after}, Sweep.{Job, Sweep, Work}}
+use Rattle.cni_verbs.specs.Sweep.{work_after, Step, AskCached, Delete, step_call}
 use Rattle.gc_sweep.specs.{View.{HasTaken, jobs_left, sweeps_after}, declared.place.SweepPlace.SweepPlace}
 use Rattle.gc_sweep.proofs.Collected.{fault-falls, work-falls}
-use Rattle.plugin_session.specs.{Course.{Course, advance, start_work}, Journal.{EndsAs, IsOver, JournalView, Went}}
-use Rattle.plugin_session.specs.{Journal.{after_entries, made_next, may_go}, Pools.{IsReady, Pools}, Sweeping.IsNextOf}
-use Rattle.plugin_session.specs.{Sweeping.MayHaveMade, declared.part.PartEnd.PartEnd}
+use Rattle.session_laws.specs.{Course.{Course, advance, start_work, IsOver}, Pools.{IsReady, Pools}}
+use Rattle.plugin_session.specs.Journal.{EndsAs, JournalView, Went, after_entries, made_next, may_go}
+use Rattle.plugin_session.specs.{Sweeping.{IsNextOf, MayHaveMade}, declared.part.PartEnd.PartEnd}
 use Rattle.plugin_session.specs.declared.part.PartEnd.TheVariants as parts
 use Rattle.plugin_session.proofs.{Checks.Asking.{failed-ends, made-more}, Tasks.Going.{went-next, went-none}}
-use Rattle.plugin_session.proofs.Tasks.Ready.{deletion-allowed, made_on, ready-cache_get, ready-deletion, ready-made}
-use Rattle.plugin_session.proofs.Tasks.Ready.{ready-owners_of}
+use Rattle.plugin_session.proofs.Tasks.Going.{ready-made}
+use Rattle.session_laws.proofs.Courses.Ready.{deletion-allowed, made_on, ready-cache_get, ready-deletion}
+use Rattle.session_laws.proofs.Courses.Ready.{ready-owners_of}
 
 -- ---- which calls a sweep makes
 

@@ -3,11 +3,12 @@ use Rattle.plugin_session.proofs.Names.{◌≡◌, ℕ, ◌+◌, ◌<◌, ◌≤
 use Rattle.plugin_session.proofs.Names.{Some, Result, Ok, Err, refl, sym, ap, subst, ◌∙◌, drop_all, drop_more, is_fault}
 use Rattle.plugin_session.proofs.Names.{CacheGet, Kind, Reply, Fault, Att, are_after, Command, att_of, Ending, State}
 use Rattle.plugin_session.proofs.Names.{Deleting, Over, ReadingCache, deleting, faulted, finish_of, next_call, NoMemory}
-use Rattle.plugin_session.specs.{Course.{Course, advance, at_cache}, Journal.{EndsAs, JournalView, KindEndsAs}}
-use Rattle.plugin_session.specs.Journal.{KindsEndAs, IsOver, Went, after_entries, made_next}
+use Rattle.session_laws.specs.Course.{Course, advance, at_cache, IsOver}
+use Rattle.plugin_session.specs.Journal.{EndsAs, JournalView, KindEndsAs, KindsEndAs, Went, after_entries, made_next}
 use Rattle.plugin_session.specs.declared.{delete.KindEnd.KindEnd, part.PartEnd.PartEnd}
 use Rattle.plugin_session.proofs.{Removals.KindEnds.{GoesTo, StaysReady}, Tasks.Going.{went-one, went-then, ends-then}}
-use Rattle.plugin_session.proofs.Tasks.Ready.{ready-cache_get, ready-made}
+use Rattle.plugin_session.proofs.Tasks.Going.{ready-made}
+use Rattle.session_laws.proofs.Courses.Ready.{ready-cache_get}
 use Rattle.plugin_session.specs.declared.delete.KindEnd.TheVariants as kind_ends
 use Rattle.plugin_session.specs.declared.part.PartEnd.TheVariants as parts
 

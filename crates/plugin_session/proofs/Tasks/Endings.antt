@@ -3,12 +3,11 @@ use Rattle.plugin_session.proofs.Names.{◌≡◌, ℕ, ◌+◌, Bool, true, fal
 use Rattle.plugin_session.proofs.Names.{none-some, same_Some, then_some, option_map, Addr, RangeSet, Cached, Call, Kind}
 use Rattle.plugin_session.proofs.Names.{Reply, Done, Leased, Entry, Gone, Has, Fault, Ending, Added, Yes, Refused}
 use Rattle.plugin_session.proofs.Names.{Question, State, AtBegin, Leasing, AfterLeases, ReadingCache, Deleting}
-use Rattle.plugin_session.proofs.Names.{FindingEntry, Asking, Collecting, Over, Finish, after_leases, asking}
-use Rattle.plugin_session.proofs.Names.{at_call_after, at_deletion, at_question, deleting, faulted, finish_of}
-use Rattle.plugin_session.proofs.Names.{has_no_work, swept}
-use Rattle.cni_verbs.specs.Script.{swept_finish}
-use Rattle.plugin_session.specs.Course.{Course, advance, at_begin, at_cache, at_entry, at_lease, checking, leasing}
-use Rattle.plugin_session.specs.{Course.state_from, Journal.IsOver}
+use Rattle.plugin_session.proofs.Names.{FindingEntry, Asking, Collecting, Over, after_leases, asking, at_call_after}
+use Rattle.plugin_session.proofs.Names.{at_deletion, at_question, deleting, faulted, finish_of, swept}
+use Rattle.cni_verbs.specs.Script.{Finish, has_no_work, swept_finish}
+use Rattle.session_laws.specs.Course.{Course, advance, at_begin, at_cache, at_entry, at_lease, checking, leasing}
+use Rattle.session_laws.specs.Course.{state_from, IsOver}
 
 -- an ADD has an end of its own
 abbrev pub IsEnd : Bool → Ending → Type 0

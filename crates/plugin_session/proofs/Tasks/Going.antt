@@ -1,11 +1,12 @@
 -- How parts of a task go on from one another.
 use Rattle.plugin_session.proofs.Names.{◌≡◌, ℕ, ◌+◌, Bool, List, [], ◌∷◌, ◌++◌, length, map, Some, refl, sym, ap, subst}
 use Rattle.plugin_session.proofs.Names.{◌∙◌, Result, Ok, Err, arith, append_assoc, append-nil, length-append}
-use Rattle.plugin_session.proofs.Names.{map-append, fold-append, NoMemory, State, next_call, Call, Host, Command, Made}
-use Rattle.plugin_session.proofs.Names.{host_from, host_on, replies}
-use Rattle.std.proofs.Common.{add-zero}
-use Rattle.plugin_session.specs.{Course.{Course, IsRunFrom, advance, state_from}, Journal.{EndsAs, JournalView, Went}}
-use Rattle.plugin_session.specs.{Journal.{after_entries, entry_of, made_next}, declared.entry.Entry.Entry}
+use Rattle.plugin_session.proofs.Names.{map-append, NoMemory, State, next_call, Call, Host, Command, Made, host_from}
+use Rattle.plugin_session.proofs.Names.{host_on, replies}
+use Rattle.std.proofs.{Common.add-zero, lemmas.List.Sums.fold-append}
+use Rattle.session_laws.specs.{Course.{Course, IsRunFrom, advance, state_from}, Pools.{IsReady, Pools}, Views.entry_of}
+use Rattle.session_laws.specs.declared.entry.Entry.{Entry}
+use Rattle.plugin_session.specs.Journal.{EndsAs, JournalView, Went, after_entries, made_next}
 use Rattle.plugin_session.specs.declared.part.PartEnd.{PartEnd}
 use Rattle.plugin_session.specs.declared.part.PartEnd.TheVariants as parts
 
@@ -96,3 +97,12 @@ ends-then {es = es} d (Ok (parts.Over ending)) first rest =
     (es ++ rest.0, rest.1, went-then first rest.2, rest.3)
 ends-then {es = es} d (Ok parts.Stopped) first rest = (es ++ rest.0, rest.1, went-then first rest.2, rest.3)
 ends-then {es = es} d (Err e) first rest = (es ++ rest.0, rest.1, went-then first rest.2)
+
+-- ---- a host that is ready for pools
+
+-- it stays so over a call that is entered, where the call leaves it so
+pub ready-made : (pools : Pools) (a d : JournalView) (call : Call) → d ≡ after_entries a (made_next a call ∷ [])
+    → IsReady pools (host_on a.host (made_next a call)) → IsReady pools d.host
+ready-made pools a d call made ready =
+    let P : JournalView → Type 0 = λ j. IsReady pools j.host in
+    subst P (sym made) ready

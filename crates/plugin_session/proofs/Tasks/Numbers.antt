@@ -1,16 +1,16 @@
 -- How the attachments of tasks are numbered, one task after another.
-use Rattle.plugin_session.proofs.Names.{◌≡◌, ℕ, zero, suc, ◌+◌, ◌<◌, ◌≤◌, ◌⊎◌, Bool, true, false, cond, ◌&&◌, ◌==◌}
-use Rattle.plugin_session.proofs.Names.{List, [], ◌∷◌, ◌++◌, length, take, get_or, Option, Some, None, slice_get, refl}
-use Rattle.plugin_session.proofs.Names.{sym, ap, subst, ◌∙◌, arith, inl, inr, Bor, is_some, not, and_parts}
-use Rattle.plugin_session.proofs.Names.{length-append, take_all, none-some, same_Some, slice_get_within}
-use Rattle.plugin_session.proofs.Names.{bytes_eq-Decides, unwrap_or, bytes_eq, att_eq, Att, att_eq-refl, att_eq-same}
-use Rattle.plugin_session.proofs.Names.{Task}
-use Rattle.std.proofs.{Common.Decides, lemmas.Bool.{and_from, Decides.{Decides-eqb, same_from_decides}}}
-use Rattle.std.proofs.lemmas.{List.take_more, Map.Text.is_eq-slice_cmp}
+use Rattle.plugin_session.proofs.Names.{◌≡◌, ℕ, zero, suc, ◌+◌, ◌<◌, ◌≤◌, ◌⊎◌, Bool, true, false, cond, List, [], ◌∷◌}
+use Rattle.plugin_session.proofs.Names.{◌++◌, length, take, get_or, Option, Some, None, slice_get, refl, sym, ap, subst}
+use Rattle.plugin_session.proofs.Names.{◌∙◌, arith, inl, inr, Bor, is_some, not, and_parts, length-append, none-some}
+use Rattle.plugin_session.proofs.Names.{same_Some, bytes_eq-Decides, unwrap_or, bytes_eq, Att, Task}
+use Rattle.std.proofs.{Common.{◌&&◌, ◌==◌, Decides}, lemmas.Bool.{and_from, Decides.{Decides-eqb, same_from_decides}}}
+use Rattle.std.proofs.lemmas.{List.{take_all, take_more}, Map.Text.is_eq-slice_cmp, Option.slice_get_within}
+use Rattle.kernel_types.specs.Equal.{att_eq}
+use Rattle.kernel_types.proofs.{Cases.att_eq-refl, Isolation.att_eq-same}
 use Rattle.std.specs.{BTreeMap.BTreeMap, Cmp.{tied_then, Lexicographic.slice_cmp}, Ordering.{is_eq, nat_cmp}}
 use Rattle.std.specs.Ordering.{ordering_then}
 use Rattle.std.specs.BTreeMap as tree
-use Rattle.plugin_session.specs.Kept.{AreNumbered, att_in}
+use Rattle.session_laws.specs.Kept.{AreNumbered, att_in}
 
 -- the number that the map has for these names
 abbrev pub at_names : BTreeMap (Bor (List ℕ) × Bor (List ℕ)) ℕ → List ℕ → List ℕ → Option ℕ

@@ -2,16 +2,19 @@
 use Rattle.plugin_session.proofs.Names.{◌≡◌, ℕ, ◌+◌, ◌++◌, Bool, true, false, List, [], ◌∷◌, Option, Some, None, map}
 use Rattle.plugin_session.proofs.Names.{refl, sym, ap, subst, ◌∙◌, ◌⊎◌, ◌≤◌, arith, is_some, length, IfSome, inl, inr}
 use Rattle.plugin_session.proofs.Names.{Result, Ok, Err, IfOk, append-nil, same_Some, then_some, MatchOption, IsErr}
-use Rattle.plugin_session.proofs.Names.{option_map, NoMemory, CniError, Call, CacheGet, Reply, Host, Command, Verb}
-use Rattle.plugin_session.proofs.Names.{att_of, Cause, Yes, Refused, State, Collecting, FindingEntry, ReadingCache}
-use Rattle.plugin_session.proofs.Names.{leases_in, next_call, Made, host_from, replies}
-use Rattle.plugin_session.specs.{Course.{Course, IsRunFrom, begins, start_work}, Holds.{Suite, TaskCause, Known}}
-use Rattle.plugin_session.specs.{Holds.{early_by, error_by, has_begun, is_begun}, Journal.{JournalView, after_entries}}
-use Rattle.plugin_session.specs.{Journal.entry_of, Ran.{Handed, IsNewRow, Ran, RanByCourse, WasEarly, command_for}}
-use Rattle.plugin_session.specs.{Ran.{course_for, early_for}, Runs.{IsTurnedTo, RanTask, RunsAdd, RunsWithoutRow}}
-use Rattle.plugin_session.specs.{Runs.{answer_to, answered, ran_or, row_if}, declared.answer.TaskAnswer.TaskAnswer}
-use Rattle.plugin_session.specs.declared.{begun.Begun.Begun, entry.Entry.Entry, row.Row.Row, run.TaskRun.TaskRun}
-use Rattle.plugin_session.specs.declared.answer.TaskAnswer.TheVariants as answers
+use Rattle.plugin_session.proofs.Names.{option_map, NoMemory, Call, CacheGet, Reply, Host, Command, att_of, Cause, Yes}
+use Rattle.plugin_session.proofs.Names.{Refused, State, Collecting, FindingEntry, ReadingCache, leases_in, next_call}
+use Rattle.plugin_session.proofs.Names.{Made, host_from, replies}
+use Rattle.cni_result.specs.declared.error.CniError.{CniError}
+use Rattle.pod_file.specs.declared.command.Verb.{Verb}
+use Rattle.session_laws.specs.{Course.{Course, IsRunFrom, begins, start_work}, Holds.{Suite, TaskCause, Known}}
+use Rattle.session_laws.specs.{Holds.{early_by, error_by, has_begun, is_begun}, Ran.{Handed, IsNewRow, Ran}}
+use Rattle.session_laws.specs.{Ran.{RanByCourse, WasEarly, command_for, course_for, early_for}, Views.entry_of}
+use Rattle.session_laws.specs.declared.{answer.TaskAnswer.TaskAnswer, entry.Entry.Entry, row.Row.Row}
+use Rattle.plugin_session.specs.{Journal.{JournalView, after_entries}, Runs.{IsTurnedTo, RanTask, RunsAdd}}
+use Rattle.plugin_session.specs.{Runs.{RunsWithoutRow, answer_to, answered, ran_or, row_if}, declared.begun.Begun.Begun}
+use Rattle.plugin_session.specs.declared.run.TaskRun.{TaskRun}
+use Rattle.session_laws.specs.declared.answer.TaskAnswer.TheVariants as answers
 use Rattle.pod_file.specs.declared.command.Verb.TheVariants as verbs
 use Rattle.plugin_session.proofs.Tasks.Turned.{ran-none}
 

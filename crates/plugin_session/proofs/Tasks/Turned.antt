@@ -3,12 +3,12 @@ use Rattle.plugin_session.proofs.Names.{◌≡◌, ℕ, ◌+◌, Bool, false, Li
 use Rattle.plugin_session.proofs.Names.{subst, ◌∙◌, length, inl, inr, arith, Result, Ok, Err, IfOk, MatchOption, IsErr}
 use Rattle.plugin_session.proofs.Names.{NoMemory, Host, are_after, Command, Cause, Ending, Added, Yes, Refused}
 use Rattle.plugin_session.proofs.Names.{reply_to, State, Made, host_on, replies}
-use Rattle.plugin_session.specs.{Course.{Course, IsRunFrom, advance, begins, state_from}, Holds.{Known, is_faulty}}
-use Rattle.plugin_session.specs.{Journal.{EndsAs, IsOver, JournalView, Went, may_go}, Ran.{Handed, IsAnswerAt}}
-use Rattle.plugin_session.specs.{Ran.{RanByCourse, WasEarly, command_for, course_for}, Runs.{IsAnswerToEnd, IsTurnedTo}}
-use Rattle.plugin_session.specs.{Runs.{RunsWithoutRow, answer_to, answered}, declared.answer.TaskAnswer.TaskAnswer}
-use Rattle.plugin_session.specs.declared.{part.PartEnd.PartEnd, row.Row.Row}
-use Rattle.plugin_session.specs.declared.answer.TaskAnswer.TheVariants as answers
+use Rattle.session_laws.specs.{Course.{Course, IsRunFrom, advance, begins, state_from, IsOver}, Holds.Known}
+use Rattle.session_laws.specs.{Holds.is_faulty, Ran.{Handed, IsAnswerAt, RanByCourse, WasEarly, command_for}}
+use Rattle.session_laws.specs.{Ran.course_for, declared.{answer.TaskAnswer.TaskAnswer, row.Row.Row}}
+use Rattle.plugin_session.specs.{Journal.{EndsAs, JournalView, Went, may_go}, Runs.{IsAnswerToEnd, IsTurnedTo}}
+use Rattle.plugin_session.specs.{Runs.{RunsWithoutRow, answer_to, answered}, declared.part.PartEnd.PartEnd}
+use Rattle.session_laws.specs.declared.answer.TaskAnswer.TheVariants as answers
 use Rattle.plugin_session.specs.declared.part.PartEnd.TheVariants as parts
 use Rattle.plugin_session.proofs.Tasks.{Endings.{GoesTo, IsEnd, goes-ends}, Going.{after_entries-none, went-none}}
 

@@ -1,6 +1,7 @@
 use Rattle.plugin_session.proofs.Names.{◌≡◌, Ok, Option, Some, subst, sym, ap, ◌∙◌, rules, err_from_is_err_and}
 use Rattle.plugin_session.proofs.Names.{option_copied, HostLocalConf}
-use Rattle.plugin_session.specs.{Adds.pools_of, Pools.sets_by, Tasks.kinds_back, declared.step.StepEnd.StepEnd}
+use Rattle.plugin_session.specs.{Adds.pools_of, declared.step.StepEnd.StepEnd}
+use Rattle.session_laws.specs.{Pools.sets_by, Tasks.kinds_back}
 use Rattle.plugin_session.proofs.Adds.AddEnds.{AllGo, begun-added, begun-stopped, begun-undone, begun-unmade}
 use Rattle.plugin_session.proofs.add.add_begun.Goals as goal
 

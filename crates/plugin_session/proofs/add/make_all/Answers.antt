@@ -1,7 +1,7 @@
 use Rattle.plugin_session.proofs.Names.{◌≡◌, Ok, Err, Option, subst, refl, rules, err_from_is_err_and, option_copied}
 use Rattle.plugin_session.proofs.Names.{HostLocalConf}
-use Rattle.plugin_session.specs.{Adds.{ask_for, pools_of}, Pools.{IsReady, sets_by}, declared.step.StepEnd.StepEnd}
-use Rattle.plugin_session.specs.declared.step.StepEnd.TheVariants.{Granted}
+use Rattle.plugin_session.specs.{Adds.{ask_for, pools_of}, declared.step.StepEnd.{StepEnd, TheVariants.Granted}}
+use Rattle.session_laws.specs.Pools.{IsReady, sets_by}
 use Rattle.plugin_session.proofs.Adds.AddEnds.{LeasesGo, all-made, all-short, all-unasked, all-unleased, fills-none}
 use Rattle.plugin_session.proofs.Adds.AddSteps.{other-is_short}
 use Rattle.plugin_session.proofs.add.make_all.Goals as goal

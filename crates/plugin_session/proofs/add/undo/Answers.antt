@@ -1,5 +1,5 @@
 use Rattle.plugin_session.proofs.Names.{◌≡◌, Some, sym, ◌∙◌, rules, option_copied}
-use Rattle.plugin_session.specs.Tasks.{kinds_back}
+use Rattle.session_laws.specs.Tasks.{kinds_back}
 use Rattle.plugin_session.proofs.Adds.AddEnds.{undone-refused}
 use Rattle.plugin_session.proofs.add.undo.Goals as goal
 

@@ -1,5 +1,5 @@
 use Rattle.plugin_session.proofs.Names.{◌≡◌, ◌+◌, ◌++◌, ◌≤◌, drop}
-use Rattle.plugin_session.specs.Tasks.{call_questions}
+use Rattle.session_laws.specs.Tasks.{call_questions}
 use Rattle.plugin_session.proofs.check.ask_for_calls.Given as goal
 
 -- what was asked for and what is left are the whole

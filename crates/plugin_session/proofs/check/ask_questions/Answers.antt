@@ -1,6 +1,6 @@
-use Rattle.plugin_session.proofs.Names.{◌≡◌, ◌<◌, ◌∙◌, Some, length, get_or, ap, sym, subst, refl, length_push}
-use Rattle.plugin_session.proofs.Names.{Question, IsSound}
+use Rattle.plugin_session.proofs.Names.{◌≡◌, ◌<◌, ◌∙◌, Some, length, get_or, ap, sym, subst, refl, Question, IsSound}
 use Rattle.std.proofs.lemmas.Iterator.{Adapters.YieldsList-from_vec, Consumers.{YieldsList-turn, YieldsList-end}}
+use Rattle.std.proofs.lemmas.List.{length_push}
 use Rattle.plugin_session.proofs.Checks.Asking.{asked-none, asked-more, asked-ended, asked-failed, asked-all, probe-at}
 use Rattle.plugin_session.proofs.check.ask_questions.{Given.Over, Goals.After-next}
 use Rattle.plugin_session.proofs.check.ask_questions.Goals as goal

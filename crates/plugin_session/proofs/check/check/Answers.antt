@@ -1,5 +1,6 @@
 use Rattle.plugin_session.proofs.Names.{◌≡◌, ◌∙◌, sym, subst, ap, option_copied, att_of, CacheGet, Att, Command}
-use Rattle.plugin_session.specs.{Asking.AreProbes, Course.Course}
+use Rattle.plugin_session.specs.Asking.{AreProbes}
+use Rattle.session_laws.specs.Course.{Course}
 use Rattle.plugin_session.proofs.Checks.Entered.{EnteredAs, entry-asked, entry-failed, entry-then, probes-row}
 use Rattle.plugin_session.proofs.check.check.{Given.Over, Goals.After-end_by_entry}
 use Rattle.plugin_session.proofs.check.check.Goals as goal

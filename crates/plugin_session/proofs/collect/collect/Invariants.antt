@@ -1,6 +1,6 @@
 use Rattle.gc_sweep.specs.View.{IsPlace}
 use Rattle.plugin_session.proofs.Names.{work_of, collection_left, IsSound, []}
-use Rattle.plugin_session.specs.Pools.{IsReady, Pools}
+use Rattle.session_laws.specs.Pools.{IsReady, Pools}
 use Rattle.plugin_session.proofs.Removals.Sweeping.{SweptSoFar}
 use Rattle.plugin_session.proofs.collect.collect.Given as goal
 

@@ -1,4 +1,5 @@
-use Rattle.plugin_session.proofs.Names.{err_from_is_err_and, Links}
+use Rattle.plugin_session.proofs.Names.{err_from_is_err_and}
+use Rattle.kernel_types.specs.declared.call.Kind.TheVariants.{Links}
 use Rattle.plugin_session.proofs.Removals.TakenBack.{each-fault, each-gone, each-refused, each-stopped, leaves-fewer}
 use Rattle.plugin_session.proofs.Removals.TakenBack.{ready-then}
 use Rattle.plugin_session.proofs.delete.delete_each.Goals as goal

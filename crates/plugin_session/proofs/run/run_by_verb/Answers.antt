@@ -1,5 +1,6 @@
 use Rattle.plugin_session.proofs.Names.{None, refl, sym, ap, ◌∙◌, del_refusal, option_map}
-use Rattle.plugin_session.specs.{Holds.{Known, Suite}, Runs.{answered, handed_of}}
+use Rattle.session_laws.specs.Holds.{Known, Suite}
+use Rattle.plugin_session.specs.Runs.{answered, handed_of}
 use Rattle.pod_file.specs.declared.command.Verb.TheVariants as verbs
 use Rattle.plugin_session.proofs.{Adds.EarlyAdds.views, Tasks.RanTasks.{collects-early, early-as, is-del, is-check}}
 use Rattle.plugin_session.proofs.Tasks.RanTasks.{ran-plain}

@@ -1,7 +1,7 @@
 use Rattle.plugin_session.proofs.Names.{◌≡◌, [], None, IfOk, refl, sym, ap, subst, ◌∙◌, att_of, del_refusal, Yes}
 use Rattle.plugin_session.proofs.Names.{ReadingCache, option_copied}
-use Rattle.plugin_session.specs.{Course.begins, Kept.pools_of, Ran.{command_for, course_for}, Runs.IsAnswerToEnd}
-use Rattle.plugin_session.specs.{Runs.handed_of, Tasks.kinds_back}
+use Rattle.session_laws.specs.{Course.begins, Kept.pools_of, Ran.{command_for, course_for}, Tasks.kinds_back}
+use Rattle.plugin_session.specs.Runs.{IsAnswerToEnd, handed_of}
 use Rattle.plugin_session.proofs.Tasks.Turned.{runs-cut, runs-ends, stopped-there}
 use Rattle.plugin_session.proofs.run.run_del.Goals as goal
 

@@ -1,5 +1,6 @@
 use Rattle.plugin_session.proofs.Names.{sym, subst}
-use Rattle.plugin_session.specs.{Holds.Suite, Runs.{RanTask, handed_of}}
+use Rattle.session_laws.specs.Holds.{Suite}
+use Rattle.plugin_session.specs.Runs.{RanTask, handed_of}
 use Rattle.plugin_session.proofs.{Adds.EarlyAdds.views, Tasks.RanTasks.{ran-from, ran-idle}}
 use Rattle.plugin_session.proofs.run.run_task.Goals as goal
 

@@ -1,5 +1,6 @@
 use Rattle.plugin_session.proofs.Names.{Some, codes, sym, ap, ◌∙◌, option_copied, add_refusal}
-use Rattle.plugin_session.specs.{Holds.{Suite, Wrong}, Ran.command_for, Runs.handed_of}
+use Rattle.session_laws.specs.{Holds.{Suite, Wrong}, Ran.command_for}
+use Rattle.plugin_session.specs.Runs.{handed_of}
 use Rattle.pod_file.specs.declared.command.Verb.TheVariants as verbs
 use Rattle.plugin_session.proofs.Adds.EarlyAdds.{named-view, no-plugin, plugin-there, views, words-wrong}
 use Rattle.plugin_session.proofs.Tasks.RanTasks.{early-as, ran-memory, ran-refused, ran-words}

@@ -1,5 +1,6 @@
 use Rattle.plugin_session.proofs.Names.{sym, subst}
-use Rattle.plugin_session.specs.{Holds.Suite, Runs.{RunsAdd, handed_of}}
+use Rattle.session_laws.specs.Holds.{Suite}
+use Rattle.plugin_session.specs.Runs.{RunsAdd, handed_of}
 use Rattle.plugin_session.proofs.run_add.run_begun.Goals as goal
 
 pub returns-clause-ran : goal.returns-clause-ran

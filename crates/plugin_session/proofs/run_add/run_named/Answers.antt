@@ -1,5 +1,6 @@
 use Rattle.plugin_session.proofs.Names.{◌≡◌, None, Some, sym, ap, ◌∙◌, option_copied, first_unmet, add_refusal}
-use Rattle.plugin_session.specs.{Holds.{Suite, Wrong, wrong_error}, Ran.command_for, Runs.handed_of, Views.PluginView}
+use Rattle.session_laws.specs.{Holds.{Suite, Wrong, wrong_error}, Ran.command_for, Views.PluginView}
+use Rattle.plugin_session.specs.Runs.{handed_of}
 use Rattle.pod_file.specs.declared.command.Verb.TheVariants as verbs
 use Rattle.plugin_session.proofs.{Adds.EarlyAdds.{none-wrong, option-wrong, words-container}, Tasks.RanTasks.early-as}
 use Rattle.plugin_session.proofs.Tasks.RanTasks.{ran-add, ran-memory, ran-refused}

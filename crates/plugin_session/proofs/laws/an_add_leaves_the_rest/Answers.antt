@@ -1,5 +1,0 @@
-use Rattle.plugin_session.proofs.Courses.Added.{add_leaves_others, add_stays_ready}
-use Rattle.plugin_session.proofs.laws.an_add_leaves_the_rest.Goals as goal
-
-pub returns : goal.returns
-returns c = record { ready = add_stays_ready; others = add_leaves_others }

@@ -1,5 +1,0 @@
-use Rattle.plugin_session.proofs.Courses.Unbegun.{unbegun_leaves}
-use Rattle.plugin_session.proofs.laws.an_unbegun_add_leaves_the_host.Goals as goal
-
-pub returns : goal.returns
-returns c = unbegun_leaves

@@ -1,5 +1,0 @@
-use Rattle.plugin_session.proofs.Steps.EachTask.{each-first, each-more}
-use Rattle.plugin_session.proofs.step_laws.each_task_holds.Goals as goal
-
-pub returns : goal.returns
-returns g c = record { first = λ plugins. each-first _; more = λ plugins. each-more _ }

@@ -1,5 +1,0 @@
-use Rattle.plugin_session.proofs.Steps.StepsHold.{steps-hold, steps-hold_of_the_last}
-use Rattle.plugin_session.proofs.step_laws.steps_hold.Goals as goal
-
-pub returns : goal.returns
-returns g c = record { holds = λ plugins. steps-hold _; last = λ plugins. steps-hold_of_the_last _ }

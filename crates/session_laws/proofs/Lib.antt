@@ -1,0 +1,4 @@
+pub mod Answers
+pub mod Courses
+pub mod Steps
+mod Names

@@ -1,0 +1,12 @@
+-- What a task makes of a session, and what stays of its earlier tasks.
+pub mod EachTask
+pub mod LastRows
+pub mod Numbered
+pub mod StepAnswers
+pub mod StepEnds
+pub mod StepRows
+pub mod StepShapes
+pub mod StepShares
+pub mod StepViews
+pub mod StepsHold
+pub mod StepsKeep

@@ -1,0 +1,11 @@
+pub mod Course
+pub mod EachTask
+pub mod Holds
+pub mod Kept
+pub mod Laws
+pub mod LawsOfAnswers
+pub mod Pools
+pub mod Ran
+pub mod Steps
+pub mod Tasks
+pub mod Views
