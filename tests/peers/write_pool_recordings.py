@@ -1,7 +1,7 @@
 #!/usr/bin/env python3
-"""Writes the recordings that ip_pool's tests replay, from what the host-local plugin did.
+"""Writes the recordings that pool_trials replays, from what the host-local plugin did.
 
-    write_pool_recordings.py          writes rows.rt and sequences.rt into crates/ip_pool/src/tests
+    write_pool_recordings.py          writes rows.rt and sequences.rt into crates/pool_trials/src
     write_pool_recordings.py --check  fails where one of them isn't what would be written
 
 Of hostlocal.json it takes the rows of the plugin's own tests, and recorded sequences of ADD and DEL. A sequence runs
@@ -20,7 +20,7 @@ from program import TOP
 from recorded import is_ipv6, recordings
 from written import settle
 
-TARGET = TOP / "crates/ip_pool/src/tests"
+TARGET = TOP / "crates/pool_trials/src"
 
 
 def bits_of(address):
@@ -114,9 +114,9 @@ def text_of(constant, what, made):
         "//! Left out:",
         *left_out,
         "",
-        "use super::Recording;",
+        "use crate::replay::Recording;",
         "",
-        f"pub(super) const {constant}: [Recording; {len(recordings)}] = [",
+        f"pub(crate) const {constant}: [Recording; {len(recordings)}] = [",
         *recordings,
         "];",
     ]

@@ -47,6 +47,3 @@ pub use read::{read_addr, read_cidr, read_mac};
 pub use ref_counted::RefCounted;
 pub use text::Text;
 pub use write::{write_addr, write_cidr, write_mac};
-
-#[cfg(test)]
-mod tests;

@@ -2,7 +2,8 @@
 
 ghost use Rattle.std.specs.Prelude.{◌≡◌, Err, option_map};
 ghost use Rattle.serde_json.specs.View.{view, items_view};
-ghost use Rattle.cni_json.specs.Fields.{field_map, member_at, of_kind, text_field, bool_field, u64_field, u32_field, u32_of, list_field, object_field, object_or};
+ghost use Rattle.cni_json.specs.Fields.{field_map, member_at, of_kind, text_field, bool_field, u64_field, u32_field};
+ghost use Rattle.cni_json.specs.Fields.{u32_of, list_field, object_field, object_or};
 ghost use Rattle.cni_json.specs.Outcome.{Gives};
 ghost use Rattle.cni_json.specs.Readers.{IsRefusal};
 

@@ -39,8 +39,6 @@ mod lists;
 mod members;
 mod reading;
 mod refusal;
-#[cfg(test)]
-mod tests;
 mod writing;
 
 pub use fields::{

@@ -3,7 +3,9 @@
 ghost use Rattle.std.specs.Prelude.{◌≡◌, ℕ, List, Bool, OnErr, OnOk, IfOk};
 ghost use Rattle.serde_json.specs.Data.{Data, boolean, object, no_members, put as with_member};
 ghost use Rattle.serde_json.specs.View.{view, members_view};
-ghost use Rattle.cni_json.specs.Members.{members_in, members_of, members_where, text_data, number_data, addr_data, cidr_data, mac_data, list_data, put_if, put_if_true, put_text_unless_empty, put_list_unless_empty, put_object_unless_empty};
+ghost use Rattle.cni_json.specs.Members.{members_in, members_of, members_where, text_data, number_data, addr_data};
+ghost use Rattle.cni_json.specs.Members.{cidr_data, mac_data, list_data, put_if, put_if_true, put_text_unless_empty};
+ghost use Rattle.cni_json.specs.Members.{put_list_unless_empty, put_object_unless_empty};
 ghost use Rattle.cni_json.specs.Readers.{IsKeyTest};
 
 use cni_addr::{Addr, Cidr, Mac, NoMemory, Text, write_addr, write_cidr, write_mac};

@@ -23,8 +23,6 @@ pub mod printing;
 pub mod reading;
 pub mod refusal;
 pub mod result;
-#[cfg(test)]
-mod tests;
 pub mod version;
 
 pub use cached::{Cached, PortMapping, Proto, proto_named, proto_text};

@@ -8,7 +8,8 @@ ghost use Rattle.cni_json.specs.Json.{line_of};
 ghost use Rattle.cni_result.specs.Laws.{IsReadable};
 ghost use Rattle.cni_result.specs.Mappings.{proto_data, mapping_data};
 ghost use Rattle.cni_result.specs.Reading.{result_of_bytes};
-ghost use Rattle.cni_result.specs.Results.{version_data, interface_data, ip_data, route_data, dns_members, result_members, result_data, error_data};
+ghost use Rattle.cni_result.specs.Results.{version_data, interface_data, ip_data, route_data, dns_members};
+ghost use Rattle.cni_result.specs.Results.{result_members, result_data, error_data};
 ghost use Rattle.cni_result.specs.Versions as told;
 
 use crate::cached::{PortMapping, Proto, proto_text};

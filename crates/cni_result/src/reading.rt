@@ -4,7 +4,8 @@ ghost use Rattle.std.specs.Prelude.{◌≡◌};
 ghost use Rattle.serde_json.specs.View.{view};
 ghost use Rattle.cni_json.specs.Json.{json_of};
 ghost use Rattle.cni_json.specs.Outcome.{Gives, GivesAs};
-ghost use Rattle.cni_result.specs.Reading.{version_at, is_on_one_of, are_on, indexes_at, result_at, read_or_refused, result_of_bytes};
+ghost use Rattle.cni_result.specs.Reading.{version_at, is_on_one_of, are_on, indexes_at, result_at, read_or_refused};
+ghost use Rattle.cni_result.specs.Reading.{result_of_bytes};
 ghost use Rattle.cni_result.specs.Refusals.{is_out_of_memory};
 
 use crate::dns::read_dns;

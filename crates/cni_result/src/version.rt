@@ -1,7 +1,8 @@
 //! Versions of the specification, by their texts, and what a result tells by its version.
 
 ghost use Rattle.std.specs.Prelude.{◌≡◌, Some, option_map};
-ghost use Rattle.cni_result.specs.Versions.{version_text, version_named, is_before_1_0, is_before_1_1, ip_version, ip_version_before_1_0, mtu_since_1_1};
+ghost use Rattle.cni_result.specs.Versions.{version_text, version_named, is_before_1_0, is_before_1_1, ip_version};
+ghost use Rattle.cni_result.specs.Versions.{ip_version_before_1_0, mtu_since_1_1};
 
 use cni_addr::Family;
 

@@ -39,8 +39,6 @@ mod free;
 pub mod laws;
 mod runs;
 mod step_count;
-#[cfg(test)]
-mod tests;
 
 pub use addr_runs::AddrRuns;
 pub use by_runs::{has_free_runs, pick_runs};

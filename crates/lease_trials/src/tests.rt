@@ -4,11 +4,12 @@ ghost use Rattle.std.specs.Prelude.{◌≡◌};
 ghost use Rattle.cni_addr.specs.declared.address.Family.TheVariants.{V4};
 
 use cni_addr::{Addr, Cidr, Family, NoMemory, RangeSet, RefCounted, Text};
+use cni_json::read;
 use cni_result::Version;
 use host_local::{given, ipam_result, lease_calls, release_kinds};
 use ip_pool::contains_candidate;
 use kernel_types::{Att, Call, Given, Kind};
-use net_conf::{First, HostLocalConf, NetList, read_list};
+use net_conf::{HostLocalConf, read_ipam};
 use std::alloc::Global;
 use std::test::Fail;
 
@@ -35,19 +36,15 @@ fn subnet(network: u32) -> Cidr
 
 /// Two sets, each from the address 2 to the address 9, by the gateway 1.
 const TWO_SETS: &str =
-    r#"{"cniVersion":"1.1.0","name":"podman","plugins":[{"type":"ptp","ipam":{"type":"host-local","ranges":[[{"subnet":"10.88.0.0/16","rangeStart":"10.88.0.2","rangeEnd":"10.88.0.9","gateway":"10.88.0.1"}],[{"subnet":"10.89.0.0/16","rangeStart":"10.89.0.2","rangeEnd":"10.89.0.9","gateway":"10.89.0.1"}]]}}]}"#;
+    r#"{"type":"host-local","ranges":[[{"subnet":"10.88.0.0/16","rangeStart":"10.88.0.2","rangeEnd":"10.88.0.9","gateway":"10.88.0.1"}],[{"subnet":"10.89.0.0/16","rangeStart":"10.89.0.2","rangeEnd":"10.89.0.9","gateway":"10.89.0.1"}]]}"#;
 
-fn two_sets(alloc: Global) -> Result<NetList, Fail> {
-    match read_list(alloc, TWO_SETS.as_bytes()) {
-        Ok(list) => Ok(list),
-        Err(_) => Err("a network list".into()),
-    }
-}
-
-fn ipam_of(list: &NetList) -> Option<&HostLocalConf> {
-    match &list.first {
-        First::Ptp(conf) => Some(&conf.ipam),
-        _ => None,
+fn two_sets(alloc: Global) -> Result<HostLocalConf, Fail> {
+    let Ok(value) = read(alloc, TWO_SETS.as_bytes()) else {
+        return Err("no JSON".into());
+    };
+    match read_ipam(alloc, &value) {
+        Ok(Some(conf)) => Ok(conf),
+        _ => Err("no addresses".into()),
     }
 }
 
@@ -95,12 +92,9 @@ fn leases_from_two(alloc: Global, conf: &HostLocalConf, att: &Att) -> Result<boo
 
 #[test]
 fn each_set_is_leased_from_once(rt: HostRuntime) -> Result<(), Fail> {
-    let list = two_sets(rt.alloc())?;
-    let Some(conf) = ipam_of(&list) else {
-        return Err("addresses".into());
-    };
+    let conf = two_sets(rt.alloc())?;
     let att = container(rt.alloc())?;
-    let both = leases_from_two(rt.alloc(), conf, &att)?;
+    let both = leases_from_two(rt.alloc(), &conf, &att)?;
     assert!(rt; both && release_kinds() == [Kind::Leases]);
     Ok(())
 }
@@ -121,13 +115,10 @@ fn given_by_first(conf: &HostLocalConf, addr: &Addr) -> Option<Given> {
 
 #[test]
 fn a_candidate_is_given(rt: HostRuntime) -> Result<(), Fail> {
-    let list = two_sets(rt.alloc())?;
-    let Some(conf) = ipam_of(&list) else {
-        return Err("addresses".into());
-    };
-    let one = given_by_first(conf, &address(TEN_88, 9));
+    let conf = two_sets(rt.alloc())?;
+    let one = given_by_first(&conf, &address(TEN_88, 9));
     assert!(rt; one == Some(means(TEN_88, 9)));
-    assert!(rt; given_by_first(conf, &address(TEN_88, 1)).is_none());
+    assert!(rt; given_by_first(&conf, &address(TEN_88, 1)).is_none());
     Ok(())
 }
 
@@ -144,11 +135,8 @@ fn gateways_for(
 
 #[test]
 fn a_given_address_has_the_gateway_of_its_range(rt: HostRuntime) -> Result<(), Fail> {
-    let list = two_sets(rt.alloc())?;
-    let Some(conf) = ipam_of(&list) else {
-        return Err("addresses".into());
-    };
-    let gateways = gateways_for(rt.alloc(), conf, means(TEN_88, 9))?;
+    let conf = two_sets(rt.alloc())?;
+    let gateways = gateways_for(rt.alloc(), &conf, means(TEN_88, 9))?;
     let meant = [Some(address(TEN_88, 1))];
     assert!(rt; gateways.as_slice() == meant.as_slice());
     Ok(())

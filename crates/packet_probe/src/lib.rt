@@ -34,8 +34,6 @@ mod kinds;
 pub mod packet;
 mod read;
 mod rule;
-#[cfg(test)]
-mod tests;
 
 pub use chains::fate;
 pub use error::PacketsError;

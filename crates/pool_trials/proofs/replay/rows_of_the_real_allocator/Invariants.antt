@@ -1,4 +1,4 @@
-use Rattle.ip_pool.proofs.tests.rows_of_the_real_allocator.Given as goal
+use Rattle.pool_trials.proofs.replay.rows_of_the_real_allocator.Given as goal
 
 -- the ledger is that of the blank
 abbrev pub ghosts-replay_all : goal.ghosts-replay_all

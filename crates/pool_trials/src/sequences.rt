@@ -10,9 +10,9 @@
 //! sequence 31, set 0 (IPv6);
 //! sequence 34, set 0 (IPv6);
 
-use super::Recording;
+use crate::replay::Recording;
 
-pub(super) const SEQUENCES: [Recording; 49] = [
+pub(crate) const SEQUENCES: [Recording; 49] = [
     Recording {
         name: "sequence 0, set 0",
         ranges: &[

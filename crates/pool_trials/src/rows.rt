@@ -4,9 +4,9 @@
 //! fresh start, IPv6 (IPv6);
 //! last out of range (its last address is no candidate);
 
-use super::Recording;
+use crate::replay::Recording;
 
-pub(super) const ROWS: [Recording; 16] = [
+pub(crate) const ROWS: [Recording; 16] = [
     Recording {
         name: "fresh start",
         ranges: &[(0x0a000001, 0x0a000006, 0x0a000001)],

@@ -1,8 +1,11 @@
-//! Values from outside, and each public call once.
+//! Addresses and networks of `cni_addr`, by texts and numbers from outside, and its texts and lists once.
 
 ghost use Rattle.std.specs.Prelude.{◌≡◌};
 
-use super::*;
+use cni_addr::{
+    Addr, Cidr, Duplicate, Family, Items, Mac, Text, contains, last_of, network_of, next_addr,
+    read_addr, read_cidr, read_mac, whole, write_addr, write_cidr, write_mac,
+};
 use std::test::Fail;
 
 fn v4(bits: u32) -> Addr {

@@ -1,6 +1,6 @@
-//! The rows for single calls: what is read, a member, and a line.
+//! Single calls of `cni_json`: what is read, a member, and a line.
 
-use crate::{Field, ReadEnd, field_u64, line, line_text, members_where, read};
+use cni_json::{Field, ReadEnd, field_u64, line, line_text, members_where, read};
 use std::alloc::Global;
 use std::test::Fail;
 

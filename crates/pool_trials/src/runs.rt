@@ -2,9 +2,9 @@
 
 ghost use Rattle.std.specs.Prelude.{◌≡◌, ◌<◌};
 
-use super::addr;
-use crate::{AddrRuns, Steps, are_apart, contains_candidate, has_free_runs, pick_runs};
+use crate::choice::addr;
 use cni_addr::{Addr, NoMemory, RangeSet};
+use ip_pool::{AddrRuns, Steps, are_apart, contains_candidate, has_free_runs, pick_runs};
 use std::alloc::Global;
 use std::marker::Brand;
 use std::process::Abort;
@@ -12,7 +12,7 @@ use std::sync::ledger::{Blank, Ledger};
 use std::test::Fail;
 
 /// Adds an address, unless it is there.
-pub(super) fn add_new<L: Ledger>(
+pub(crate) fn add_new<L: Ledger>(
     runs: &mut AddrRuns,
     addr: &Addr,
     steps: &mut Steps<L>,
@@ -25,7 +25,7 @@ pub(super) fn add_new<L: Ledger>(
 }
 
 /// The choice from runs, where its conditions hold.
-pub(super) fn pick_runs_in<L: Ledger>(
+pub(crate) fn pick_runs_in<L: Ledger>(
     rt: &impl Abort,
     set: &RangeSet,
     last: Option<Addr>,

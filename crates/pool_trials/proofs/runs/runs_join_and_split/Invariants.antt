@@ -1,4 +1,4 @@
-use Rattle.ip_pool.proofs.tests.runs.runs_join_and_split.Given as goal
+use Rattle.pool_trials.proofs.runs.runs_join_and_split.Given as goal
 
 -- the ledger is that of the blank
 abbrev pub ghosts-join_and_split : goal.ghosts-join_and_split

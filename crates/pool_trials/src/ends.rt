@@ -2,9 +2,10 @@
 
 ghost use Rattle.std.specs.Prelude.{◌≡◌, ◌<◌};
 
-use super::{Replay, addr, range};
-use crate::{AddrRuns, Steps};
+use crate::choice::{addr, range};
+use crate::replay::Replay;
 use cni_addr::{Addr, Cidr, Family, Items, NoMemory, Range, RangeSet};
+use ip_pool::{AddrRuns, Steps};
 use std::alloc::Global;
 use std::marker::Brand;
 use std::process::Abort;

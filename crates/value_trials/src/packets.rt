@@ -1,9 +1,9 @@
 //! What no program calls beside its twin: the fate of a packet by a host's rules and by the ruleset of them.
 
-use crate::{Fate, Packet, Ruleset, fate, read_packets};
 use cni_addr::{Addr, Cidr, Items, RefCounted, read_addr, read_cidr};
 use cni_result::Proto;
 use kernel_types::{Chain, Host, Rule, Table, Tag, Target, opening_with};
+use packet_probe::{Fate, Packet, Ruleset, fate, read_packets};
 use std::alloc::Global;
 use std::test::Fail;
 

@@ -1,4 +1,4 @@
-use Rattle.ip_pool.proofs.tests.ends.a_pool_reaches_the_last_address.Given as goal
+use Rattle.pool_trials.proofs.ends.a_pool_is_large.Given as goal
 
 -- the ledger is that of the blank
 abbrev pub ghosts-lease_in_turn : goal.ghosts-lease_in_turn

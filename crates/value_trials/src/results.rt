@@ -1,6 +1,6 @@
-//! The calls that no program makes: a result is read, and printed as one line.
+//! The calls of `cni_result` that no program makes: a result is read, and printed as one line.
 
-use crate::{ResultError, read_result, result_line};
+use cni_result::{ResultError, read_result, result_line};
 use std::alloc::Global;
 use std::test::Fail;
 

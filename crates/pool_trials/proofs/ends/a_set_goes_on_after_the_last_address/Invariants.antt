@@ -1,4 +1,4 @@
-use Rattle.ip_pool.proofs.tests.ends.families_share_no_address.Given as goal
+use Rattle.pool_trials.proofs.ends.a_set_goes_on_after_the_last_address.Given as goal
 
 -- the ledger is that of the blank
 abbrev pub ghosts-lease_in_turn : goal.ghosts-lease_in_turn
