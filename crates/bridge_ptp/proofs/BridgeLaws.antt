@@ -35,14 +35,16 @@ bridge-before conf att netns = record {
 -- ---- after them
 
 fit-gateways : (conf : BridgeConf) (att : Att) (netns : List ℕ) (given : List Given)
-    → list_all (fits (bridge_kinds_of conf) (veth_links att netns (Some conf.bridge) conf.mtu (hairpin conf.mode)) (Some conf.bridge) att netns) (gateway_calls conf given) ≡ true
+    → list_all (fits (bridge_kinds_of conf) (veth_links att netns (Some conf.bridge) conf.mtu (hairpin conf.mode))
+    (Some conf.bridge) att netns) (gateway_calls conf given) ≡ true
 fit-gateways conf att netns given =
     let ks = bridge_kinds_of conf in
     let links = veth_links att netns (Some conf.bridge) conf.mtu (hairpin conf.mode) in
     let p = fits ks links (Some conf.bridge) att netns in
     list_all-if p (is_gateway conf.gateway) (map gateway_call (gateways_on conf.bridge given) ++ forward_calls given)
     (list_all-append p (map gateway_call (gateways_on conf.bridge given)) (forward_calls given)
-    (passes-once p gateway_call is_same_gateway (gateway_of conf.bridge) (λ g. fits-gateway ks links (Some conf.bridge) att netns conf.bridge (nat_list_eq_equiv.refl conf.bridge) (gateway_of conf.bridge g).cidr) given)
+    (passes-once p gateway_call is_same_gateway (gateway_of conf.bridge) (λ g. fits-gateway ks links (Some conf.bridge)
+    att netns conf.bridge (nat_list_eq_equiv.refl conf.bridge) (gateway_of conf.bridge g).cidr) given)
     (fit-forward ks links (Some conf.bridge) att netns given))
 
 bridge-after : (conf : BridgeConf) (att : Att) (netns : List ℕ) (given : List Given)
@@ -56,8 +58,10 @@ bridge-after conf att netns given =
     let routes = map RouteAdd (routes_on att netns given (bridge_entries conf given)) in
     let rules = map RuleAppend (masquerade_rules conf.ip_masq att given) in
     calls-after (bridge_plugin conf) att netns given
-    (list_all-append p (map AddrAdd (addresses_on att netns given)) (routes ++ (gateway_calls conf given ++ rules)) (fit-addresses ks links o att netns given refl inner)
-    (list_all-append p routes (gateway_calls conf given ++ rules) (fit-routes ks links o att netns given (bridge_entries conf given) refl inner)
+    (list_all-append p (map AddrAdd (addresses_on att netns given)) (routes ++ (gateway_calls conf given ++ rules))
+    (fit-addresses ks links o att netns given refl inner)
+    (list_all-append p routes (gateway_calls conf given ++ rules)
+    (fit-routes ks links o att netns given (bridge_entries conf given) refl inner)
     (list_all-append p (gateway_calls conf given) rules (fit-gateways conf att netns given)
     (fit-masquerades ks links o att netns given conf.ip_masq (interface_kinds-rules conf.ip_masq conf.ipam)))))
 
@@ -76,8 +80,11 @@ length-bridge_routes : (b : Bool) (routes : List RouteEntry) (ips : List IpEntry
 length-bridge_routes b routes ips =
     let v4 = length-added b routes (first_of_family V4 ips) in
     let v6 = length-added b routes (first_of_family V6 ips) in
-    let both = length-append (added_default b routes (first_of_family V4 ips)) (added_default b routes (first_of_family V6 ips)) in
-    let all = length-append routes (added_default b routes (first_of_family V4 ips) ++ added_default b routes (first_of_family V6 ips)) in
+    let both =
+    length-append (added_default b routes (first_of_family V4 ips)) (added_default b routes (first_of_family V6 ips)) in
+    let all =
+    length-append routes
+    (added_default b routes (first_of_family V4 ips) ++ added_default b routes (first_of_family V6 ips)) in
     omega arith
 
 length-gateways : (conf : BridgeConf) (gs : List Given) → length (gateway_calls conf gs) ≤ length gs + 2
@@ -91,7 +98,8 @@ length-gateways conf gs =
     length-if (is_gateway conf.gateway) (asked ++ forward_calls gs) (length gs + 2) (omega arith)
 
 bridge-few : (conf : BridgeConf) (att : Att) (netns : List ℕ) (gs : List Given) (leases : ℕ) → length gs ≤ leases
-    → length (bridge_calls_after conf att netns gs) ≤ leases + (length (routes_of conf.ipam) + 2) + (leases + 2) + 2 * leases
+    → length (bridge_calls_after conf att netns gs)
+    ≤ leases + (length (routes_of conf.ipam) + 2) + (leases + 2) + 2 * leases
 bridge-few conf att netns gs leases few =
     let entries = bridge_routes (is_default conf.gateway) (routes_of conf.ipam) (map ip_of gs) in
     let addresses = map AddrAdd (addresses_on att netns gs) in
@@ -116,7 +124,8 @@ bridge_laws conf = record {
   inner = λ att netns. veth-inner att netns (Some conf.bridge) conf.mtu (hairpin conf.mode);
   under = λ att netns. refl;
   over = λ att netns. refl;
-  adds_before = λ att netns s. sym (share_plus-links s (veth_links att netns (Some conf.bridge) conf.mtu (hairpin conf.mode)));
+  adds_before =
+      λ att netns s. sym (share_plus-links s (veth_links att netns (Some conf.bridge) conf.mtu (hairpin conf.mode)));
   adds_after = share-bridge_after conf;
   takes_links = refl;
   takes_leases = interface_kinds-leases conf.ip_masq conf.ipam;

@@ -30,7 +30,8 @@ ptp-before conf att netns = record {
 -- ---- after them
 
 fit-pair : (conf : PtpConf) (att : Att) (netns : List ℕ) (g : Given)
-    → list_all (λ x. fits (ptp_kinds_of conf) (veth_links att netns None conf.mtu false) None att netns (call_for x)) (ptp_objects_for att netns g) ≡ true
+    → list_all (λ x. fits (ptp_kinds_of conf) (veth_links att netns None conf.mtu false) None att netns (call_for x))
+    (ptp_objects_for att netns g) ≡ true
 fit-pair conf att netns g =
     let ks = ptp_kinds_of conf in
     let links = veth_links att netns None conf.mtu false in
@@ -41,10 +42,12 @@ fit-pair conf att netns g =
     let to_subnet = fits-route ks links None att netns (inner_key att netns) refl inner g.subnet (Some g.gateway) in
     let gateway = fits-address ks links None att netns (host_key att) refl outer (whole g.gateway) in
     let back = fits-route ks links None att netns (host_key att) refl outer (whole g.address.addr) None in
-    and_from _ _ address (and_from _ _ to_gateway (and_from _ _ to_subnet (and_from _ _ gateway (and_from _ _ back refl))))
+    and_from _ _ address
+    (and_from _ _ to_gateway (and_from _ _ to_subnet (and_from _ _ gateway (and_from _ _ back refl))))
 
 fit-objects : (conf : PtpConf) (att : Att) (netns : List ℕ) (given : List Given)
-    → list_all (fits (ptp_kinds_of conf) (veth_links att netns None conf.mtu false) None att netns) (map call_for (ptp_objects conf att netns given)) ≡ true
+    → list_all (fits (ptp_kinds_of conf) (veth_links att netns None conf.mtu false) None att netns)
+    (map call_for (ptp_objects conf att netns given)) ≡ true
 fit-objects conf att netns given =
     let ks = ptp_kinds_of conf in
     let links = veth_links att netns None conf.mtu false in
@@ -55,7 +58,9 @@ fit-objects conf att netns given =
     list_all-mapped p call_for q (λ x h. h) (ptp_objects conf att netns given)
     (list_all-each_key_once q same_key (pairs ++ routes)
     (list_all-append q pairs routes (list_all-flat q (ptp_objects_for att netns) (fit-pair conf att netns) given)
-    (list_all-every q (λ r. Route (route_on att netns given r)) (λ r. fits-route ks links None att netns (inner_key att netns) refl (veth-inner att netns None conf.mtu false) r.dst (gateway_for given r)) conf.ipam.routes)))
+    (list_all-every q (λ r. Route (route_on att netns given r)) (λ r. fits-route ks links None att netns
+    (inner_key att netns) refl (veth-inner att netns None conf.mtu false) r.dst (gateway_for given r))
+    conf.ipam.routes)))
 
 ptp-after : (conf : PtpConf) (att : Att) (netns : List ℕ) (given : List Given)
     → AreCallsAfter (ptp_plugin conf) att netns given
@@ -65,7 +70,8 @@ ptp-after conf att netns given =
     let p = fits ks links None att netns in
     let rules = map RuleAppend (masquerade_rules conf.ip_masq att given) in
     calls-after (ptp_plugin conf) att netns given
-    (list_all-append p (map call_for (ptp_objects conf att netns given)) (forward_calls given ++ rules) (fit-objects conf att netns given)
+    (list_all-append p (map call_for (ptp_objects conf att netns given)) (forward_calls given ++ rules)
+    (fit-objects conf att netns given)
     (list_all-append p (forward_calls given) rules (fit-forward ks links None att netns given)
     (fit-masquerades ks links None att netns given conf.ip_masq (interface_kinds-rules conf.ip_masq (Some conf.ipam)))))
 

@@ -25,11 +25,13 @@ share-gateways : (conf : BridgeConf) (given : List Given) (s : Share)
 share-gateways conf given s =
     let asked = map gateway_call (gateways_on conf.bridge given) in
     share_after_calls-if s (is_gateway conf.gateway) (asked ++ forward_calls given)
-    (share_after_calls-then s s s asked (forward_calls given) (share-asked s (gateways_on conf.bridge given)) (share_after_calls-forward s given))
+    (share_after_calls-then s s s asked (forward_calls given) (share-asked s (gateways_on conf.bridge given))
+    (share_after_calls-forward s given))
 
 -- what the calls after the leases add to a share
 pub share-bridge_after : (conf : BridgeConf) (att : Att) (netns : List ℕ) (given : List Given) (s : Share)
-    → share_after_calls s (bridge_calls_after conf att netns given) ≡ share_plus s (added_after (bridge_plugin conf) att netns given)
+    → share_after_calls s (bridge_calls_after conf att netns given)
+    ≡ share_plus s (added_after (bridge_plugin conf) att netns given)
 share-bridge_after conf att netns given s =
     share-laid_on s (addresses_on att netns given) (routes_on att netns given (bridge_entries conf given))
     (gateway_calls conf given) (masquerade_rules conf.ip_masq att given) (share-gateways conf given)
@@ -38,23 +40,29 @@ share-bridge_after conf att netns given s =
 -- ---- ptp
 
 share-objects : (s : Share) (xs : List AddressOrRoute)
-    → share_after_calls s (map call_for xs) ≡ record s { addresses = s.addresses ++ filter_map address_in xs; routes = s.routes ++ filter_map route_in xs }
+    → share_after_calls s (map call_for xs)
+    ≡ record s { addresses = s.addresses ++ filter_map address_in xs; routes = s.routes ++ filter_map route_in xs }
 share-objects s [] = rw (append-nil s.addresses, append-nil s.routes) refl
 share-objects s (Address x ∷ xs) =
     share-objects (share_after_call s (AddrAdd x)) xs
-    ∙ ap (λ l. record s { addresses = l; routes = s.routes ++ filter_map route_in xs }) (append_assoc s.addresses (x ∷ []) (filter_map address_in xs))
+    ∙ ap (λ l. record s { addresses = l; routes = s.routes ++ filter_map route_in xs })
+    (append_assoc s.addresses (x ∷ []) (filter_map address_in xs))
 share-objects s (Route x ∷ xs) =
     share-objects (share_after_call s (RouteAdd x)) xs
-    ∙ ap (λ l. record s { addresses = s.addresses ++ filter_map address_in xs; routes = l }) (append_assoc s.routes (x ∷ []) (filter_map route_in xs))
+    ∙ ap (λ l. record s { addresses = s.addresses ++ filter_map address_in xs; routes = l })
+    (append_assoc s.routes (x ∷ []) (filter_map route_in xs))
 
 -- what the calls after the leases add to a share
 pub share-ptp_after : (conf : PtpConf) (att : Att) (netns : List ℕ) (given : List Given) (s : Share)
-    → share_after_calls s (ptp_calls_after conf att netns given) ≡ share_plus s (added_after (ptp_plugin conf) att netns given)
+    → share_after_calls s (ptp_calls_after conf att netns given)
+    ≡ share_plus s (added_after (ptp_plugin conf) att netns given)
 share-ptp_after conf att netns given s =
     let xs = ptp_objects conf att netns given in
     let rules = masquerade_rules conf.ip_masq att given in
-    let with_xs : Share = record s { addresses = s.addresses ++ filter_map address_in xs; routes = s.routes ++ filter_map route_in xs } in
+    let with_xs : Share =
+    record s { addresses = s.addresses ++ filter_map address_in xs; routes = s.routes ++ filter_map route_in xs } in
     let with_all : Share = record with_xs { rules = s.rules ++ rules } in
-    share_after_calls-then s with_xs with_all (map call_for xs) (forward_calls given ++ map RuleAppend rules) (share-objects s xs)
+    share_after_calls-then s with_xs with_all (map call_for xs) (forward_calls given ++ map RuleAppend rules)
+    (share-objects s xs)
     (share_after_calls-shared_rules with_xs (forward_calls given) rules (λ t. share_after_calls-forward t given))
     ∙ sym (share_plus-laid_on s _ _ _)

@@ -33,7 +33,8 @@ or_some (Some y) p x e = inl e
 -- a whole text that is dotted
 whole_dotted : (text octets : List ℕ) → IsDotted text octets → whole_value (read_ipv4 text) ≡ Some octets
 whole_dotted text octets h =
-    let read : read_ipv4 text ≡ Some (octets, []) = subst (λ t. read_ipv4 t ≡ Some (octets, [])) (append-nil text) (read_ipv4_complete text octets [] h (lit≤ tt)) in
+    let read : read_ipv4 text ≡ Some (octets, []) =
+    subst (λ t. read_ipv4 t ≡ Some (octets, [])) (append-nil text) (read_ipv4_complete text octets [] h (lit≤ tt)) in
     ap (λ (r : Read (List ℕ)). whole_value r) read
 
 dotted_whole : (text octets : List ℕ) → whole_value (read_ipv4 text) ≡ Some octets → IsDotted text octets
@@ -45,27 +46,34 @@ dotted_whole text octets e =
 pub read_dotted : (text octets : List ℕ) → IsDotted text octets → addr_of_text text ≡ Some (address_of_octets octets)
 unfolding addr_of_text
 read_dotted text octets h =
-    ap (λ (o : Option (List ℕ)). option_or (option_map address_of_octets o) (option_map address_of_groups (whole_value (read_ipv6 text)))) (whole_dotted text octets h)
+    ap (λ (o : Option (List ℕ)).
+    option_or (option_map address_of_octets o) (option_map address_of_groups (whole_value (read_ipv6 text))))
+    (whole_dotted text octets h)
 
 -- and so is one of groups, which is not dotted
 pub read_groups : (text groups : List ℕ) → IsColonHex text groups → addr_of_text text ≡ Some (address_of_groups groups)
 unfolding addr_of_text
 read_groups text groups h =
-    let apart : whole_value (read_ipv4 text) ≡ None = none_of (whole_value (read_ipv4 text)) (λ octets e. IsDotted-not_colon_hex text octets groups (dotted_whole text octets e) h) in
-    ap (λ (o : Option (List ℕ)). option_or (option_map address_of_octets o) (option_map address_of_groups (whole_value (read_ipv6 text)))) apart
+    let apart : whole_value (read_ipv4 text) ≡ None =
+    none_of (whole_value (read_ipv4 text))
+    (λ octets e. IsDotted-not_colon_hex text octets groups (dotted_whole text octets e) h) in
+    ap (λ (o : Option (List ℕ)).
+    option_or (option_map address_of_octets o) (option_map address_of_groups (whole_value (read_ipv6 text)))) apart
     ∙ ap (λ (o : Option (List ℕ)). option_map address_of_groups o) (whole_groups text groups h)
 
 -- ---- the grammar, both ways
 
 -- each of four octets makes a number of 32 bits
-octets_fit : (a b c d : ℕ) → (a < 256) × (b < 256) × (c < 256) × (d < 256) → from_be_bytes w32 (a ∷ b ∷ c ∷ d ∷ []) < 2 ^ 32
+octets_fit : (a b c d : ℕ) → (a < 256) × (b < 256) × (c < 256) × (d < 256)
+    → from_be_bytes w32 (a ∷ b ∷ c ∷ d ∷ []) < 2 ^ 32
 octets_fit a b c d h = omega (arith, h.0, h.1, h.2, h.3)
 
 -- what is dotted is spelled
 pub dotted_is_spelled : (text octets : List ℕ) → IsDotted text octets → IsAddrText text (address_of_octets octets)
 dotted_is_spelled text octets h =
     let small : (i : ℕ) → get_or octets i 0 < 256 = λ i. rw h.value (octet_fits h.a h.b h.c h.d i h.fit) in
-    let back : to_be_bytes w32 (from_be_bytes w32 octets) ≡ octets = be_bytes_4 octets (from_be_bytes w32 octets) (ap length h.value) small refl in
+    let back : to_be_bytes w32 (from_be_bytes w32 octets) ≡ octets =
+    be_bytes_4 octets (from_be_bytes w32 octets) (ap length h.value) small refl in
     record {
       fits = record { within = rw h.value (octets_fit h.a h.b h.c h.d h.fit) };
       spelled = subst (IsDotted text) (sym back) h;
@@ -81,11 +89,14 @@ groups_are_spelled text groups h =
     }
 
 -- what is spelled of a family is read
-spelled_of : (text : List ℕ) (family : Family) (bits : ℕ) → bits < bits_below family → Spells text family bits → addr_of_text text ≡ Some (record { family = family; bits = bits })
+spelled_of : (text : List ℕ) (family : Family) (bits : ℕ) → bits < bits_below family → Spells text family bits
+    → addr_of_text text ≡ Some (record { family = family; bits = bits })
 spelled_of text V4 bits within h =
-    read_dotted text (to_be_bytes w32 bits) h ∙ ap (λ n. Some (record { family = V4; bits = n })) (from_be_bytes-to_be_bytes_4 bits within)
+    read_dotted text (to_be_bytes w32 bits) h
+    ∙ ap (λ n. Some (record { family = V4; bits = n })) (from_be_bytes-to_be_bytes_4 bits within)
 spelled_of text V6 bits within h =
-    read_groups text (segments_of (to_be_bytes w128 bits)) h ∙ ap (λ n. Some (record { family = V6; bits = n })) (number_of_groups bits within)
+    read_groups text (segments_of (to_be_bytes w128 bits)) h
+    ∙ ap (λ n. Some (record { family = V6; bits = n })) (number_of_groups bits within)
 
 -- what is spelled is read
 pub spelled_is_read : (text : List ℕ) (a : AddrValue) → IsAddrText text a → addr_of_text text ≡ Some a
@@ -95,7 +106,8 @@ spelled_is_read text a h = spelled_of text a.family a.bits h.fits.within h.spell
 pub read_is_spelled : (text : List ℕ) (a : AddrValue) → addr_of_text text ≡ Some a → IsAddrText text a
 unfolding addr_of_text
 read_is_spelled text a e =
-    elim (or_some (option_map address_of_octets (whole_value (read_ipv4 text))) (option_map address_of_groups (whole_value (read_ipv6 text))) a e) [
+    elim (or_some (option_map address_of_octets (whole_value (read_ipv4 text)))
+    (option_map address_of_groups (whole_value (read_ipv6 text))) a e) [
       | inl four ↦
           map_some address_of_octets (whole_value (read_ipv4 text)) a four λ octets found is.
           subst (λ b. IsAddrText text b) is (dotted_is_spelled text octets (dotted_whole text octets found))
@@ -105,24 +117,32 @@ read_is_spelled text a e =
     ]
 
 -- nothing is read where nothing is spelled
-pub none_spelled : (text : List ℕ) → ((octets : List ℕ) → IsDotted text octets → ⊥) → ((groups : List ℕ) → IsColonHex text groups → ⊥) → addr_of_text text ≡ None
+pub none_spelled : (text : List ℕ) → ((octets : List ℕ) → IsDotted text octets → ⊥)
+    → ((groups : List ℕ) → IsColonHex text groups → ⊥) → addr_of_text text ≡ None
 unfolding addr_of_text
 none_spelled text no_octets no_groups =
-    let four : whole_value (read_ipv4 text) ≡ None = none_of (whole_value (read_ipv4 text)) (λ octets e. no_octets octets (dotted_whole text octets e)) in
-    let six : whole_value (read_ipv6 text) ≡ None = none_of (whole_value (read_ipv6 text)) (λ groups e. no_groups groups (groups_whole text groups e)) in
-    ap (λ (o : Option (List ℕ)). option_or (option_map address_of_octets o) (option_map address_of_groups (whole_value (read_ipv6 text)))) four
+    let four : whole_value (read_ipv4 text) ≡ None =
+    none_of (whole_value (read_ipv4 text)) (λ octets e. no_octets octets (dotted_whole text octets e)) in
+    let six : whole_value (read_ipv6 text) ≡ None =
+    none_of (whole_value (read_ipv6 text)) (λ groups e. no_groups groups (groups_whole text groups e)) in
+    ap (λ (o : Option (List ℕ)).
+    option_or (option_map address_of_octets o) (option_map address_of_groups (whole_value (read_ipv6 text)))) four
     ∙ ap (λ (o : Option (List ℕ)). option_map address_of_groups o) six
 
 -- ---- what is written
 
 -- an octet that is written fits
 written_small : (n k : ℕ) → get_or (to_be_bytes w32 n) k 0 < 2 ^ 8
-written_small n k = octet_fits (n / 16777216 % 256) (n / 65536 % 256) (n / 256 % 256) (n % 256) k (omega arith, omega arith, omega arith, omega arith)
+written_small n k =
+    octet_fits (n / 16777216 % 256) (n / 65536 % 256) (n / 256 % 256) (n % 256) k
+    (omega arith, omega arith, omega arith, omega arith)
 
 -- what is written of a family is spelled
 written_of : (family : Family) (bits : ℕ) → Spells (bits_text family bits) family bits
 written_of V4 bits = IsDotted-ipv4_text (to_be_bytes w32 bits) refl (λ k. written_small bits k)
-written_of V6 bits = IsColonHex-hex_groups_text (segments_of (to_be_bytes w128 bits)) refl (AllSegments-segments_of (to_be_bytes w128 bits) (AllOctets-number 16 bits))
+written_of V6 bits =
+    IsColonHex-hex_groups_text (segments_of (to_be_bytes w128 bits)) refl
+    (AllSegments-segments_of (to_be_bytes w128 bits) (AllOctets-number 16 bits))
 
 -- what is written is spelled
 pub written_is_spelled : (a : AddrValue) → IsAddr a → IsAddrText (addr_text a) a
@@ -130,7 +150,8 @@ unfolding addr_text
 written_is_spelled a kept = record { fits = kept; spelled = written_of a.family a.bits }
 
 -- what is written of an address, whose parts are known by other names
-pub written_bits : (a addr : AddrValue) (family : Family) → a ≡ addr → a.family ≡ family → bits_text family a.bits ≡ addr_text addr
+pub written_bits : (a addr : AddrValue) (family : Family) → a ≡ addr → a.family ≡ family
+    → bits_text family a.bits ≡ addr_text addr
 unfolding addr_text
 written_bits a addr family same is = ap (λ f. bits_text f a.bits) (sym is) ∙ ap addr_text same
 

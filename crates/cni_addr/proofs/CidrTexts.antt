@@ -22,7 +22,8 @@ use Rattle.cni_addr.proofs.{GroupTexts.{whole_some, IsPlain}, Networks.{at_prefi
 pub read_decimal : (n : ℕ) → n < 256 → prefix_of_text (decimal n) ≡ Some n
 unfolding prefix_of_text
 read_decimal n fits =
-    let read : read_octet (decimal n) ≡ Some (n, []) = subst (λ t. read_octet t ≡ Some (n, [])) (append-nil (decimal n)) (read_octet_complete n [] fits (lit≤ tt)) in
+    let read : read_octet (decimal n) ≡ Some (n, []) =
+    subst (λ t. read_octet t ≡ Some (n, [])) (append-nil (decimal n)) (read_octet_complete n [] fits (lit≤ tt)) in
     ap (λ (r : Read ℕ). whole_value r) read
 
 -- what is read is a number, in decimal
@@ -62,12 +63,15 @@ plain_decimal n fits =
     ]
 
 -- what `parse` gives of a plain text
-pub parsed_plain : {E : Type 0} (text : List ℕ) (r : Result ℕ E) → begins_plainly text ≡ true → ParsesUnsigned 8 10 text r → result_ok r ≡ prefix_of_text text
+pub parsed_plain : {E : Type 0} (text : List ℕ) (r : Result ℕ E) → begins_plainly text ≡ true
+    → ParsesUnsigned 8 10 text r → result_ok r ≡ prefix_of_text text
 parsed_plain text (Ok n) plain h =
     let bare = without_leading_plus_none text (unsigned text plain) in
     let (number, fits) = subst (λ t. IsNumeral 10 t × (digits_value 10 t < 2 ^ 8)) bare h.0 in
     let value = subst (λ t. n ≡ digits_value 10 t) bare h.1 in
-    let spelled = decimal-digits_value (numerals_by_value _ tells_digits) text number.1 number.0 (unpadded text plain) (omega arith) in
+    let spelled =
+    decimal-digits_value (numerals_by_value _ tells_digits) text number.1 number.0 (unpadded text plain)
+    (omega arith) in
     ap Some value ∙ sym (read_decimal (digits_value 10 text) (omega arith)) ∙ ap prefix_of_text spelled
 parsed_plain text (Err e) plain h =
     sym (none_decimal text λ n fits is.
@@ -76,16 +80,19 @@ parsed_plain text (Err e) plain h =
 
 -- a text that is no UTF-8 is no number's
 pub none_unless_utf8 : (text : List ℕ) → ¬ (IsUtf8 text) → prefix_of_text text ≡ None
-none_unless_utf8 text not_text = none_decimal text λ n fits is. not_text (rw is (IsUtf8-from_ascii (decimal n) (IsAscii-decimal n (omega arith))))
+none_unless_utf8 text not_text =
+    none_decimal text λ n fits is. not_text (rw is (IsUtf8-from_ascii (decimal n) (IsAscii-decimal n (omega arith))))
 
 -- nor is one that is not plain
 pub none_unless_plain : (text : List ℕ) → begins_plainly text ≡ false → prefix_of_text text ≡ None
-none_unless_plain text not_plain = none_decimal text λ n fits is. cc (sym not_plain ∙ ap begins_plainly is ∙ plain_decimal n fits)
+none_unless_plain text not_plain =
+    none_decimal text λ n fits is. cc (sym not_plain ∙ ap begins_plainly is ∙ plain_decimal n fits)
 
 -- ---- the parts of a network's text
 
 -- where a list has a first element that passes
-found_at : {A : Type 0} (p : A → Bool) (xs : List A) (i : ℕ) → Some i ≡ position p xs → (i ≡ position_or_len p xs) × (i < length xs)
+found_at : {A : Type 0} (p : A → Bool) (xs : List A) (i : ℕ) → Some i ≡ position p xs
+    → (i ≡ position_or_len p xs) × (i < length xs)
 found_at p xs i e =
     let (test, same) = cond_some _ _ _ (sym e) in
     (sym same, let within = ltb-true (position_or_len p xs) (length xs) test in omega arith)
@@ -127,25 +134,31 @@ pub read_parts : (text : List ℕ) (i : ℕ) (addr : Option AddrValue) (prefix :
 unfolding cidr_of_text
 read_parts text i addr prefix e is_addr is_prefix =
     let (place, within) = found_at is_slash text i e in
-    let rest : take (length text - (i + 1)) (drop (i + 1) text) ≡ drop (i + 1) text = take_all _ (drop (i + 1) text) (omega (arith, length-drop (i + 1) text)) in
+    let rest : take (length text - (i + 1)) (drop (i + 1) text) ≡ drop (i + 1) text =
+    take_all _ (drop (i + 1) text) (omega (arith, length-drop (i + 1) text)) in
     ap₂ cidr_of_parts is_addr (is_prefix ∙ ap prefix_of_text rest)
     ∙ ap₂ (λ (j k : ℕ). cidr_of_parts (addr_of_text (take j text)) (prefix_of_text (drop (k + 1) text))) place place
 
 -- a prefix that the family has
-pub fitting_prefix : (a : AddrValue) (prefix : ℕ) → prefix ≤ longest_prefix a.family → Some (record { addr = a; prefix = prefix }) ≡ with_prefix a prefix
-fitting_prefix a prefix fits = sym (ap (λ b. if b then Some (at_prefix prefix a) else None) (le-leb prefix (longest_prefix a.family) fits))
+pub fitting_prefix : (a : AddrValue) (prefix : ℕ) → prefix ≤ longest_prefix a.family
+    → Some (record { addr = a; prefix = prefix }) ≡ with_prefix a prefix
+fitting_prefix a prefix fits =
+    sym (ap (λ b. if b then Some (at_prefix prefix a) else None) (le-leb prefix (longest_prefix a.family) fits))
 
 -- and one that it has not
 pub long_prefix : (a : AddrValue) (prefix : ℕ) → longest_prefix a.family < prefix → None ≡ with_prefix a prefix
-long_prefix a prefix long = sym (ap (λ b. if b then Some (at_prefix prefix a) else None) (lt-leb prefix (longest_prefix a.family) long))
+long_prefix a prefix long =
+    sym (ap (λ b. if b then Some (at_prefix prefix a) else None) (lt-leb prefix (longest_prefix a.family) long))
 
 -- ---- what is written
 
 -- the text of a network, whose parts are known by other names
-pub written_parts : (c : CidrValue) (addr : AddrValue) (prefix : ℕ) (text : List ℕ) → at_prefix prefix addr ≡ c → text ≡ addr_text addr → text ++ 47 ∷ decimal prefix ≡ cidr_text c
+pub written_parts : (c : CidrValue) (addr : AddrValue) (prefix : ℕ) (text : List ℕ) → at_prefix prefix addr ≡ c
+    → text ≡ addr_text addr → text ++ 47 ∷ decimal prefix ≡ cidr_text c
 unfolding cidr_text
 written_parts c addr prefix text parts is =
-    let here : text ++ 47 ∷ decimal prefix ≡ cidr_text (at_prefix prefix addr) = ap (λ t. t ++ 47 ∷ decimal prefix) is in
+    let here : text ++ 47 ∷ decimal prefix ≡ cidr_text (at_prefix prefix addr) =
+    ap (λ t. t ++ 47 ∷ decimal prefix) is in
     here ∙ ap cidr_text parts
 
 -- ---- the grammar, both ways
@@ -155,15 +168,18 @@ pub spelled_is_cidr : (text : List ℕ) (c : CidrValue) → IsCidrText text c �
 spelled_is_cidr text c h = record { addr = h.address_spelled.fits; prefix = h.fits }
 
 -- the text of an address has no slash
-no_slash : (text : List ℕ) (a : AddrValue) → IsAddrText text a → (k : ℕ) → k < length text → is_slash (get_or text k 0) ≡ false
+no_slash : (text : List ℕ) (a : AddrValue) → IsAddrText text a → (k : ℕ) → k < length text
+    → is_slash (get_or text k 0) ≡ false
 no_slash text a h k within = All-get_or IsPlain text k 0 within (address_plain text a h)
 
 -- the first slash, where none stands before it
-slash_place : (front rest : List ℕ) → ((k : ℕ) → k < length front → is_slash (get_or front k 0) ≡ false) → position_or_len is_slash (front ++ slash ∷ rest) ≡ length front
+slash_place : (front rest : List ℕ) → ((k : ℕ) → k < length front → is_slash (get_or front k 0) ≡ false)
+    → position_or_len is_slash (front ++ slash ∷ rest) ≡ length front
 slash_place [] rest clear = refl
 slash_place (c ∷ front) rest clear =
     let more = slash_place front rest (λ k within. clear (suc k) (omega arith)) in
-    ap (λ b. cond (not b) (1 + position_or_len is_slash (front ++ slash ∷ rest)) 0) (clear 0 (omega arith)) ∙ omega (arith, more)
+    ap (λ b. cond (not b) (1 + position_or_len is_slash (front ++ slash ∷ rest)) 0) (clear 0 (omega arith))
+    ∙ omega (arith, more)
 
 -- a prefix of a family is a small number
 prefix_small : (a : AddrValue) (prefix : ℕ) → prefix ≤ longest_prefix a.family → prefix < 256
@@ -174,12 +190,14 @@ one_by_one : (front : List ℕ) (c : ℕ) (rest : List ℕ) → front ++ c ∷ r
 one_by_one front c rest = sym (append_assoc front (c ∷ []) rest)
 
 -- a text of which a prefix is read has a slash
-slash_within : (text : List ℕ) (prefix : ℕ) → prefix_of_text (after_first is_slash text) ≡ Some prefix → position_or_len is_slash text < length text
+slash_within : (text : List ℕ) (prefix : ℕ) → prefix_of_text (after_first is_slash text) ≡ Some prefix
+    → position_or_len is_slash text < length text
 slash_within text prefix e =
     elim (cases_lt (position_or_len is_slash text) (length text)) [
       | inl within ↦ within
       | inr beyond ↦
-          let nothing : after_first is_slash text ≡ [] = drop_all (position_or_len is_slash text + 1) text (omega arith) in
+          let nothing : after_first is_slash text ≡ [] =
+          drop_all (position_or_len is_slash text + 1) text (omega arith) in
           absurd (none-some prefix (sym no_digits ∙ ap prefix_of_text (sym nothing) ∙ e))
     ]
 
@@ -189,13 +207,17 @@ unfolding cidr_of_text
 network_spelled_is_read text c h =
     let rest = decimal c.prefix in
     let place : position_or_len is_slash text ≡ length h.address =
-    ap (λ t. position_or_len is_slash t) h.spelled ∙ slash_place h.address rest (no_slash h.address c.addr h.address_spelled) in
-    let before : before_first is_slash text ≡ h.address = ap₂ (λ (i : ℕ) (t : List ℕ). take i t) place h.spelled ∙ take_at h.address (slash ∷ rest) (length h.address) refl in
+    ap (λ t. position_or_len is_slash t) h.spelled
+    ∙ slash_place h.address rest (no_slash h.address c.addr h.address_spelled) in
+    let before : before_first is_slash text ≡ h.address =
+    ap₂ (λ (i : ℕ) (t : List ℕ). take i t) place h.spelled ∙ take_at h.address (slash ∷ rest) (length h.address) refl in
     let after : after_first is_slash text ≡ rest =
     ap₂ (λ (i : ℕ) (t : List ℕ). drop (i + 1) t) place (h.spelled ∙ one_by_one h.address slash rest)
-    ∙ drop_at (h.address ++ slash ∷ []) rest (length h.address + 1) (omega (arith, length-append h.address (slash ∷ []))) in
+    ∙ drop_at (h.address ++ slash ∷ []) rest (length h.address + 1)
+    (omega (arith, length-append h.address (slash ∷ []))) in
     let small = prefix_small c.addr c.prefix h.fits in
-    ap₂ cidr_of_parts (ap addr_of_text before ∙ spelled_is_read h.address c.addr h.address_spelled) (ap prefix_of_text after ∙ read_decimal c.prefix small)
+    ap₂ cidr_of_parts (ap addr_of_text before ∙ spelled_is_read h.address c.addr h.address_spelled)
+    (ap prefix_of_text after ∙ read_decimal c.prefix small)
     ∙ sym (fitting_prefix c.addr c.prefix h.fits)
 
 -- the parts that were read
@@ -215,11 +237,13 @@ parts_read (Some a) (Some p) c e =
 pub network_read_is_spelled : (text : List ℕ) (c : CidrValue) → cidr_of_text text ≡ Some c → IsCidrText text c
 unfolding cidr_of_text
 network_read_is_spelled text c e =
-    let (addr_read, prefix_read, fits) = parts_read (addr_of_text (before_first is_slash text)) (prefix_of_text (after_first is_slash text)) c e in
+    let (addr_read, prefix_read, fits) =
+    parts_read (addr_of_text (before_first is_slash text)) (prefix_of_text (after_first is_slash text)) c e in
     let (small, digits) = decimal_read (after_first is_slash text) c.prefix prefix_read in
     let within = slash_within text c.prefix prefix_read in
     let split = split_at_first is_slash text 0 within in
-    let here = eqb-true (get_or text (position_or_len is_slash text) 0) slash (passes_at_first is_slash text 0 within) in
+    let here =
+    eqb-true (get_or text (position_or_len is_slash text) 0) slash (passes_at_first is_slash text 0 within) in
     record {
       address = before_first is_slash text;
       address_spelled = read_is_spelled (before_first is_slash text) c.addr addr_read;

@@ -26,7 +26,8 @@ pub whole_some : {A : Type 0} (r : Read A) (x : A) → whole_value r ≡ Some x 
 whole_some None x e = absurd (none-some x e)
 whole_some (Some p) x e = whole_rest p.0 p.1 x e
   where
-    whole_rest : {A : Type 0} (found : A) (rest : List ℕ) (x : A) → whole_value (Some (found, rest)) ≡ Some x → ◌≡◌ {A = Read A} (Some (found, rest)) (Some (x, []))
+    whole_rest : {A : Type 0} (found : A) (rest : List ℕ) (x : A) → whole_value (Some (found, rest)) ≡ Some x
+        → ◌≡◌ {A = Read A} (Some (found, rest)) (Some (x, []))
     whole_rest found [] x e = cc
     whole_rest found (c ∷ rest) x e = absurd (none-some x (rw (ne_eqb (length (c ∷ rest)) 0 (omega arith)) at e))
 
@@ -38,7 +39,8 @@ AllSegments-cons s segments first rest (suc k) = rest k
 
 AllSegments-append : (xs ys : List ℕ) → AllSegments xs → AllSegments ys → AllSegments (xs ++ ys)
 AllSegments-append [] ys first rest = rest
-AllSegments-append (x ∷ xs) ys first rest = AllSegments-cons x (xs ++ ys) (first zero) (AllSegments-append xs ys (λ k. first (suc k)) rest)
+AllSegments-append (x ∷ xs) ys first rest =
+    AllSegments-cons x (xs ++ ys) (first zero) (AllSegments-append xs ys (λ k. first (suc k)) rest)
 
 AllSegments-zeros : (n : ℕ) → AllSegments (replicate n 0)
 AllSegments-zeros zero k = omega arith
@@ -55,9 +57,11 @@ dotted_fits text octets h =
     subst (λ o. AllSegments (segments_of o)) (sym h.value)
     (AllSegments-segments_of (h.a ∷ h.b ∷ h.c ∷ h.d ∷ []) (λ k. octet_fits h.a h.b h.c h.d k h.fit))
 
-groups_fit : (ipv4 : Bool) (before text segments : List ℕ) → IsGroupsAfter ipv4 before text segments → AllSegments segments
+groups_fit : (ipv4 : Bool) (before text segments : List ℕ) → IsGroupsAfter ipv4 before text segments
+    → AllSegments segments
 groups_fit ipv4 before text [] h k = omega arith
-groups_fit ipv4 before text (s ∷ segments) (inl h) k = AllSegments-cons s segments (group_fits h.0 s h.3) (groups_fit ipv4 (58 ∷ []) h.1 segments h.4) k
+groups_fit ipv4 before text (s ∷ segments) (inl h) k =
+    AllSegments-cons s segments (group_fits h.0 s h.3) (groups_fit ipv4 (58 ∷ []) h.1 segments h.4) k
 groups_fit ipv4 before text (s ∷ segments) (inr h) k = subst (λ t. AllSegments t) (sym h.5) (dotted_fits h.0 h.1 h.4) k
 
 -- groups that are spelled are eight, of 16 bits each
@@ -68,9 +72,11 @@ colon_hex_fits text segments (inr h) =
     let room = h.room in
     let front = h.head ++ replicate zeros 0 in
     let count : length (front ++ h.tail) ≡ 8 =
-    omega (arith, length-append front h.tail, length-append h.head (replicate zeros 0), length-replicate {A = ℕ} zeros 0) in
+    omega
+    (arith, length-append front h.tail, length-append h.head (replicate zeros 0), length-replicate {A = ℕ} zeros 0) in
     let all : AllSegments (front ++ h.tail) =
-    AllSegments-append front h.tail (AllSegments-append h.head (replicate zeros 0) (groups_fit false [] h.head_text h.head h.head_groups) (AllSegments-zeros zeros))
+    AllSegments-append front h.tail (AllSegments-append h.head (replicate zeros 0)
+    (groups_fit false [] h.head_text h.head h.head_groups) (AllSegments-zeros zeros))
     (groups_fit true [] h.tail_text h.tail h.tail_groups) in
     subst (λ t. (length t ≡ 8) × AllSegments t) (sym h.value) (count, all)
 
@@ -78,7 +84,9 @@ colon_hex_fits text segments (inr h) =
 
 pub whole_groups : (text segments : List ℕ) → IsColonHex text segments → whole_value (read_ipv6 text) ≡ Some segments
 whole_groups text segments h =
-    let read : read_ipv6 text ≡ Some (segments, []) = subst (λ t. read_ipv6 t ≡ Some (segments, [])) (append-nil text) (read_ipv6_complete text segments [] h EndsGroups-nil) in
+    let read : read_ipv6 text ≡ Some (segments, []) =
+    subst (λ t. read_ipv6 t ≡ Some (segments, [])) (append-nil text)
+    (read_ipv6_complete text segments [] h EndsGroups-nil) in
     ap (λ (r : Read (List ℕ)). whole_value r) read
 
 pub groups_whole : (text segments : List ℕ) → whole_value (read_ipv6 text) ≡ Some segments → IsColonHex text segments
@@ -99,7 +107,8 @@ digit_or_dot c (inr dot) = ne_eqb c 47 (λ e. omega arith)
 
 -- nor is a hex digit
 hex_digit : (c : ℕ) → digit_value c < 16 → IsPlain c
-hex_digit c digit = ne_eqb c 47 (λ e. let none : digit_value 47 < 16 = subst (λ x. digit_value x < 16) e digit in omega (arith, none))
+hex_digit c digit =
+    ne_eqb c 47 (λ e. let none : digit_value 47 < 16 = subst (λ x. digit_value x < 16) e digit in omega (arith, none))
 
 hex_digits : (text : List ℕ) → AllDigits 16 text → All IsPlain text
 hex_digits [] h = All-nil IsPlain
@@ -115,11 +124,13 @@ dotted_plain text octets h =
     let all = All-ipv4_text parts (λ i. octet_fits h.a h.b h.c h.d i h.fit) in
     subst (λ t. All IsPlain t) (sym h.spelled) (All-weaker IsDigitOrDot IsPlain digit_or_dot (ipv4_text parts) all)
 
-groups_plain : (ipv4 : Bool) (before text segments : List ℕ) → All IsPlain before → IsGroupsAfter ipv4 before text segments → All IsPlain text
+groups_plain : (ipv4 : Bool) (before text segments : List ℕ) → All IsPlain before
+    → IsGroupsAfter ipv4 before text segments → All IsPlain text
 groups_plain ipv4 before text [] lead h = subst (λ t. All IsPlain t) (sym h) (All-nil IsPlain)
 groups_plain ipv4 before text (s ∷ segments) lead (inl h) =
     let rest = groups_plain ipv4 (58 ∷ []) h.1 segments (colons 1) h.4 in
-    subst (λ t. All IsPlain t) (sym h.2) (All-append IsPlain (before ++ h.0) h.1 (All-append IsPlain before h.0 lead (hex_digits h.0 h.3.0.0.1)) rest)
+    subst (λ t. All IsPlain t) (sym h.2)
+    (All-append IsPlain (before ++ h.0) h.1 (All-append IsPlain before h.0 lead (hex_digits h.0 h.3.0.0.1)) rest)
 groups_plain ipv4 before text (s ∷ segments) lead (inr h) =
     subst (λ t. All IsPlain t) (sym h.3) (All-append IsPlain before h.0 lead (dotted_plain h.0 h.1 h.4))
 
@@ -129,7 +140,8 @@ colon_hex_plain text segments (inl h) = groups_plain true [] text segments (All-
 colon_hex_plain text segments (inr h) =
     let head = groups_plain false [] h.head_text h.head (All-nil IsPlain) h.head_groups in
     let tail = groups_plain true [] h.tail_text h.tail (All-nil IsPlain) h.tail_groups in
-    subst (λ t. All IsPlain t) (sym h.spelled) (All-append IsPlain (h.head_text ++ 58 ∷ 58 ∷ []) h.tail_text (All-append IsPlain h.head_text (58 ∷ 58 ∷ []) head (colons 2)) tail)
+    subst (λ t. All IsPlain t) (sym h.spelled) (All-append IsPlain (h.head_text ++ 58 ∷ 58 ∷ []) h.tail_text
+    (All-append IsPlain h.head_text (58 ∷ 58 ∷ []) head (colons 2)) tail)
 
 -- ---- what is written of groups
 

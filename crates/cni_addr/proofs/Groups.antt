@@ -17,11 +17,14 @@ number_of (b ∷ bytes) = b * 256 ^ length bytes + number_of bytes
 -- ---- octets as a number
 
 sixteen : (a b c d e f g h i j k l m n o p : ℕ)
-    → from_be_bytes w128 (a ∷ b ∷ c ∷ d ∷ e ∷ f ∷ g ∷ h ∷ i ∷ j ∷ k ∷ l ∷ m ∷ n ∷ o ∷ p ∷ []) ≡ number_of (a ∷ b ∷ c ∷ d ∷ e ∷ f ∷ g ∷ h ∷ i ∷ j ∷ k ∷ l ∷ m ∷ n ∷ o ∷ p ∷ [])
+    → from_be_bytes w128 (a ∷ b ∷ c ∷ d ∷ e ∷ f ∷ g ∷ h ∷ i ∷ j ∷ k ∷ l ∷ m ∷ n ∷ o ∷ p ∷ [])
+    ≡ number_of (a ∷ b ∷ c ∷ d ∷ e ∷ f ∷ g ∷ h ∷ i ∷ j ∷ k ∷ l ∷ m ∷ n ∷ o ∷ p ∷ [])
 sixteen a b c d e f g h i j k l m n o p = omega arith
 
 read_number : (bytes : List ℕ) → length bytes ≡ 16 → from_be_bytes w128 bytes ≡ number_of bytes
-read_number bytes all = subst (λ t. from_be_bytes w128 t ≡ number_of t) (sym (sixteen_items bytes all)) (sixteen _ _ _ _ _ _ _ _ _ _ _ _ _ _ _ _)
+read_number bytes all =
+    subst (λ t. from_be_bytes w128 t ≡ number_of t) (sym (sixteen_items bytes all))
+    (sixteen _ _ _ _ _ _ _ _ _ _ _ _ _ _ _ _)
 
 number_below : (bytes : List ℕ) → AllOctets bytes → number_of bytes < 256 ^ length bytes
 number_below [] small = omega arith
@@ -36,17 +39,21 @@ octet_at zero n = omega arith
 octet_at (suc k) n = refl
 
 -- the octets of a number, whatever stands above it
-written_back : (bytes : List ℕ) (m : ℕ) → AllOctets bytes → bytes_high_first (length bytes) (m * 256 ^ length bytes + number_of bytes) ≡ bytes
+written_back : (bytes : List ℕ) (m : ℕ) → AllOctets bytes
+    → bytes_high_first (length bytes) (m * 256 ^ length bytes + number_of bytes) ≡ bytes
 written_back [] m small = refl
 written_back (b ∷ bytes) m small =
     let unit = 256 ^ length bytes in
     let rest = number_below bytes (λ k. small (suc k)) in
     let first : b < 256 = small zero in
-    let same : m * 256 ^ suc (length bytes) + (b * unit + number_of bytes) ≡ (m * 256 + b) * unit + number_of bytes = omega (arith, ap (λ n. m * n) (pow-suc 256 (length bytes))) in
+    let same : m * 256 ^ suc (length bytes) + (b * unit + number_of bytes) ≡ (m * 256 + b) * unit + number_of bytes =
+    omega (arith, ap (λ n. m * n) (pow-suc 256 (length bytes))) in
     let head : byte_at (length bytes) ((m * 256 + b) * unit + number_of bytes) ≡ b =
-    octet_at (length bytes) ((m * 256 + b) * unit + number_of bytes) ∙ ap (λ q. q % 256) (div-mul-add (m * 256 + b) unit (number_of bytes) rest) ∙ mod-mul-add m 256 b first in
+    octet_at (length bytes) ((m * 256 + b) * unit + number_of bytes)
+    ∙ ap (λ q. q % 256) (div-mul-add (m * 256 + b) unit (number_of bytes) rest) ∙ mod-mul-add m 256 b first in
     let tail = written_back bytes (m * 256 + b) (λ k. small (suc k)) in
-    ap (λ n. byte_at (length bytes) n ∷ bytes_high_first (length bytes) n) same ∙ ap₂ (λ (x : ℕ) (xs : List ℕ). x ∷ xs) head tail
+    ap (λ n. byte_at (length bytes) n ∷ bytes_high_first (length bytes) n) same
+    ∙ ap₂ (λ (x : ℕ) (xs : List ℕ). x ∷ xs) head tail
 
 -- ---- a number as octets
 
@@ -76,7 +83,8 @@ one_more n unit some =
     let whole : n ≡ n / unit * unit + n % unit = omega arith in
     let split : n ≡ n / unit / 256 * (unit * 256) + (n / unit % 256 * unit + n % unit) = omega (arith, scaled, whole) in
     let below = mul-add-lt (n / unit % 256) unit (n % unit) 256 digit low in
-    ap (λ m. m % (unit * 256)) split ∙ mod-mul-add (n / unit / 256) (unit * 256) (n / unit % 256 * unit + n % unit) below
+    ap (λ m. m % (unit * 256)) split
+    ∙ mod-mul-add (n / unit / 256) (unit * 256) (n / unit % 256 * unit + n % unit) below
 
 number_of_octets : (k n : ℕ) → number_of (bytes_high_first k n) ≡ n % 256 ^ k
 number_of_octets zero n = omega arith
@@ -132,22 +140,26 @@ sixteen_octets : (groups : List ℕ) → length groups ≡ 8 → length (octets_
 sixteen_octets groups eight = omega (arith, length-octets_of groups)
 
 -- groups are those of their number
-pub groups_of_number : (groups : List ℕ) → length groups ≡ 8 → AllSegments groups → segments_of (to_be_bytes w128 (from_be_bytes w128 (octets_of groups))) ≡ groups
+pub groups_of_number : (groups : List ℕ) → length groups ≡ 8 → AllSegments groups
+    → segments_of (to_be_bytes w128 (from_be_bytes w128 (octets_of groups))) ≡ groups
 groups_of_number groups eight fits =
     let bytes = octets_of groups in
     let all = sixteen_octets groups eight in
     let small = AllOctets-octets_of groups fits in
-    let value : from_be_bytes w128 bytes ≡ 0 * 256 ^ length bytes + number_of bytes = omega (arith, read_number bytes all) in
+    let value : from_be_bytes w128 bytes ≡ 0 * 256 ^ length bytes + number_of bytes =
+    omega (arith, read_number bytes all) in
     let back : to_be_bytes w128 (from_be_bytes w128 bytes) ≡ bytes =
     ap₂ (λ (k n : ℕ). bytes_high_first k n) (sym all) value ∙ written_back bytes 0 small in
     ap segments_of back ∙ groups_again groups
 
 -- and their number fits
-pub number_of_groups_fits : (groups : List ℕ) → length groups ≡ 8 → AllSegments groups → from_be_bytes w128 (octets_of groups) < 2 ^ 128
+pub number_of_groups_fits : (groups : List ℕ) → length groups ≡ 8 → AllSegments groups
+    → from_be_bytes w128 (octets_of groups) < 2 ^ 128
 number_of_groups_fits groups eight fits =
     let bytes = octets_of groups in
     let all = sixteen_octets groups eight in
-    let below : number_of bytes < 256 ^ 16 = subst (λ k. number_of bytes < 256 ^ k) all (number_below bytes (AllOctets-octets_of groups fits)) in
+    let below : number_of bytes < 256 ^ 16 =
+    subst (λ k. number_of bytes < 256 ^ k) all (number_below bytes (AllOctets-octets_of groups fits)) in
     omega (arith, below, read_number bytes all)
 
 -- a number is that of its groups
@@ -155,6 +167,7 @@ pub number_of_groups : (n : ℕ) → n < 2 ^ 128 → from_be_bytes w128 (octets_
 number_of_groups n fits =
     let bytes = to_be_bytes w128 n in
     let all : length bytes ≡ 16 = length-octets 16 n in
-    let again : octets_of (segments_of bytes) ≡ bytes = octets_again bytes (omega (arith, all)) (AllOctets-number 16 n) in
+    let again : octets_of (segments_of bytes) ≡ bytes =
+    octets_again bytes (omega (arith, all)) (AllOctets-number 16 n) in
     let kept : n % 256 ^ 16 ≡ n = omega arith in
     ap (λ b. from_be_bytes w128 b) again ∙ read_number bytes all ∙ number_of_octets 16 n ∙ kept

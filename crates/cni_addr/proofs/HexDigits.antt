@@ -25,7 +25,8 @@ table_at (suc n) d test fits =
       | inl less ↦ table_at n d below less
       | inr top ↦
           let same : n ≡ d = omega arith in
-          ap (λ k. slice_index lower_digits k) (sym same) ∙ eqb-true (slice_index lower_digits n) (glyph n) here ∙ ap glyph same
+          ap (λ k. slice_index lower_digits k) (sym same) ∙ eqb-true (slice_index lower_digits n) (glyph n) here
+          ∙ ap glyph same
     ]
 
 -- each place of the table has the digit of its number
@@ -56,7 +57,8 @@ lower_if_value : (c d : ℕ) → hex_digit_value c ≡ Some d → (d < 16) × (t
 lower_if_value c d e = let (fits, is) = lower_of_value c d e in (fits, is ∙ sym (lower_digit d fits))
 
 -- the value of a step that went well, and what the step after it gave
-step_ok : {A B : Type 0} (r : Result A FromHexError) (f : A → Result B FromHexError) (y : B) → (r >>= f) ≡ Ok y → (x : A) × (r ≡ Ok x) × (f x ≡ Ok y)
+step_ok : {A B : Type 0} (r : Result A FromHexError) (f : A → Result B FromHexError) (y : B) → (r >>= f) ≡ Ok y
+    → (x : A) × (r ≡ Ok x) × (f x ≡ Ok y)
 step_ok (Ok x) f y e = (x, refl, e)
 step_ok (Err d) f y e = absurd (cc e)
 
@@ -66,7 +68,8 @@ digit_ok c i v (Some w) e = cc e
 digit_ok c i v None e = absurd (cc e)
 
 -- two digits that are a byte are its digits in lower case
-pair_lower : (a b i v : ℕ) → pair_value a b i ≡ Ok v → (to_ascii_lowercase a ≡ slice_index lower_digits (v / 16)) × (to_ascii_lowercase b ≡ slice_index lower_digits (v % 16))
+pair_lower : (a b i v : ℕ) → pair_value a b i ≡ Ok v → (to_ascii_lowercase a ≡ slice_index lower_digits (v / 16))
+    × (to_ascii_lowercase b ≡ slice_index lower_digits (v % 16))
 pair_lower a b i v e =
     let (high, high_read, more) = step_ok (value_at a i) _ v e in
     let (low, low_read, last) = step_ok (value_at b (i + 1)) _ v more in
@@ -78,7 +81,8 @@ pair_lower a b i v e =
     (high_is ∙ ap (slice_index lower_digits) high_part, low_is ∙ ap (slice_index lower_digits) low_part)
 
 -- what decodes is the encoding, in lower case
-pub lower_if_decoded : (i : ℕ) (text bytes : List ℕ) → decode_pairs i text ≡ Ok bytes → str_to_ascii_lowercase text ≡ encode_lower bytes
+pub lower_if_decoded : (i : ℕ) (text bytes : List ℕ) → decode_pairs i text ≡ Ok bytes
+    → str_to_ascii_lowercase text ≡ encode_lower bytes
 unfolding decode_pairs encode_with
 lower_if_decoded i [] bytes e = let none : [] ≡ bytes = cc e in ap encode_lower none
 lower_if_decoded i (a ∷ []) bytes e = absurd (cc e)
@@ -91,7 +95,8 @@ lower_if_decoded i (a ∷ b ∷ rest) bytes e =
     ap₂ (λ (x : ℕ) (t : List ℕ). x ∷ t) high (ap₂ (λ (x : ℕ) (t : List ℕ). x ∷ t) low later) ∙ ap encode_lower whole
 
 -- and what is the encoding, in lower case, decodes
-pub decoded_if_lower : (i : ℕ) (text bytes : List ℕ) → IsBytes bytes → str_to_ascii_lowercase text ≡ encode_lower bytes → decode_pairs i text ≡ Ok bytes
+pub decoded_if_lower : (i : ℕ) (text bytes : List ℕ) → IsBytes bytes → str_to_ascii_lowercase text ≡ encode_lower bytes
+    → decode_pairs i text ≡ Ok bytes
 unfolding decode_pairs encode_with
 decoded_if_lower i [] [] fits e = refl
 decoded_if_lower i [] (v ∷ vs) fits e = absurd (cc e)
@@ -103,8 +108,11 @@ decoded_if_lower i (a ∷ b ∷ rest) (v ∷ vs) fits e =
     let high : to_ascii_lowercase a ≡ slice_index lower_digits (v / 16) = cc e in
     let low : to_ascii_lowercase b ≡ slice_index lower_digits (v % 16) = cc e in
     let later : str_to_ascii_lowercase rest ≡ encode_lower vs = cc e in
-    let high_read : value_at a i ≡ Ok (v / 16) = ap (digit_or_error a i) (value_if_lower a (v / 16) (omega arith) high) in
-    let low_read : value_at b (i + 1) ≡ Ok (v % 16) = ap (digit_or_error b (i + 1)) (value_if_lower b (v % 16) (omega arith) low) in
+    let high_read : value_at a i ≡ Ok (v / 16) =
+    ap (digit_or_error a i) (value_if_lower a (v / 16) (omega arith) high) in
+    let low_read : value_at b (i + 1) ≡ Ok (v % 16) =
+    ap (digit_or_error b (i + 1)) (value_if_lower b (v % 16) (omega arith) low) in
     let whole : v / 16 * 16 + v % 16 ≡ v = omega arith in
     let pair : pair_value a b i ≡ Ok v = rw (high_read, low_read) (ap Ok whole) in
-    decode_pairs-ok_pair i a b v rest pair ∙ ap (cons_byte v) (decoded_if_lower (i + 2) rest vs (λ k. fits (suc k)) later)
+    decode_pairs-ok_pair i a b v rest pair
+    ∙ ap (cons_byte v) (decoded_if_lower (i + 2) rest vs (λ k. fits (suc k)) later)

@@ -14,7 +14,8 @@ use Rattle.cni_addr.specs.{Value.longest_prefix, declared.address.Family.{Family
 pub last_below : (n h w : ℕ) → h ≤ w → n < 2 ^ w → n - n % 2 ^ h + (2 ^ h - 1) < 2 ^ w
 last_below n h w low fits =
     let some = pow_pos h in
-    let whole : 2 ^ h * 2 ^ (w - h) ≡ 2 ^ w = let split : h + (w - h) ≡ w = omega arith in sym (pow-add 2 h (w - h)) ∙ ap (λ k. 2 ^ k) split in
+    let whole : 2 ^ h * 2 ^ (w - h) ≡ 2 ^ w =
+    let split : h + (w - h) ≡ w = omega arith in sym (pow-add 2 h (w - h)) ∙ ap (λ k. 2 ^ k) split in
     let turned : n < 2 ^ (w - h) * 2 ^ h = omega (arith, whole) in
     let row : n / 2 ^ h < 2 ^ (w - h) = div_below n (2 ^ h) (2 ^ (w - h)) some turned in
     let next : n / 2 ^ h + 1 ≤ 2 ^ (w - h) = omega arith in
@@ -66,37 +67,45 @@ module _ (c : CidrValue) (a addr : AddrValue) (prefix : ℕ) (same : a ≡ addr)
   first_fits first is kept = record { within = let within = kept.within in omega (arith, is, first_here, within) }
 
   -- and so is the number of its last address
-  pub last_fits : (first ones : ℕ) → first ≡ network_bits c → ones + 1 ≡ network_size c → IsAddr a → IsAddr (at_bits a.family (first + ones))
+  pub last_fits : (first ones : ℕ) → first ≡ network_bits c → ones + 1 ≡ network_size c → IsAddr a
+      → IsAddr (at_bits a.family (first + ones))
   last_fits first ones is sized kept =
       let longest = longest_prefix a.family in
       let bound = bits_below-longest a.family in
       let within : a.bits < 2 ^ longest = subst (λ n. a.bits < n) bound kept.within in
       let below = last_below a.bits (longest - prefix) longest (omega arith) within in
-      let sum : first + ones ≡ a.bits - a.bits % 2 ^ (longest - prefix) + (2 ^ (longest - prefix) - 1) = omega (arith, is, first_here, sized, size_here) in
+      let sum : first + ones ≡ a.bits - a.bits % 2 ^ (longest - prefix) + (2 ^ (longest - prefix) - 1) =
+      omega (arith, is, first_here, sized, size_here) in
       record { within = subst (λ n. first + ones < n) (sym bound) (subst (λ n. n < 2 ^ longest) (sym sum) below) }
 
   -- the last address is no number above 128 bits
-  pub last_below_2_128 : (first ones : ℕ) → first ≡ network_bits c → ones + 1 ≡ network_size c → IsAddr a → first + ones < 2 ^ 128
-  last_below_2_128 first ones is sized kept = let fits = (last_fits first ones is sized kept).within in omega (arith, fits, bits_below-most a.family)
+  pub last_below_2_128 : (first ones : ℕ) → first ≡ network_bits c → ones + 1 ≡ network_size c → IsAddr a
+      → first + ones < 2 ^ 128
+  last_below_2_128 first ones is sized kept =
+      let fits = (last_fits first ones is sized kept).within in omega (arith, fits, bits_below-most a.family)
 
   -- what the code makes is the network
   pub network_is : (first : ℕ) → first ≡ network_bits c → at_prefix prefix (at_bits a.family first) ≡ network_of c
   unfolding network_of
   network_is first is =
-      ap (λ n. at_prefix prefix (at_bits a.family n)) is ∙ ap (λ (d : CidrValue). at_prefix d.prefix (at_bits d.addr.family (network_bits c))) same_network
+      ap (λ n. at_prefix prefix (at_bits a.family n)) is
+      ∙ ap (λ (d : CidrValue). at_prefix d.prefix (at_bits d.addr.family (network_bits c))) same_network
 
   -- and its last address
-  pub last_is : (first ones : ℕ) → first ≡ network_bits c → ones + 1 ≡ network_size c → at_bits a.family (first + ones) ≡ last_of c
+  pub last_is : (first ones : ℕ) → first ≡ network_bits c → ones + 1 ≡ network_size c
+      → at_bits a.family (first + ones) ≡ last_of c
   unfolding last_of
   last_is first ones is sized =
       let sum : first + ones ≡ network_bits c + (network_size c - 1) = omega (arith, is, sized) in
-      ap (λ n. at_bits a.family n) sum ∙ ap (λ (d : CidrValue). at_bits d.addr.family (network_bits c + (network_size c - 1))) same_network
+      ap (λ n. at_bits a.family n) sum
+      ∙ ap (λ (d : CidrValue). at_bits d.addr.family (network_bits c + (network_size c - 1))) same_network
 
   same_family : a.family ≡ c.addr.family
   same_family = ap (λ (d : CidrValue). d.addr.family) same_network
 
 -- the network of one address, whose parts are known by other names
-pub whole_is : (a addr : AddrValue) (prefix : ℕ) → a ≡ addr → prefix ≡ longest_prefix a.family → at_prefix prefix a ≡ whole addr
+pub whole_is : (a addr : AddrValue) (prefix : ℕ) → a ≡ addr → prefix ≡ longest_prefix a.family
+    → at_prefix prefix a ≡ whole addr
 unfolding whole
 whole_is a addr prefix same longest = ap (λ p. at_prefix p a) longest ∙ ap whole same
 
@@ -147,17 +156,21 @@ some_address c = pow_pos (longest_prefix c.addr.family - c.prefix)
 
 -- an address is in the network exactly where its family is the network's, and it is from its first to its last
 pub contains_between : (c : CidrValue) (a : AddrValue)
-    → (contains c a ≡ true) ↔ ((c.addr.family ≡ a.family) × ((network_of c).addr.bits ≤ a.bits) × (a.bits ≤ (last_of c).bits))
+    → (contains c a ≡ true)
+    ↔ ((c.addr.family ≡ a.family) × ((network_of c).addr.bits ≤ a.bits) × (a.bits ≤ (last_of c).bits))
 unfolding contains network_of last_of
 contains_between c a = (
   λ inside.
       let (family, row) = and_parts (family_eq c.addr.family a.family) _ inside in
-      let (from_first, to_last) = same_row c.addr.bits a.bits (network_size c) (some_address c) (eqb-true (a.bits / network_size c) (c.addr.bits / network_size c) row) in
+      let (from_first, to_last) =
+      same_row c.addr.bits a.bits (network_size c) (some_address c)
+      (eqb-true (a.bits / network_size c) (c.addr.bits / network_size c) row) in
       (family_eq-true c.addr.family a.family family, from_first, to_last),
   λ between.
       let family = subst (λ f. family_eq c.addr.family f ≡ true) between.0 (family_eq-itself c.addr.family) in
       let row = row_between c.addr.bits a.bits (network_size c) (some_address c) between.1 between.2 in
-      and_from (family_eq c.addr.family a.family) (a.bits / network_size c == c.addr.bits / network_size c) family (eq-eqb (a.bits / network_size c) (c.addr.bits / network_size c) row),
+      and_from (family_eq c.addr.family a.family) (a.bits / network_size c == c.addr.bits / network_size c) family
+      (eq-eqb (a.bits / network_size c) (c.addr.bits / network_size c) row),
 )
 
 -- a network has no host bits
@@ -175,7 +188,9 @@ network_of_network c =
 -- the network has the address, and its first and its last
 pub contains_own : (c : CidrValue) → contains c c.addr ≡ true
 unfolding contains
-contains_own c = and_from (family_eq c.addr.family c.addr.family) _ (family_eq-itself c.addr.family) (eq-eqb (c.addr.bits / network_size c) (c.addr.bits / network_size c) refl)
+contains_own c =
+    and_from (family_eq c.addr.family c.addr.family) _ (family_eq-itself c.addr.family)
+    (eq-eqb (c.addr.bits / network_size c) (c.addr.bits / network_size c) refl)
 
 -- the first address is no higher than the last
 first_before_last : (c : CidrValue) → (network_of c).addr.bits ≤ (last_of c).bits
@@ -200,29 +215,36 @@ pub contains_last : (c : CidrValue) → contains c (last_of c) ≡ true
 contains_last c = (contains_between c (last_of c)).1 (last_family c, first_before_last c, omega arith)
 
 -- A test of an address by the network's first number and its size, whose parts are known by other names.
-module _ (c : CidrValue) (a addr : AddrValue) (prefix : ℕ) (same : a ≡ addr) (parts : at_prefix prefix addr ≡ c) (first : ℕ) (is : first ≡ network_bits c) (b other : AddrValue) (named : b ≡ other) where
+module _ (c : CidrValue) (a addr : AddrValue) (prefix : ℕ) (same : a ≡ addr) (parts : at_prefix prefix addr ≡ c)
+    (first : ℕ) (is : first ≡ network_bits c) (b other : AddrValue) (named : b ≡ other) where
   -- no address of another family is in it
   pub other_family : family_eq a.family b.family ≡ false → false ≡ contains c other
   unfolding contains
   other_family apart =
-      let families = ap₂ family_eq (sym (same_family c a addr prefix same parts)) (ap (λ (x : AddrValue). x.family) (sym named)) in
+      let families =
+      ap₂ family_eq (sym (same_family c a addr prefix same parts)) (ap (λ (x : AddrValue). x.family) (sym named)) in
       sym (ap (λ t. t && (other.bits / network_size c == c.addr.bits / network_size c)) (families ∙ apart))
 
   -- of the same family those from the first on, fewer after it than the network has
-  in_order : (ones : ℕ) → ones + 1 ≡ network_size c → family_eq a.family b.family ≡ true → (nat_le first b.bits && nat_le (b.bits - first) ones) ≡ contains c other
+  in_order : (ones : ℕ) → ones + 1 ≡ network_size c → family_eq a.family b.family ≡ true
+      → (nat_le first b.bits && nat_le (b.bits - first) ones) ≡ contains c other
   unfolding network_of last_of
   in_order ones sized alike =
-      let family = sym (same_family c a addr prefix same parts) ∙ family_eq-true a.family b.family alike ∙ ap (λ (x : AddrValue). x.family) named in
+      let family =
+      sym (same_family c a addr prefix same parts) ∙ family_eq-true a.family b.family alike
+      ∙ ap (λ (x : AddrValue). x.family) named in
       let bits : b.bits ≡ other.bits = ap (λ (x : AddrValue). x.bits) named in
       same_test (nat_le first b.bits && nat_le (b.bits - first) ones) (contains c other)
       (λ inside.
       let (low, high) = and_parts (nat_le first b.bits) (nat_le (b.bits - first) ones) inside in
       let low_is = leb-true first b.bits low in
       let high_is = leb-true (b.bits - first) ones high in
-      (contains_between c other).1 (family, omega (arith, is, bits, low_is), omega (arith, is, bits, sized, low_is, high_is)))
+      (contains_between c other).1
+      (family, omega (arith, is, bits, low_is), omega (arith, is, bits, sized, low_is, high_is)))
       (λ there.
       let between = (contains_between c other).0 there in
-      and_from (nat_le first b.bits) (nat_le (b.bits - first) ones) (le-leb first b.bits (omega (arith, is, bits, between.1)))
+      and_from (nat_le first b.bits) (nat_le (b.bits - first) ones)
+      (le-leb first b.bits (omega (arith, is, bits, between.1)))
       (le-leb (b.bits - first) ones (omega (arith, is, bits, sized, between.2))))
 
   pub none_below : family_eq a.family b.family ≡ true → nat_le first b.bits ≡ false → false ≡ contains c other
@@ -231,7 +253,8 @@ module _ (c : CidrValue) (a addr : AddrValue) (prefix : ℕ) (same : a ≡ addr)
       let none = in_order (network_size c - 1) (omega (arith, some)) alike in
       sym (ap (λ t. t && nat_le (b.bits - first) (network_size c - 1)) low) ∙ none
 
-  pub those_within : (ones : ℕ) → ones + 1 ≡ network_size c → family_eq a.family b.family ≡ true → nat_le first b.bits ≡ true → nat_le (b.bits - first) ones ≡ contains c other
+  pub those_within : (ones : ℕ) → ones + 1 ≡ network_size c → family_eq a.family b.family ≡ true
+      → nat_le first b.bits ≡ true → nat_le (b.bits - first) ones ≡ contains c other
   those_within ones sized alike low = sym (ap (λ t. t && nat_le (b.bits - first) ones) low) ∙ in_order ones sized alike
 
 -- a network has the addresses that its network has
@@ -239,27 +262,34 @@ pub contains_of_network : (c : CidrValue) (a : AddrValue) → contains (network_
 unfolding contains network_of
 contains_of_network c a =
     let row : (c.addr.bits - c.addr.bits % network_size c) / network_size c ≡ c.addr.bits / network_size c =
-    row_between c.addr.bits (c.addr.bits - c.addr.bits % network_size c) (network_size c) (some_address c) (omega arith) (omega arith) in
+    row_between c.addr.bits (c.addr.bits - c.addr.bits % network_size c) (network_size c) (some_address c) (omega arith)
+    (omega arith) in
     ap (λ q. family_eq c.addr.family a.family && (a.bits / network_size c == q)) row
 
 -- and ends where its network ends
 pub last_of_network : (c : CidrValue) → last_of (network_of c) ≡ last_of c
 unfolding last_of network_of
 last_of_network c =
-    let none : (c.addr.bits - c.addr.bits % network_size c) % network_size c ≡ 0 = cleared c.addr.bits (network_size c) (some_address c) in
+    let none : (c.addr.bits - c.addr.bits % network_size c) % network_size c ≡ 0 =
+    cleared c.addr.bits (network_size c) (some_address c) in
     ap (λ bits. at_bits c.addr.family (bits + (network_size c - 1))) (omega (arith, none))
 
 -- the network of a network that fits fits
 pub IsCidr-network_of : (c : CidrValue) → IsCidr c → IsCidr (network_of c)
 unfolding network_of
-IsCidr-network_of c kept = record { addr = first_fits c c.addr c.addr c.prefix refl refl (network_bits c) refl kept.addr; prefix = kept.prefix }
+IsCidr-network_of c kept =
+    record {
+      addr = first_fits c c.addr c.addr c.prefix refl refl (network_bits c) refl kept.addr;
+      prefix = kept.prefix;
+    }
 
 -- and so is its last address
 pub IsAddr-last_of : (c : CidrValue) → IsCidr c → IsAddr (last_of c)
 unfolding last_of
 IsAddr-last_of c kept =
     let some = some_address c in
-    last_fits c c.addr c.addr c.prefix refl refl (network_bits c) (network_size c - 1) refl (omega (arith, some)) kept.addr
+    last_fits c c.addr c.addr c.prefix refl refl (network_bits c) (network_size c - 1) refl
+    (omega (arith, some)) kept.addr
 
 -- ---- one address alone
 
@@ -316,12 +346,15 @@ next_by at_end a = if at_end then None else Some (at_bits a.family (a.bits + 1))
 -- at the last address there is none
 pub none_at_end : (a addr : AddrValue) → a ≡ addr → a.bits + 1 ≡ bits_below a.family → None ≡ next_addr addr
 unfolding next_addr
-none_at_end a addr same end = sym (ap (λ b. next_by b a) (eq-eqb (a.bits + 1) (bits_below a.family) end)) ∙ ap next_addr same
+none_at_end a addr same end =
+    sym (ap (λ b. next_by b a) (eq-eqb (a.bits + 1) (bits_below a.family) end)) ∙ ap next_addr same
 
 -- at any other it is one higher
-pub next_before_end : (a addr : AddrValue) → a ≡ addr → (a.bits + 1 ≡ bits_below a.family → ⊥) → Some (at_bits a.family (a.bits + 1)) ≡ next_addr addr
+pub next_before_end : (a addr : AddrValue) → a ≡ addr → (a.bits + 1 ≡ bits_below a.family → ⊥)
+    → Some (at_bits a.family (a.bits + 1)) ≡ next_addr addr
 unfolding next_addr
-next_before_end a addr same before = sym (ap (λ b. next_by b a) (ne_eqb (a.bits + 1) (bits_below a.family) before)) ∙ ap next_addr same
+next_before_end a addr same before =
+    sym (ap (λ b. next_by b a) (ne_eqb (a.bits + 1) (bits_below a.family) before)) ∙ ap next_addr same
 
 -- there is none just at the last address
 pub none_just_at_end : (a : AddrValue) → (next_addr a ≡ None) ↔ (a.bits + 1 ≡ bits_below a.family)
@@ -329,19 +362,25 @@ none_just_at_end a = (
   λ none.
       elim (cases_eq (a.bits + 1) (bits_below a.family)) [
         | inl end ↦ end
-        | inr before ↦ absurd (none-some (at_bits a.family (a.bits + 1)) (sym none ∙ sym (next_before_end a a refl before)))
+        | inr before ↦
+            absurd (none-some (at_bits a.family (a.bits + 1)) (sym none ∙ sym (next_before_end a a refl before)))
       ],
   λ end. sym (none_at_end a a refl end),
 )
 
 -- the next address is one higher, of the same family, and an address
-pub next_is_higher : (a b : AddrValue) → IsAddr a → next_addr a ≡ Some b → IsAddr b × (b.family ≡ a.family) × (b.bits ≡ a.bits + 1)
+pub next_is_higher : (a b : AddrValue) → IsAddr a → next_addr a ≡ Some b
+    → IsAddr b × (b.family ≡ a.family) × (b.bits ≡ a.bits + 1)
 next_is_higher a b kept found =
     elim (cases_eq (a.bits + 1) (bits_below a.family)) [
       | inl end ↦ absurd (none-some b (none_at_end a a refl end ∙ found))
       | inr before ↦
-          let same : at_bits a.family (a.bits + 1) ≡ b = some_same (at_bits a.family (a.bits + 1)) b (next_before_end a a refl before ∙ found) in
+          let same : at_bits a.family (a.bits + 1) ≡ b =
+          some_same (at_bits a.family (a.bits + 1)) b (next_before_end a a refl before ∙ found) in
           let within = kept.within in
-          let next : IsAddr (at_bits a.family (a.bits + 1)) = record { within = omega arith } in
-          (subst IsAddr same next, ap (λ (x : AddrValue). x.family) (sym same), ap (λ (x : AddrValue). x.bits) (sym same))
+          let next : IsAddr (at_bits a.family (a.bits + 1)) = record { within = omega arith } in (
+            subst IsAddr same next,
+            ap (λ (x : AddrValue). x.family) (sym same),
+            ap (λ (x : AddrValue). x.bits) (sym same),
+          )
     ]

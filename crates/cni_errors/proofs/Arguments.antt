@@ -83,29 +83,35 @@ uncut_is_none piece h = argument_by piece ∙ ap pair_of (one_part is_equals pie
 pub empty_key_is_none : (piece key value : List ℕ) → position_or_len is_equals piece < length piece
     → key ≡ before_first is_equals piece → value ≡ after_first is_equals piece
     → (length key == 0) ≡ true → argument_of piece ≡ None
-empty_key_is_none piece key value h k v e = argument_by piece ∙ ap pair_of (cut piece key value h k v) ∙ no_key_is_none key (slice_split is_equals value) e
+empty_key_is_none piece key value h k v e =
+    argument_by piece ∙ ap pair_of (cut piece key value h k v) ∙ no_key_is_none key (slice_split is_equals value) e
 
 pub cut_again_is_none : (piece key value : List ℕ) → position_or_len is_equals piece < length piece
     → key ≡ before_first is_equals piece → value ≡ after_first is_equals piece
     → list_any is_equals value ≡ true → argument_of piece ≡ None
-cut_again_is_none piece key value h k v e = argument_by piece ∙ ap pair_of (cut piece key value h k v) ∙ long_is_none key (slice_split is_equals value) (two_parts is_equals value e)
+cut_again_is_none piece key value h k v e =
+    argument_by piece ∙ ap pair_of (cut piece key value h k v)
+    ∙ long_is_none key (slice_split is_equals value) (two_parts is_equals value e)
 
 pub is_pair : (piece key value : List ℕ) → position_or_len is_equals piece < length piece
     → key ≡ before_first is_equals piece → value ≡ after_first is_equals piece
     → (length key == 0) ≡ false → list_any is_equals value ≡ false → argument_of piece ≡ Some (key, value)
 is_pair piece key value h k v e f =
-    argument_by piece ∙ ap pair_of (cut piece key value h k v ∙ ap (λ parts. key ∷ parts) (whole_part is_equals value f)) ∙ rw e refl
+    argument_by piece
+    ∙ ap pair_of (cut piece key value h k v ∙ ap (λ parts. key ∷ parts) (whole_part is_equals value f)) ∙ rw e refl
 
 argument-step : (piece key value : List ℕ) → position_or_len is_equals piece < length piece
     → key ≡ before_first is_equals piece → value ≡ after_first is_equals piece
-    → (e f : Bool) → (length key == 0) ≡ e → list_any is_equals value ≡ f → argument_of piece ≡ cond (not e && not f) (Some (key, value)) None
+    → (e f : Bool) → (length key == 0) ≡ e → list_any is_equals value ≡ f
+    → argument_of piece ≡ cond (not e && not f) (Some (key, value)) None
 argument-step piece key value h k v true f no_key equals = empty_key_is_none piece key value h k v no_key
 argument-step piece key value h k v false true some_key equals = cut_again_is_none piece key value h k v equals
 argument-step piece key value h k v false false some_key equals = is_pair piece key value h k v some_key equals
 
 pub argument_is : (piece key value : List ℕ) → position_or_len is_equals piece < length piece
     → key ≡ before_first is_equals piece → value ≡ after_first is_equals piece
-    → (b c : Bool) → b ≡ (not (length key == 0) && not (list_any is_equals value)) → b ≡ c → argument_of piece ≡ cond c (Some (key, value)) None
+    → (b c : Bool) → b ≡ (not (length key == 0) && not (list_any is_equals value)) → b ≡ c
+    → argument_of piece ≡ cond c (Some (key, value)) None
 argument_is piece key value h k v b c is e =
     argument-step piece key value h k v (length key == 0) (list_any is_equals value) refl refl
     ∙ ap (λ t. cond t (Some (key, value)) None) (sym is ∙ e)
@@ -151,16 +157,20 @@ parts-cut text piece rest h a b = rw (a, b) (slice_split_first is_semicolon text
 -- the value stands in the text's first piece
 pub value_is_first : (key text piece rest v : List ℕ) → position_or_len is_semicolon text < length text
     → piece ≡ before_first is_semicolon text → rest ≡ after_first is_semicolon text
-    → pair_value key (option_to_list (argument_of piece)) ≡ Some v → value_in key (slice_split is_semicolon text) ≡ Some v
+    → pair_value key (option_to_list (argument_of piece)) ≡ Some v
+    → value_in key (slice_split is_semicolon text) ≡ Some v
 value_is_first key text piece rest v h a b found =
-    ap (value_in key) (parts-cut text piece rest h a b) ∙ found-first key (argument_of piece) (filter_map argument_of (slice_split is_semicolon rest)) v found
+    ap (value_in key) (parts-cut text piece rest h a b)
+    ∙ found-first key (argument_of piece) (filter_map argument_of (slice_split is_semicolon rest)) v found
 
 -- it does not, so it is that of the rest
 pub value_is_later : (key text piece rest : List ℕ) → position_or_len is_semicolon text < length text
     → piece ≡ before_first is_semicolon text → rest ≡ after_first is_semicolon text
-    → pair_value key (option_to_list (argument_of piece)) ≡ None → value_in key (slice_split is_semicolon text) ≡ value_in key (slice_split is_semicolon rest)
+    → pair_value key (option_to_list (argument_of piece)) ≡ None
+    → value_in key (slice_split is_semicolon text) ≡ value_in key (slice_split is_semicolon rest)
 value_is_later key text piece rest h a b missed =
-    ap (value_in key) (parts-cut text piece rest h a b) ∙ missed-first key (argument_of piece) (filter_map argument_of (slice_split is_semicolon rest)) missed
+    ap (value_in key) (parts-cut text piece rest h a b)
+    ∙ missed-first key (argument_of piece) (filter_map argument_of (slice_split is_semicolon rest)) missed
 
 last-step : (key : List ℕ) (o : Option (List ℕ × List ℕ))
     → pair_value key (cons_option o []) ≡ pair_value key (option_to_list o)

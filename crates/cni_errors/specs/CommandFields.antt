@@ -114,4 +114,5 @@ netns_refusal c = refusal_by (record none_wrong { netns = is_host_ns c.netns })
 
 -- why the loss of a link refuses its fields, if it does
 unfoldable pub drop_refusal : Command → Option Cause
-drop_refusal c = refusal_by (record none_wrong { netns = is_host_ns c.netns; ifname = not (is_interface_name c.ifname) })
+drop_refusal c =
+    refusal_by (record none_wrong { netns = is_host_ns c.netns; ifname = not (is_interface_name c.ifname) })

@@ -21,18 +21,24 @@ failures_among-le failing calls =
     omega (arith, count_by-le-length (is_failing failing) (range_with_len 1 calls), length-range_with_len 1 calls)
 
 -- one call more
-failures_among-one_more : (failing : List ℕ) (calls : ℕ) → failures_among failing (calls + 1) ≡ failures_among failing calls + (if is_failing failing (calls + 1) then 1 else 0)
+failures_among-one_more : (failing : List ℕ) (calls : ℕ) → failures_among failing (calls + 1)
+    ≡ failures_among failing calls + (if is_failing failing (calls + 1) then 1 else 0)
 failures_among-one_more failing calls =
-    let grown = sum_by-map-range_with_len_more (λ k. if is_failing failing k then 1 else 0) (λ k. k) 1 calls (calls + 1) (omega arith) in
+    let grown =
+    sum_by-map-range_with_len_more (λ k. if is_failing failing k then 1 else 0) (λ k. k) 1 calls (calls + 1)
+    (omega arith) in
     rw (map-id (range_with_len 1 (calls + 1)), map-id (range_with_len 1 calls)) at grown
 
 -- a call that fails is one failure more, and they still fit
-pub failures-fails : (s : CallsState) → fails_next s ≡ true → (failures (with_next_call s) ≡ failures s + 1) × (failures s + 1 < 2 ^ 64)
+pub failures-fails : (s : CallsState) → fails_next s ≡ true
+    → (failures (with_next_call s) ≡ failures s + 1) × (failures s + 1 < 2 ^ 64)
 failures-fails s fails =
     elim (cases_Bool (is_numbered s)) [
       | inl numbered ↦
-          let failing : is_failing s.failing (s.calls + 1) ≡ true = rw numbered at fails in
-          (rw numbered (failures_among-one_more s.failing s.calls ∙ rw failing refl), grind (arith, nat_tests, failures_among-le s.failing s.calls))
+          let failing : is_failing s.failing (s.calls + 1) ≡ true = rw numbered at fails in (
+            rw numbered (failures_among-one_more s.failing s.calls ∙ rw failing refl),
+            grind (arith, nat_tests, failures_among-le s.failing s.calls),
+          )
       | inr last ↦ grind arith
     ]
 
@@ -47,7 +53,8 @@ failures-passes s passes =
     ]
 
 -- a call that fails counts its failure
-pub CountsFailure-fails : (s : CallsState) → fails_next s ≡ true → CountsFailure (failures s) (failures (with_next_call s)) ⊤
+pub CountsFailure-fails : (s : CallsState) → fails_next s ≡ true
+    → CountsFailure (failures s) (failures (with_next_call s)) ⊤
 CountsFailure-fails s fails = record {
   later = omega (arith, (failures-fails s fails).0);
   bounded = omega (arith, (failures-fails s fails).0, (failures-fails s fails).1);
@@ -55,7 +62,8 @@ CountsFailure-fails s fails = record {
 }
 
 -- a call that does not fail has no failure to count
-pub CountsFailure-passes : (s : CallsState) → fails_next s ≡ false → failures s < 2 ^ 64 → {fault : Type 0} → ¬ fault → CountsFailure (failures s) (failures (with_next_call s)) fault
+pub CountsFailure-passes : (s : CallsState) → fails_next s ≡ false → failures s < 2 ^ 64 → {fault : Type 0} → ¬ fault
+    → CountsFailure (failures s) (failures (with_next_call s)) fault
 CountsFailure-passes s passes fits none = record {
   later = omega (arith, failures-passes s passes);
   bounded = omega (arith, failures-passes s passes);

@@ -3,12 +3,14 @@ use Rattle.std.proofs.Common.{◌≡◌, ℕ, ◌+◌, ◌-◌, List, ◌++◌, 
 use Rattle.std.proofs.{Common.{append_assoc, arith, length-drop}, Math.Seq.take-add, lemmas.List.take_all}
 use Rattle.std.specs.Io.KnownBytes.{append_known}
 
-pub append_known-twice : (known : Option (List ℕ)) (xs ys : List ℕ) → append_known (append_known known xs) ys ≡ append_known known (xs ++ ys)
+pub append_known-twice : (known : Option (List ℕ)) (xs ys : List ℕ)
+    → append_known (append_known known xs) ys ≡ append_known known (xs ++ ys)
 append_known-twice None xs ys = refl
 append_known-twice (Some bs) xs ys = ap Some (append_assoc bs xs ys)
 
 -- the first n bytes, and then m more of those that are left
-pub append_known-more : (old mid new : Option (List ℕ)) (bytes : List ℕ) (n m : ℕ) → mid ≡ append_known old (take n bytes)
+pub append_known-more : (old mid new : Option (List ℕ)) (bytes : List ℕ) (n m : ℕ)
+    → mid ≡ append_known old (take n bytes)
     → new ≡ append_known mid (take m (drop n bytes)) → new ≡ append_known old (take (n + m) bytes)
 append_known-more old mid new bytes n m first then =
     then ∙ ap (λ known. append_known known (take m (drop n bytes))) first

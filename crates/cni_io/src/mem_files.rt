@@ -1,10 +1,12 @@
 //! Files in memory: they tell what they hold, and some of their reads fail, as a test wants it.
 
-ghost use Rattle.std.specs.Prelude.{◌≡◌, ◌≢◌, ℕ, ◌≤◌, List, [], Option, Some, IfSome, IfErr, OnOk, OnErr, option_map, filter, not, vec_len};
+ghost use Rattle.std.specs.Prelude.{◌≡◌, ◌≢◌, ℕ, ◌≤◌, List, [], Option, Some, IfSome, IfErr, OnOk, OnErr, option_map};
+ghost use Rattle.std.specs.Prelude.{filter, not, vec_len};
 ghost use Rattle.std.specs.Str.{bytes_eq};
 ghost use Rattle.std.specs.Vec.{vec_capacity};
 ghost use Rattle.cni_io.specs.Failures.{CountsFailure};
-ghost use Rattle.cni_io.specs.Files.{ReadsTold, IsFailed, GivesOrNoMemory, KeepsToLimit, bytes_of, file_of, answer_within};
+ghost use Rattle.cni_io.specs.Files.{ReadsTold, IsFailed, GivesOrNoMemory, KeepsToLimit, bytes_of, file_of};
+ghost use Rattle.cni_io.specs.Files.{answer_within};
 ghost use Rattle.cni_io.specs.FailingCalls.{with_next_call, failures};
 ghost use Rattle.cni_io.specs.Memory.{FilesState, stored_with, HasEachNameOnce, next_read};
 

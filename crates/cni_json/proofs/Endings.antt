@@ -24,12 +24,14 @@ passed true x y e is = (refl, ok_same is)
 passed false x y e is = cc
 
 -- a test that refuses where it holds
-pub not_refused : {A E : Type 0} (t : Bool) (x y : A) (e : E) → (if t then Err e else Ok x) ≡ Ok y → (t ≡ false) × (x ≡ y)
+pub not_refused : {A E : Type 0} (t : Bool) (x y : A) (e : E) → (if t then Err e else Ok x) ≡ Ok y
+    → (t ≡ false) × (x ≡ y)
 not_refused false x y e is = (refl, ok_same is)
 not_refused true x y e is = cc
 
 -- a test that goes on where it holds, and refuses otherwise
-pub went_on : {A E : Type 0} (t : Bool) (next : Result A E) (y : A) (e : E) → (if t then next else Err e) ≡ Ok y → (t ≡ true) × (next ≡ Ok y)
+pub went_on : {A E : Type 0} (t : Bool) (next : Result A E) (y : A) (e : E) → (if t then next else Err e) ≡ Ok y
+    → (t ≡ true) × (next ≡ Ok y)
 went_on true next y e is = (refl, is)
 went_on false next y e is = cc
 
@@ -40,22 +42,27 @@ each_all read P holds no_items xs is = subst (All P) (ok_same is) (All-nil P)
 each_all read P holds (item d ds) xs is =
     let one = goes _ _ _ is in
     let more = goes _ _ _ one.rest in
-    subst (All P) (ok_same more.rest) (All-cons P one.value more.value (holds d one.value one.first) (each_all read P holds ds more.value more.first))
+    subst (All P) (ok_same more.rest)
+    (All-cons P one.value more.value (holds d one.value one.first) (each_all read P holds ds more.value more.first))
 
 -- the same of items that are read with their places
-pub each_from_all : {A E : Type 0} (read : ℕ → Data → Result A E) (P : A → Type 0) → ((place : ℕ) (d : Data) (x : A) → read place d ≡ Ok x → P x)
+pub each_from_all : {A E : Type 0} (read : ℕ → Data → Result A E) (P : A → Type 0)
+    → ((place : ℕ) (d : Data) (x : A) → read place d ≡ Ok x → P x)
     → (place : ℕ) (ds : Items) (xs : List A) → each_from read place ds ≡ Ok xs → All P xs
 each_from_all read P holds place no_items xs is = subst (All P) (ok_same is) (All-nil P)
 each_from_all read P holds place (item d ds) xs is =
     let one = goes _ _ _ is in
     let more = goes _ _ _ one.rest in
-    subst (All P) (ok_same more.rest) (All-cons P one.value more.value (holds place d one.value one.first) (each_from_all read P holds (place + 1) ds more.value more.first))
+    subst (All P) (ok_same more.rest) (All-cons P one.value more.value (holds place d one.value one.first)
+    (each_from_all read P holds (place + 1) ds more.value more.first))
 
 -- what those before keep, whatever is to follow, and keep with each that is read after them, all keep
 pub each_after_keeps : {A E : Type 0} (read : List A → Data → Result A E) (P : List A → Items → Type 0)
-    → ((before : List A) (d : Data) (ds : Items) (next : A) → P before (item d ds) → read before d ≡ Ok next → P (before ++ next ∷ []) ds)
+    → ((before : List A) (d : Data) (ds : Items) (next : A) → P before (item d ds) → read before d ≡ Ok next
+    → P (before ++ next ∷ []) ds)
     → (before : List A) (ds : Items) (xs : List A) → P before ds → each_after read before ds ≡ Ok xs → P xs no_items
 each_after_keeps read P step before no_items xs kept is = subst (λ ys. P ys no_items) (ok_same is) kept
 each_after_keeps read P step before (item d ds) xs kept is =
     let next = goes (read before d) _ xs is in
-    each_after_keeps read P step (before ++ next.value ∷ []) ds xs (step before d ds next.value kept next.first) next.rest
+    each_after_keeps read P step (before ++ next.value ∷ []) ds xs
+    (step before d ds next.value kept next.first) next.rest

@@ -28,7 +28,8 @@ abbrev fed : Option (List ℕ) → Option (List ℕ)
 fed o = option_map with_line_feed o
 
 -- a line feed and the end of the text alike are no other byte
-head-line_feed : (c : ℕ) (t : List ℕ) → (10 == c) ≡ false → (32 == c) ≡ false → (head (with_line_feed t) == c) ≡ (head t == c)
+head-line_feed : (c : ℕ) (t : List ℕ) → (10 == c) ≡ false → (32 == c) ≡ false
+    → (head (with_line_feed t) == c) ≡ (head t == c)
 head-line_feed c [] feed end = feed ∙ sym end
 head-line_feed c (x ∷ xs) feed end = refl
 
@@ -56,14 +57,16 @@ drop_digits_at true x xs n same =
     subst (λ (k : ℕ). drop k (with_line_feed (x ∷ xs)) ≡ with_line_feed (drop k (x ∷ xs))) e same
 drop_digits_at false x xs n same = refl
 
-drop_digits : (t : List ℕ) → drop (prefix_len is_ascii_digit t) (with_line_feed t) ≡ with_line_feed (drop (prefix_len is_ascii_digit t) t)
+drop_digits : (t : List ℕ)
+    → drop (prefix_len is_ascii_digit t) (with_line_feed t) ≡ with_line_feed (drop (prefix_len is_ascii_digit t) t)
 drop_digits [] = refl
 drop_digits (x ∷ xs) = drop_digits_at (is_ascii_digit x) x xs (prefix_len is_ascii_digit xs) (drop_digits xs)
 
 after_digits-line_feed : (t : List ℕ) → after_digits (with_line_feed t) ≡ fed (after_digits t)
 after_digits-line_feed t =
     ap (λ n. cond (n == 0) None (Some (drop n (with_line_feed t)))) (prefix_len-line_feed t)
-    ∙ either_rest (prefix_len is_ascii_digit t == 0) None _ None (Some (drop (prefix_len is_ascii_digit t) t)) refl (ap Some (drop_digits t))
+    ∙ either_rest (prefix_len is_ascii_digit t == 0) None _ None (Some (drop (prefix_len is_ascii_digit t) t)) refl
+    (ap Some (drop_digits t))
 
 after_minus-line_feed : (t : List ℕ) → after_minus (with_line_feed t) ≡ with_line_feed (after_minus t)
 after_minus-line_feed [] = refl
@@ -75,37 +78,46 @@ after_sign-line_feed (x ∷ xs) = either_text ((x == 45) || (x == 43)) xs (x ∷
 
 after_whole-line_feed : (t : List ℕ) → after_whole (with_line_feed t) ≡ fed (after_whole t)
 after_whole-line_feed [] = refl
-after_whole-line_feed (x ∷ xs) = either_rest (x == 48) _ _ (Some xs) (after_digits (x ∷ xs)) refl (after_digits-line_feed (x ∷ xs))
+after_whole-line_feed (x ∷ xs) =
+    either_rest (x == 48) _ _ (Some xs) (after_digits (x ∷ xs)) refl (after_digits-line_feed (x ∷ xs))
 
 after_fraction-line_feed : (t : List ℕ) → after_fraction (with_line_feed t) ≡ fed (after_fraction t)
 after_fraction-line_feed [] = refl
-after_fraction-line_feed (x ∷ xs) = either_rest (x == 46) _ _ (after_digits xs) (Some (x ∷ xs)) (after_digits-line_feed xs) refl
+after_fraction-line_feed (x ∷ xs) =
+    either_rest (x == 46) _ _ (after_digits xs) (Some (x ∷ xs)) (after_digits-line_feed xs) refl
 
 after_exponent-line_feed : (t : List ℕ) → after_exponent (with_line_feed t) ≡ fed (after_exponent t)
 after_exponent-line_feed [] = refl
 after_exponent-line_feed (x ∷ xs) =
-    either_rest ((x == 101) || (x == 69)) _ _ (after_digits (after_sign xs)) (Some (x ∷ xs)) (ap after_digits (after_sign-line_feed xs) ∙ after_digits-line_feed (after_sign xs)) refl
+    either_rest ((x == 101) || (x == 69)) _ _ (after_digits (after_sign xs)) (Some (x ∷ xs))
+    (ap after_digits (after_sign-line_feed xs) ∙ after_digits-line_feed (after_sign xs)) refl
 
-then : (f : List ℕ → Option (List ℕ)) → ((t : List ℕ) → f (with_line_feed t) ≡ fed (f t)) → (o : Option (List ℕ)) → option_and_then f (fed o) ≡ fed (option_and_then f o)
+then : (f : List ℕ → Option (List ℕ)) → ((t : List ℕ) → f (with_line_feed t) ≡ fed (f t)) → (o : Option (List ℕ))
+    → option_and_then f (fed o) ≡ fed (option_and_then f o)
 then f same None = refl
 then f same (Some t) = same t
 
 after_number-line_feed : (t : List ℕ) → after_number (with_line_feed t) ≡ fed (after_number t)
 unfolding after_number
 after_number-line_feed t =
-    ap (λ o. option_and_then after_exponent (option_and_then after_fraction o)) (ap after_whole (after_minus-line_feed t) ∙ after_whole-line_feed (after_minus t))
+    ap (λ o. option_and_then after_exponent (option_and_then after_fraction o))
+    (ap after_whole (after_minus-line_feed t) ∙ after_whole-line_feed (after_minus t))
     ∙ ap (option_and_then after_exponent) (then after_fraction after_fraction-line_feed (after_whole (after_minus t)))
     ∙ then after_exponent after_exponent-line_feed (option_and_then after_fraction (after_whole (after_minus t)))
 
-number_text : (t rest : List ℕ) → take (length (with_line_feed t) - length (with_line_feed rest)) (with_line_feed t) ≡ take (length t - length rest) t
+number_text : (t rest : List ℕ) → take (length (with_line_feed t) - length (with_line_feed rest)) (with_line_feed t)
+    ≡ take (length t - length rest) t
 number_text t rest =
-    let n : length (with_line_feed t) - length (with_line_feed rest) ≡ length t - length rest = omega (arith, length-append t (10 ∷ []), length-append rest (10 ∷ [])) in
+    let n : length (with_line_feed t) - length (with_line_feed rest) ≡ length t - length rest =
+    omega (arith, length-append t (10 ∷ []), length-append rest (10 ∷ [])) in
     let within : length t - length rest ≤ length t = omega arith in
     ap (λ k. take k (with_line_feed t)) n ∙ take-append-le (length t - length rest) t (10 ∷ []) within
 
-number_before-line_feed : (t : List ℕ) (o : Option (List ℕ)) → number_before (with_line_feed t) (fed o) ≡ number_before t o
+number_before-line_feed : (t : List ℕ) (o : Option (List ℕ))
+    → number_before (with_line_feed t) (fed o) ≡ number_before t o
 number_before-line_feed t None = refl
-number_before-line_feed t (Some rest) = ap₂ (λ b s. cond b (number s) bad) (ends_word-line_feed rest) (number_text t rest)
+number_before-line_feed t (Some rest) =
+    ap₂ (λ b s. cond b (number s) bad) (ends_word-line_feed rest) (number_text t rest)
 
 -- no byte of a name is a line feed
 abbrev IsName : List ℕ → Type 0
@@ -127,7 +139,8 @@ named-line_feed [] t h = ends_word-line_feed t
 named-line_feed (n ∷ ns) [] h = refused (nat_eq n 10) _ _ h.0
 named-line_feed (n ∷ ns) (x ∷ xs) h = same_if (nat_eq n x) _ _ _ _ (named-line_feed ns xs h.1)
 
-literal-line_feed : (name : List ℕ) (result : Token) (t : List ℕ) → IsName name → literal name result (with_line_feed t) ≡ literal name result t
+literal-line_feed : (name : List ℕ) (result : Token) (t : List ℕ) → IsName name
+    → literal name result (with_line_feed t) ≡ literal name result t
 literal-line_feed name result t h = ap (λ b. cond b result bad) (named-line_feed name t h)
 
 word-line_feed : (t : List ℕ) → word (with_line_feed t) ≡ word t
@@ -139,7 +152,8 @@ word-line_feed t =
     let as_true = literal-line_feed ascii.true_text (boolean true) t (refl, (refl, (refl, (refl, tt)))) in
     let as_false = literal-line_feed ascii.false_text (boolean false) t (refl, (refl, (refl, (refl, (refl, tt))))) in
     let as_null = literal-line_feed ascii.null_text null t (refl, (refl, (refl, (refl, tt)))) in
-    let as_number = ap (number_before (with_line_feed t)) (after_number-line_feed t) ∙ number_before-line_feed t (after_number t) in
+    let as_number =
+    ap (number_before (with_line_feed t)) (after_number-line_feed t) ∙ number_before-line_feed t (after_number t) in
     rw (is_t, is_f, is_n, as_true, as_false, as_null, as_number) refl
 
 -- ---- the content of a string
@@ -153,7 +167,8 @@ code_unit-line_feed : (a b c : ℕ) → code_unit a b c 10 ≡ None
 unfolding code_unit
 code_unit-line_feed a b c = rw and-false
 
-each : {A B : Type 0} (f g : A → Option B) (o : Option A) → ((x : A) → f x ≡ g x) → option_and_then f o ≡ option_and_then g o
+each : {A B : Type 0} (f g : A → Option B) (o : Option A) → ((x : A) → f x ≡ g x)
+    → option_and_then f o ≡ option_and_then g o
 each f g None same = refl
 each f g (Some x) same = same x
 
@@ -162,30 +177,41 @@ content-line_feed : (w : Within) (t : List ℕ) → content w (with_line_feed t)
 unfolding content short_escape
 content-line_feed plain [] = refl
 content-line_feed plain (x ∷ xs) =
-    ap₂ (λ escaped rest. cond (x == 34) (Some []) (cond (x == 92) escaped (cond (nat_lt x 32) None (prepend (x ∷ []) rest)))) (content-line_feed after_backslash xs) (content-line_feed plain xs)
+    ap₂ (λ escaped rest.
+    cond (x == 34) (Some []) (cond (x == 92) escaped (cond (nat_lt x 32) None (prepend (x ∷ []) rest))))
+    (content-line_feed after_backslash xs) (content-line_feed plain xs)
 content-line_feed after_backslash [] = refl
 content-line_feed after_backslash (x ∷ xs) =
-    ap₂ (λ unit rest. cond (x == 117) unit (option_and_then (λ c. prepend (c ∷ []) rest) (short_escape x))) (content-line_feed after_u xs) (content-line_feed plain xs)
+    ap₂ (λ unit rest. cond (x == 117) unit (option_and_then (λ c. prepend (c ∷ []) rest) (short_escape x)))
+    (content-line_feed after_u xs) (content-line_feed plain xs)
 content-line_feed after_u [] = refl
 content-line_feed after_u (a ∷ []) = refl
 content-line_feed after_u (a ∷ b ∷ []) = refl
 content-line_feed after_u (a ∷ b ∷ c ∷ []) = rw (code_unit-line_feed a b c)
 content-line_feed after_u (a ∷ b ∷ c ∷ d ∷ xs) =
-    each _ _ (code_unit a b c d) (λ u. ap₂ (λ low rest. cond (is_high_surrogate u) low (cond (is_low_surrogate u) None (prepend (encode_utf8 u) rest))) (content-line_feed (after_high u) xs) (content-line_feed plain xs))
+    each _ _ (code_unit a b c d)
+    (λ u.
+    ap₂ (λ low rest. cond (is_high_surrogate u) low (cond (is_low_surrogate u) None (prepend (encode_utf8 u) rest)))
+    (content-line_feed (after_high u) xs) (content-line_feed plain xs))
 content-line_feed (after_high h) [] = refl
 content-line_feed (after_high h) (s ∷ []) = refl
 content-line_feed (after_high h) (s ∷ u ∷ []) = refl
 content-line_feed (after_high h) (s ∷ u ∷ a ∷ []) = refl
 content-line_feed (after_high h) (s ∷ u ∷ a ∷ b ∷ []) = refl
-content-line_feed (after_high h) (s ∷ u ∷ a ∷ b ∷ c ∷ []) = rw (code_unit-line_feed a b c) (none_if ((s == 92) && (u == 117)))
+content-line_feed (after_high h) (s ∷ u ∷ a ∷ b ∷ c ∷ []) =
+    rw (code_unit-line_feed a b c) (none_if ((s == 92) && (u == 117)))
 content-line_feed (after_high h) (s ∷ u ∷ a ∷ b ∷ c ∷ d ∷ xs) =
     ap (λ o. cond ((s == 92) && (u == 117)) o None)
-    (each _ _ (code_unit a b c d) (λ l. ap (λ rest. cond (is_low_surrogate l) (prepend (encode_utf8 (surrogate_pair h l)) rest) None) (content-line_feed plain xs)))
+    (each _ _ (code_unit a b c d)
+    (λ l. ap (λ rest. cond (is_low_surrogate l) (prepend (encode_utf8 (surrogate_pair h l)) rest) None)
+    (content-line_feed plain xs)))
 
 -- ---- the lexer
 
-lex_byte-line_feed : (m : Mode) (c : Class) (x : ℕ) (xs : List ℕ) (j k : Mode → List Lexeme) → ((next : Mode) → j next ≡ k next) → lex_byte m c x (with_line_feed xs) j ≡ lex_byte m c x xs k
-lex_byte-line_feed between quote x xs j k same = ap₂ (λ s ls. token (string_token s) ∷ ls) (content-line_feed plain xs) (same in_string)
+lex_byte-line_feed : (m : Mode) (c : Class) (x : ℕ) (xs : List ℕ) (j k : Mode → List Lexeme)
+    → ((next : Mode) → j next ≡ k next) → lex_byte m c x (with_line_feed xs) j ≡ lex_byte m c x xs k
+lex_byte-line_feed between quote x xs j k same =
+    ap₂ (λ s ls. token (string_token s) ∷ ls) (content-line_feed plain xs) (same in_string)
 lex_byte-line_feed between backslash x xs j k same = ap (λ ls. token bad ∷ ls) (same in_word)
 lex_byte-line_feed between operator x xs j k same = ap (λ ls. operator_lexeme x ∷ ls) (same between)
 lex_byte-line_feed between space x xs j k same = same between
@@ -208,7 +234,9 @@ lex-line_feed between [] = refl
 lex-line_feed in_word [] = refl
 lex-line_feed in_string [] = refl
 lex-line_feed in_escape [] = refl
-lex-line_feed m (x ∷ xs) = lex_byte-line_feed m (class x) x xs (λ next. lex next (with_line_feed xs)) (λ next. lex next xs) (λ next. lex-line_feed next xs)
+lex-line_feed m (x ∷ xs) =
+    lex_byte-line_feed m (class x) x xs (λ next. lex next (with_line_feed xs)) (λ next. lex next xs)
+    (λ next. lex-line_feed next xs)
 
 pub tokens-line_feed : (t : List ℕ) → tokens (with_line_feed t) ≡ tokens t
 tokens-line_feed t = ap (punctuate fresh) (lex-line_feed between t)
@@ -216,7 +244,9 @@ tokens-line_feed t = ap (punctuate fresh) (lex-line_feed between t)
 -- ---- the reading
 
 pub read-line_feed : (t : List ℕ) → read (with_line_feed t) ≡ read t
-read-line_feed t = ap (λ ts. option_and_then of_json (option_and_then (λ p. json.if_last p.0 p.1) (json.value max_depth ts))) (tokens-line_feed t)
+read-line_feed t =
+    ap (λ ts. option_and_then of_json (option_and_then (λ p. json.if_last p.0 p.1) (json.value max_depth ts)))
+    (tokens-line_feed t)
 
 is_line_feed : is_utf8 (10 ∷ []) ≡ true
 unfolding is_utf8 chars encode_utf8
@@ -227,7 +257,8 @@ IsUtf8-line_feed = IsUtf8-from_is_utf8 (10 ∷ []) is_line_feed
 
 IsUtf8-before_line_feed : (t : List ℕ) → IsUtf8 (with_line_feed t) → IsUtf8 t
 IsUtf8-before_line_feed t text =
-    subst IsUtf8 (take-append_seam t (10 ∷ [])) (IsUtf8-take (with_line_feed t) (length t) text (IsCharBoundary-at_seam (with_line_feed t) t (10 ∷ []) refl IsUtf8-line_feed))
+    subst IsUtf8 (take-append_seam t (10 ∷ [])) (IsUtf8-take (with_line_feed t) (length t) text
+    (IsCharBoundary-at_seam (with_line_feed t) t (10 ∷ []) refl IsUtf8-line_feed))
 
 is_utf8-line_feed : (t : List ℕ) → is_utf8 (with_line_feed t) ≡ is_utf8 t
 is_utf8-line_feed t = by_tests (is_utf8 (with_line_feed t)) (is_utf8 t) refl refl
@@ -235,8 +266,10 @@ is_utf8-line_feed t = by_tests (is_utf8 (with_line_feed t)) (is_utf8 t) refl ref
     by_tests : (b c : Bool) → is_utf8 (with_line_feed t) ≡ b → is_utf8 t ≡ c → b ≡ c
     by_tests true true whole front = refl
     by_tests false false whole front = refl
-    by_tests true false whole front = sym (is_utf8-from_IsUtf8 t (IsUtf8-before_line_feed t (IsUtf8-from_is_utf8 _ whole))) ∙ front
-    by_tests false true whole front = sym whole ∙ is_utf8-from_IsUtf8 _ (IsUtf8-append t (10 ∷ []) (IsUtf8-from_is_utf8 t front) IsUtf8-line_feed)
+    by_tests true false whole front =
+        sym (is_utf8-from_IsUtf8 t (IsUtf8-before_line_feed t (IsUtf8-from_is_utf8 _ whole))) ∙ front
+    by_tests false true whole front =
+        sym whole ∙ is_utf8-from_IsUtf8 _ (IsUtf8-append t (10 ∷ []) (IsUtf8-from_is_utf8 t front) IsUtf8-line_feed)
 
 -- a text reads the same with a line feed behind it
 pub reading-line_feed : (t : List ℕ) → reading (with_line_feed t) ≡ reading t

@@ -20,10 +20,12 @@ reading-refused bytes refused = by_test (is_utf8 bytes) refl
     by_test true is = refused (IsUtf8-from_is_utf8 bytes is)
     by_test false is = refl
 
-pub json_of-number : (bytes : List ℕ) (d : Data) → IsUtf8 bytes → read bytes ≡ Some d → has_float d ≡ true → json_of bytes ≡ Err Number
+pub json_of-number : (bytes : List ℕ) (d : Data) → IsUtf8 bytes → read bytes ≡ Some d → has_float d ≡ true
+    → json_of bytes ≡ Err Number
 json_of-number bytes d text is_read float = ap whole_numbers (reading-text bytes text ∙ is_read) ∙ rw float refl
 
-pub json_of-whole : (bytes : List ℕ) (d : Data) → IsUtf8 bytes → read bytes ≡ Some d → has_float d ≡ false → json_of bytes ≡ Ok d
+pub json_of-whole : (bytes : List ℕ) (d : Data) → IsUtf8 bytes → read bytes ≡ Some d → has_float d ≡ false
+    → json_of bytes ≡ Ok d
 json_of-whole bytes d text is_read whole = ap whole_numbers (reading-text bytes text ∙ is_read) ∙ rw whole refl
 
 pub json_of-decode : (bytes : List ℕ) → (IsUtf8 bytes → read bytes ≡ None) → json_of bytes ≡ Err Decode

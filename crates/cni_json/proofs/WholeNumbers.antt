@@ -10,12 +10,14 @@ use Rattle.cni_json.specs.Fields.{unless_null, member_at, list_field, object_fie
 use Rattle.cni_json.specs.{Fields.{has_32_bits, in_32_bits, u32_of}, declared.fields.Field.TheVariants.Here}
 
 -- what holds of each value that is looked among holds of the one that is found
-pub found_member : (P : Data → Type 0) (o : Ordering) (x y : Option Data) (e v : Data) → match_ordering o x (Some e) y ≡ Some v → (x ≡ Some v → P v) → (y ≡ Some v → P v) → P e → P v
+pub found_member : (P : Data → Type 0) (o : Ordering) (x y : Option Data) (e v : Data)
+    → match_ordering o x (Some e) y ≡ Some v → (x ≡ Some v → P v) → (y ≡ Some v → P v) → P e → P v
 found_member P Less x y e v is first later here = first is
 found_member P Equal x y e v is first later here = let same : e ≡ v = cc in subst P same here
 found_member P Greater x y e v is first later here = later is
 
-get_member-whole : (key : List ℕ) (ms : Members) (v : Data) → members_have_float ms ≡ false → get_member key ms ≡ Some v → has_float v ≡ false
+get_member-whole : (key : List ℕ) (ms : Members) (v : Data) → members_have_float ms ≡ false → get_member key ms ≡ Some v
+    → has_float v ≡ false
 get_member-whole key no_members v whole is = cc
 get_member-whole key (member k e ms) v whole is =
     let parts = or_parts (has_float e) _ whole in
@@ -44,7 +46,8 @@ member_at-found (Some (object ms)) v is = is
 pub member_at-whole : (key : List ℕ) (d v : Data) → has_float d ≡ false → member_at key d ≡ Some v → has_float v ≡ false
 member_at-whole key d v whole is = get-whole key d v whole (member_at-found (get key d) v is)
 
-array_whole : (o : Option Data) (ds : Items) → field_of as_array o ≡ Here ds → ((v : Data) → o ≡ Some v → has_float v ≡ false) → items_have_float ds ≡ false
+array_whole : (o : Option Data) (ds : Items) → field_of as_array o ≡ Here ds
+    → ((v : Data) → o ≡ Some v → has_float v ≡ false) → items_have_float ds ≡ false
 array_whole None ds is whole = cc
 array_whole (Some null) ds is whole = cc
 array_whole (Some (boolean b)) ds is whole = cc
@@ -54,10 +57,12 @@ array_whole (Some (array es)) ds is whole = let same : es ≡ ds = cc in rw (←
 array_whole (Some (object ms)) ds is whole = cc
 
 -- a list under a key of a value with whole numbers has whole numbers
-pub list_field-whole : (key : List ℕ) (d : Data) (ds : Items) → has_float d ≡ false → list_field key d ≡ Here ds → items_have_float ds ≡ false
+pub list_field-whole : (key : List ℕ) (d : Data) (ds : Items) → has_float d ≡ false → list_field key d ≡ Here ds
+    → items_have_float ds ≡ false
 list_field-whole key d ds whole is = array_whole (get key d) ds is (λ v h. get-whole key d v whole h)
 
-object_whole : (o : Option Data) (e : Data) → field_of object_of o ≡ Here e → ((v : Data) → o ≡ Some v → has_float v ≡ false) → has_float e ≡ false
+object_whole : (o : Option Data) (e : Data) → field_of object_of o ≡ Here e
+    → ((v : Data) → o ≡ Some v → has_float v ≡ false) → has_float e ≡ false
 object_whole None e is whole = cc
 object_whole (Some null) e is whole = cc
 object_whole (Some (boolean b)) e is whole = cc
@@ -67,14 +72,17 @@ object_whole (Some (array es)) e is whole = cc
 object_whole (Some (object ms)) e is whole = let same : object ms ≡ e = cc in rw (← same) (whole (object ms) refl)
 
 -- an object under a key of a value with whole numbers has whole numbers
-pub object_field-whole : (key : List ℕ) (d e : Data) → has_float d ≡ false → object_field key d ≡ Here e → has_float e ≡ false
+pub object_field-whole : (key : List ℕ) (d e : Data) → has_float d ≡ false → object_field key d ≡ Here e
+    → has_float e ≡ false
 object_field-whole key d e whole is = object_whole (get key d) e is (λ v h. get-whole key d v whole h)
 
 -- an item of a list with whole numbers has whole numbers
-pub items_have_float-at : (xs : List Value) (i : ℕ) (d : Value) → items_have_float (items_view xs) ≡ false → i < length xs → has_float (view (get_or xs i d)) ≡ false
+pub items_have_float-at : (xs : List Value) (i : ℕ) (d : Value) → items_have_float (items_view xs) ≡ false
+    → i < length xs → has_float (view (get_or xs i d)) ≡ false
 items_have_float-at [] i d whole h = absurd (omega arith)
 items_have_float-at (x ∷ xs) zero d whole h = (or_parts (has_float (view x)) _ whole).0
-items_have_float-at (x ∷ xs) (suc i) d whole h = items_have_float-at xs i d (or_parts (has_float (view x)) _ whole).1 (omega arith)
+items_have_float-at (x ∷ xs) (suc i) d whole h =
+    items_have_float-at xs i d (or_parts (has_float (view x)) _ whole).1 (omega arith)
 
 -- the five under one name, for a function that hands on a part
 pub ruleset parts_are_whole = (get-whole, member_at-whole, list_field-whole, object_field-whole, items_have_float-at)

@@ -36,8 +36,11 @@ dns_depth dns =
 pub result_depth : (r : AddResult) → depth (result_data r) ≤ 3
 unfolding result_members
 result_depth r =
-    let version = members_depth-put 2 (codes "cniVersion") (version_data r.version) no_members (omega arith) (omega arith) in
+    let version =
+    members_depth-put 2 (codes "cniVersion") (version_data r.version) no_members (omega arith) (omega arith) in
     let dns = members_depth-put_object 1 (codes "dns") (dns_members r.dns) _ (dns_depth r.dns) version in
-    let interfaces = members_depth-put 2 (codes "interfaces") (list_data (interface_data r.version) r.interfaces) _ (depth-list 1 (interface_data r.version) r.interfaces (interface_depth r.version)) dns in
+    let interfaces =
+    members_depth-put 2 (codes "interfaces") (list_data (interface_data r.version) r.interfaces) _
+    (depth-list 1 (interface_data r.version) r.interfaces (interface_depth r.version)) dns in
     let ips = members_depth-put_list 1 (ip_data r.version) (codes "ips") r.ips _ (ip_depth r.version) interfaces in
     depth-object 2 _ (members_depth-put_list 1 route_data (codes "routes") r.routes _ route_depth ips)

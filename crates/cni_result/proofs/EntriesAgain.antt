@@ -51,13 +51,16 @@ up_to_mtu version i = up_to_mac i ▷ put_if number_data (codes "mtu") (mtu_sinc
 abbrev up_to_name : Version → Interface → Members
 up_to_name version i = up_to_mtu version i ▷ put (codes "name") (text_data i.name)
 
-name_again : (version : Version) (i : Interface) → text_at (codes "interfaces") (codes "name") (interface_data version i) ≡ Ok i.name
+name_again : (version : Version) (i : Interface)
+    → text_at (codes "interfaces") (codes "name") (interface_data version i) ≡ Ok i.name
 unfolding text_at interface_data
 name_again version i =
     ap (λ g. needed (invalid (codes "interfaces")) Ok (field_of as_str g))
-    (at_other_if text_data (codes "name") (codes "sandbox") i.sandbox (up_to_name version i) refl ∙ get_member-put (codes "name") (text_data i.name) (up_to_mtu version i))
+    (at_other_if text_data (codes "name") (codes "sandbox") i.sandbox (up_to_name version i) refl
+    ∙ get_member-put (codes "name") (text_data i.name) (up_to_mtu version i))
 
-mac_again : (version : Version) (i : Interface) → IfSome i.mac IsMac → mac_if_at (codes "interfaces") (codes "mac") (interface_data version i) ≡ Ok i.mac
+mac_again : (version : Version) (i : Interface) → IfSome i.mac IsMac
+    → mac_if_at (codes "interfaces") (codes "mac") (interface_data version i) ≡ Ok i.mac
 unfolding mac_if_at interface_data
 mac_again version i kept =
     ap (λ g. optional (codes "interfaces") mac_of_text (field_of as_str g))
@@ -67,7 +70,8 @@ mac_again version i kept =
     ∙ at_key_if mac_data (codes "mac") i.mac no_members refl)
     ∙ optional_again (codes "interfaces") mac_of_text mac_text i.mac (mac_if_read i.mac kept)
 
-sandbox_again : (version : Version) (i : Interface) → text_if_at (codes "interfaces") (codes "sandbox") (interface_data version i) ≡ Ok i.sandbox
+sandbox_again : (version : Version) (i : Interface)
+    → text_if_at (codes "interfaces") (codes "sandbox") (interface_data version i) ≡ Ok i.sandbox
 unfolding text_if_at interface_data
 sandbox_again version i =
     ap (λ g. optional (codes "interfaces") Some (field_of as_str g))
@@ -77,7 +81,8 @@ sandbox_again version i =
     ∙ at_other_if mac_data (codes "sandbox") (codes "mac") i.mac no_members refl))
     ∙ optional_again (codes "interfaces") Some (λ t. t) i.sandbox (text_if_read i.sandbox)
 
-mtu_again : (version : Version) (i : Interface) → IfSome i.mtu (λ n. n < 2 ^ 32) → mtu_since_1_1 version i.mtu ≡ i.mtu → mtu_if_at version (interface_data version i) ≡ Ok i.mtu
+mtu_again : (version : Version) (i : Interface) → IfSome i.mtu (λ n. n < 2 ^ 32) → mtu_since_1_1 version i.mtu ≡ i.mtu
+    → mtu_if_at version (interface_data version i) ≡ Ok i.mtu
 unfolding number_if_at interface_data
 mtu_again V0_4 i fits told = ap Ok told
 mtu_again V1_0 i fits told = ap Ok told
@@ -85,13 +90,20 @@ mtu_again V1_1 i fits told =
     ap (λ g. optional (codes "interfaces") Some (field_of u32_of g))
     (at_other_if text_data (codes "mtu") (codes "sandbox") i.sandbox (up_to_name V1_1 i) refl
     ∙ at_other (codes "mtu") (codes "name") (text_data i.name) (up_to_mtu V1_1 i) refl
-    ∙ at_key_if number_data (codes "mtu") i.mtu (up_to_mac i) (at_other_if mac_data (codes "mtu") (codes "mac") i.mac no_members refl))
+    ∙ at_key_if number_data (codes "mtu") i.mtu (up_to_mac i)
+    (at_other_if mac_data (codes "mtu") (codes "mac") i.mac no_members refl))
     ∙ number_again (codes "interfaces") i.mtu fits
 
-pub interface_again : (version : Version) (i : Interface) → IsInterfaceOf version i → interface_at version (interface_data version i) ≡ Ok i
+pub interface_again : (version : Version) (i : Interface) → IsInterfaceOf version i
+    → interface_at version (interface_data version i) ≡ Ok i
 unfolding interface_at
 interface_again version i kept =
-    rw (name_again version i, mac_again version i kept.mac, mtu_again version i kept.mtu kept.told, sandbox_again version i) refl
+    rw (
+      name_again version i,
+      mac_again version i kept.mac,
+      mtu_again version i kept.mtu kept.told,
+      sandbox_again version i,
+    ) refl
 
 -- ---- an address
 
@@ -108,7 +120,8 @@ up_to_interface ip = up_to_gateway ip ▷ put_if number_data (codes "interface")
 abbrev told_of : Version → IpEntry → Option (List ℕ)
 told_of version ip = ip_version_before_1_0 version ip.address.addr.family
 
-address_again : (version : Version) (ip : IpEntry) → IsCidr ip.address → cidr_at (codes "ips") (codes "address") (ip_data version ip) ≡ Ok ip.address
+address_again : (version : Version) (ip : IpEntry) → IsCidr ip.address
+    → cidr_at (codes "ips") (codes "address") (ip_data version ip) ≡ Ok ip.address
 unfolding cidr_at ip_data
 address_again version ip kept =
     ap (λ g. cidr_of (codes "ips") (field_of as_str g))
@@ -118,16 +131,19 @@ address_again version ip kept =
     ∙ get_member-put (codes "address") (cidr_data ip.address) no_members)
     ∙ cidr_again (codes "ips") (cidr_text ip.address) ip.address (cidr_read ip.address kept)
 
-gateway_again : (version : Version) (ip : IpEntry) → IfSome ip.gateway IsAddr → addr_if_at (codes "ips") (codes "gateway") (ip_data version ip) ≡ Ok ip.gateway
+gateway_again : (version : Version) (ip : IpEntry) → IfSome ip.gateway IsAddr
+    → addr_if_at (codes "ips") (codes "gateway") (ip_data version ip) ≡ Ok ip.gateway
 unfolding addr_if_at ip_data
 gateway_again version ip kept =
     ap (λ g. optional (codes "ips") addr_of_text (field_of as_str g))
     (at_other_if text_data (codes "gateway") (codes "version") (told_of version ip) (up_to_interface ip) refl
     ∙ at_other_if number_data (codes "gateway") (codes "interface") ip.interface (up_to_gateway ip) refl
-    ∙ at_key_if addr_data (codes "gateway") ip.gateway (up_to_address ip) (at_other (codes "gateway") (codes "address") (cidr_data ip.address) no_members refl))
+    ∙ at_key_if addr_data (codes "gateway") ip.gateway (up_to_address ip)
+    (at_other (codes "gateway") (codes "address") (cidr_data ip.address) no_members refl))
     ∙ optional_again (codes "ips") addr_of_text addr_text ip.gateway (addr_if_read ip.gateway kept)
 
-index_again : (version : Version) (ip : IpEntry) → IsIpEntry ip → number_if_at (codes "ips") (codes "interface") (ip_data version ip) ≡ Ok ip.interface
+index_again : (version : Version) (ip : IpEntry) → IsIpEntry ip
+    → number_if_at (codes "ips") (codes "interface") (ip_data version ip) ≡ Ok ip.interface
 unfolding number_if_at ip_data
 index_again version ip kept =
     ap (λ g. optional (codes "ips") Some (field_of u32_of g))
@@ -140,9 +156,12 @@ index_again version ip kept =
 same_version : (told : List ℕ) → ip_version_of told (field_of as_str (Some (text_data told))) ≡ Ok tt
 same_version told = rw ((bytes_eq-Decides told told).1 refl) refl
 
-version_again_at : (told : Option (List ℕ)) (ms : Members) → ip_version_at told (object (ms ▷ put_if text_data (codes "version") told)) ≡ Ok tt
+version_again_at : (told : Option (List ℕ)) (ms : Members)
+    → ip_version_at told (object (ms ▷ put_if text_data (codes "version") told)) ≡ Ok tt
 version_again_at None ms = refl
-version_again_at (Some told) ms = ap (λ g. ip_version_of told (field_of as_str g)) (get_member-put (codes "version") (text_data told) ms) ∙ same_version told
+version_again_at (Some told) ms =
+    ap (λ g. ip_version_of told (field_of as_str g)) (get_member-put (codes "version") (text_data told) ms)
+    ∙ same_version told
 
 ip_version_again : (version : Version) (ip : IpEntry) → ip_version_at (told_of version ip) (ip_data version ip) ≡ Ok tt
 unfolding ip_data
@@ -151,25 +170,34 @@ ip_version_again version ip = version_again_at (told_of version ip) (up_to_inter
 pub ip_again : (version : Version) (ip : IpEntry) → IsIpEntry ip → ip_at version (ip_data version ip) ≡ Ok ip
 unfolding ip_at
 ip_again version ip kept =
-    rw (address_again version ip kept.address, gateway_again version ip kept.gateway, index_again version ip kept, ip_version_again version ip) refl
+    rw (
+      address_again version ip kept.address,
+      gateway_again version ip kept.gateway,
+      index_again version ip kept,
+      ip_version_again version ip,
+    ) refl
 
 -- ---- a route
 
 abbrev up_to_dst : RouteEntry → Members
 up_to_dst route = no_members ▷ put (codes "dst") (cidr_data route.dst)
 
-dst_again : (route : RouteEntry) → IsCidr route.dst → cidr_at (codes "routes") (codes "dst") (route_data route) ≡ Ok route.dst
+dst_again : (route : RouteEntry) → IsCidr route.dst
+    → cidr_at (codes "routes") (codes "dst") (route_data route) ≡ Ok route.dst
 unfolding cidr_at route_data
 dst_again route kept =
     ap (λ g. cidr_of (codes "routes") (field_of as_str g))
-    (at_other_if addr_data (codes "dst") (codes "gw") route.gw (up_to_dst route) refl ∙ get_member-put (codes "dst") (cidr_data route.dst) no_members)
+    (at_other_if addr_data (codes "dst") (codes "gw") route.gw (up_to_dst route) refl
+    ∙ get_member-put (codes "dst") (cidr_data route.dst) no_members)
     ∙ cidr_again (codes "routes") (cidr_text route.dst) route.dst (cidr_read route.dst kept)
 
-gw_again : (route : RouteEntry) → IfSome route.gw IsAddr → addr_if_at (codes "routes") (codes "gw") (route_data route) ≡ Ok route.gw
+gw_again : (route : RouteEntry) → IfSome route.gw IsAddr
+    → addr_if_at (codes "routes") (codes "gw") (route_data route) ≡ Ok route.gw
 unfolding addr_if_at route_data
 gw_again route kept =
     ap (λ g. optional (codes "routes") addr_of_text (field_of as_str g))
-    (at_key_if addr_data (codes "gw") route.gw (up_to_dst route) (at_other (codes "gw") (codes "dst") (cidr_data route.dst) no_members refl))
+    (at_key_if addr_data (codes "gw") route.gw (up_to_dst route)
+    (at_other (codes "gw") (codes "dst") (cidr_data route.dst) no_members refl))
     ∙ optional_again (codes "routes") addr_of_text addr_text route.gw (addr_if_read route.gw kept)
 
 pub route_again : (route : RouteEntry) → IsRouteEntry route → route_at (route_data route) ≡ Ok route

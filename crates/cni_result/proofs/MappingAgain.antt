@@ -23,7 +23,8 @@ up_to_host_port m = up_to_host_ip m ▷ put (codes "hostPort") (number_data m.ho
 port_again : (n : ℕ) → n < 2 ^ 16 → port_of (field_of u64_of (Some (number_data n))) ≡ Some n
 port_again n fits = search rules
 
-container_port_again : (m : PortMapping) → m.container_port < 2 ^ 16 → port_at (codes "containerPort") (mapping_data m) ≡ Some m.container_port
+container_port_again : (m : PortMapping) → m.container_port < 2 ^ 16
+    → port_at (codes "containerPort") (mapping_data m) ≡ Some m.container_port
 unfolding port_at mapping_data
 container_port_again m fits =
     ap (λ g. port_of (field_of u64_of g))
@@ -33,14 +34,17 @@ container_port_again m fits =
     ∙ get_member-put (codes "containerPort") (number_data m.container_port) no_members)
     ∙ port_again m.container_port fits
 
-host_port_again : (m : PortMapping) → m.host_port < 2 ^ 16 → port_at (codes "hostPort") (mapping_data m) ≡ Some m.host_port
+host_port_again : (m : PortMapping) → m.host_port < 2 ^ 16
+    → port_at (codes "hostPort") (mapping_data m) ≡ Some m.host_port
 unfolding port_at mapping_data
 host_port_again m fits =
     ap (λ g. port_of (field_of u64_of g))
-    (at_other (codes "hostPort") (codes "protocol") (proto_data m.protocol) (up_to_host_port m) refl ∙ get_member-put (codes "hostPort") (number_data m.host_port) (up_to_host_ip m))
+    (at_other (codes "hostPort") (codes "protocol") (proto_data m.protocol) (up_to_host_port m) refl
+    ∙ get_member-put (codes "hostPort") (number_data m.host_port) (up_to_host_ip m))
     ∙ port_again m.host_port fits
 
-addr_again : (o : Option AddrValue) → IfSome o (λ a. addr_of_text (addr_text a) ≡ Some a) → host_ip_of (field_of as_str (option_map addr_data o)) ≡ Some o
+addr_again : (o : Option AddrValue) → IfSome o (λ a. addr_of_text (addr_text a) ≡ Some a)
+    → host_ip_of (field_of as_str (option_map addr_data o)) ≡ Some o
 addr_again None is = refl
 addr_again (Some a) is = ap (option_map Some) is
 
@@ -50,7 +54,8 @@ host_ip_again m kept =
     ap (λ g. host_ip_of (field_of as_str g))
     (at_other (codes "hostIP") (codes "protocol") (proto_data m.protocol) (up_to_host_port m) refl
     ∙ at_other (codes "hostIP") (codes "hostPort") (number_data m.host_port) (up_to_host_ip m) refl
-    ∙ at_key_if addr_data (codes "hostIP") m.host_ip (up_to_container_port m) (at_other (codes "hostIP") (codes "containerPort") (number_data m.container_port) no_members refl))
+    ∙ at_key_if addr_data (codes "hostIP") m.host_ip (up_to_container_port m)
+    (at_other (codes "hostIP") (codes "containerPort") (number_data m.container_port) no_members refl))
     ∙ addr_again m.host_ip (addr_if_read m.host_ip kept)
 
 proto_again : (p : Proto) → protocol_of (field_of as_str (Some (proto_data p))) ≡ Some p
@@ -60,9 +65,16 @@ proto_again Sctp = refl
 
 protocol_again : (m : PortMapping) → protocol_at (mapping_data m) ≡ Some m.protocol
 unfolding protocol_at mapping_data
-protocol_again m = ap (λ g. protocol_of (field_of as_str g)) (get_member-put (codes "protocol") (proto_data m.protocol) (up_to_host_port m)) ∙ proto_again m.protocol
+protocol_again m =
+    ap (λ g. protocol_of (field_of as_str g))
+    (get_member-put (codes "protocol") (proto_data m.protocol) (up_to_host_port m)) ∙ proto_again m.protocol
 
 pub mapping_again : (m : PortMapping) → IsMapping m → mapping_at (mapping_data m) ≡ Some m
 unfolding mapping_at
 mapping_again m kept =
-    rw (container_port_again m kept.container_port, host_ip_again m kept.host_ip, host_port_again m kept.host_port, protocol_again m) refl
+    rw (
+      container_port_again m kept.container_port,
+      host_ip_again m kept.host_ip,
+      host_port_again m kept.host_port,
+      protocol_again m,
+    ) refl

@@ -48,7 +48,8 @@ nameservers_again dns =
     ap (λ g. texts_of wrong (field_of as_array g))
     (at_other_list text_data (codes "nameservers") (codes "search") dns.search (up_to_options dns) refl
     ∙ at_other_list text_data (codes "nameservers") (codes "options") dns.options (up_to_nameservers dns) refl
-    ∙ at_key_list text_data (codes "nameservers") dns.nameservers (up_to_domain dns) (at_other_text (codes "nameservers") (codes "domain") dns.domain no_members refl))
+    ∙ at_key_list text_data (codes "nameservers") dns.nameservers (up_to_domain dns)
+    (at_other_text (codes "nameservers") (codes "domain") dns.domain no_members refl))
     ∙ texts_again dns.nameservers
 
 options_again : (dns : Dns) → texts_at wrong (codes "options") (object (dns_members dns)) ≡ Ok dns.options
@@ -57,7 +58,8 @@ options_again dns =
     ap (λ g. texts_of wrong (field_of as_array g))
     (at_other_list text_data (codes "options") (codes "search") dns.search (up_to_options dns) refl
     ∙ at_key_list text_data (codes "options") dns.options (up_to_nameservers dns)
-    (at_other_list text_data (codes "options") (codes "nameservers") dns.nameservers (up_to_domain dns) refl ∙ at_other_text (codes "options") (codes "domain") dns.domain no_members refl))
+    (at_other_list text_data (codes "options") (codes "nameservers") dns.nameservers (up_to_domain dns) refl
+    ∙ at_other_text (codes "options") (codes "domain") dns.domain no_members refl))
     ∙ texts_again dns.options
 
 search_again : (dns : Dns) → texts_at wrong (codes "search") (object (dns_members dns)) ≡ Ok dns.search
@@ -109,7 +111,8 @@ version_again r =
     ap (λ g. version_of (field_of as_str g))
     (at_other_list route_data (codes "cniVersion") (codes "routes") r.routes (up_to_ips r) refl
     ∙ at_other_list (ip_data r.version) (codes "cniVersion") (codes "ips") r.ips (up_to_interfaces r) refl
-    ∙ at_other (codes "cniVersion") (codes "interfaces") (list_data (interface_data r.version) r.interfaces) (up_to_dns r) refl
+    ∙ at_other (codes "cniVersion") (codes "interfaces") (list_data (interface_data r.version) r.interfaces)
+    (up_to_dns r) refl
     ∙ at_other_object (codes "cniVersion") (codes "dns") (dns_members r.dns) (up_to_version r) refl
     ∙ get_member-put (codes "cniVersion") (version_data r.version) no_members)
     ∙ version_named_again r.version
@@ -117,7 +120,9 @@ version_again r =
 interfaces_again : (r : AddResult) → IsReadable r → interfaces_at r.version (result_data r) ≡ Ok r.interfaces
 unfolding interfaces_at list_at result_members
 interfaces_again r kept =
-    let all = everywhere (IsInterfaceOf r.version) (λ i. interface_at r.version (interface_data r.version i) ≡ Ok i) r.interfaces (interface_again r.version) kept.interfaces in
+    let all =
+    everywhere (IsInterfaceOf r.version) (λ i. interface_at r.version (interface_data r.version i) ≡ Ok i) r.interfaces
+    (interface_again r.version) kept.interfaces in
     ap (λ g. list_of (codes "interfaces") (interface_at r.version) (field_of as_array g))
     (at_other_list route_data (codes "interfaces") (codes "routes") r.routes (up_to_ips r) refl
     ∙ at_other_list (ip_data r.version) (codes "interfaces") (codes "ips") r.ips (up_to_interfaces r) refl
@@ -127,7 +132,8 @@ interfaces_again r kept =
 ips_again : (r : AddResult) → IsReadable r → ips_at r.version (result_data r) ≡ Ok r.ips
 unfolding ips_at list_at result_members
 ips_again r kept =
-    let all = everywhere IsIpEntry (λ ip. ip_at r.version (ip_data r.version ip) ≡ Ok ip) r.ips (ip_again r.version) kept.ips in
+    let all =
+    everywhere IsIpEntry (λ ip. ip_at r.version (ip_data r.version ip) ≡ Ok ip) r.ips (ip_again r.version) kept.ips in
     ap (λ g. list_of (codes "ips") (ip_at r.version) (field_of as_array g))
     (at_other_list route_data (codes "ips") (codes "routes") r.routes (up_to_ips r) refl
     ∙ at_key_list (ip_data r.version) (codes "ips") r.ips (up_to_interfaces r)
@@ -139,11 +145,13 @@ ips_again r kept =
 routes_again : (r : AddResult) → IsReadable r → routes_at (result_data r) ≡ Ok r.routes
 unfolding routes_at list_at result_members
 routes_again r kept =
-    let all = everywhere IsRouteEntry (λ route. route_at (route_data route) ≡ Ok route) r.routes route_again kept.routes in
+    let all =
+    everywhere IsRouteEntry (λ route. route_at (route_data route) ≡ Ok route) r.routes route_again kept.routes in
     ap (λ g. list_of (codes "routes") route_at (field_of as_array g))
     (at_key_list route_data (codes "routes") r.routes (up_to_ips r)
     (at_other_list (ip_data r.version) (codes "routes") (codes "ips") r.ips (up_to_interfaces r) refl
-    ∙ at_other (codes "routes") (codes "interfaces") (list_data (interface_data r.version) r.interfaces) (up_to_dns r) refl
+    ∙ at_other (codes "routes") (codes "interfaces") (list_data (interface_data r.version) r.interfaces)
+    (up_to_dns r) refl
     ∙ at_other_object (codes "routes") (codes "dns") (dns_members r.dns) (up_to_version r) refl
     ∙ at_other (codes "routes") (codes "cniVersion") (version_data r.version) no_members refl))
     ∙ list_if_again (codes "routes") route_data route_at r.routes all
@@ -155,7 +163,8 @@ dns_at_again r =
     (at_other_list route_data (codes "dns") (codes "routes") r.routes (up_to_ips r) refl
     ∙ at_other_list (ip_data r.version) (codes "dns") (codes "ips") r.ips (up_to_interfaces r) refl
     ∙ at_other (codes "dns") (codes "interfaces") (list_data (interface_data r.version) r.interfaces) (up_to_dns r) refl
-    ∙ at_key_object (codes "dns") (dns_members r.dns) (up_to_version r) (at_other (codes "dns") (codes "cniVersion") (version_data r.version) no_members refl))
+    ∙ at_key_object (codes "dns") (dns_members r.dns) (up_to_version r)
+    (at_other (codes "dns") (codes "cniVersion") (version_data r.version) no_members refl))
     ∙ dns_again wrong r.dns (dns_members r.dns) (dns_members_again r.dns)
 
 indexes_again : (r : AddResult) → IsReadable r → indexes_at (length r.interfaces) r.ips ≡ Ok tt
@@ -166,10 +175,18 @@ indexes_again r kept = rw kept.indexes refl
 pub result_again : (r : AddResult) → IsReadable r → result_at (result_data r) ≡ Ok r
 unfolding result_at
 result_again r kept =
-    rw (version_again r, interfaces_again r kept, ips_again r kept, routes_again r kept, dns_at_again r, indexes_again r kept) refl
+    rw (
+      version_again r,
+      interfaces_again r kept,
+      ips_again r kept,
+      routes_again r kept,
+      dns_at_again r,
+      indexes_again r kept,
+    ) refl
 
 -- a line whose reading is what was printed of a result is read as the result
-pub line_again : (text : List ℕ) (d : Data) (r : AddResult) → d ≡ result_data r → (depth d ≤ max_depth → json_of text ≡ Ok d) → IsReadable r → result_of_bytes text ≡ Ok r
+pub line_again : (text : List ℕ) (d : Data) (r : AddResult) → d ≡ result_data r
+    → (depth d ≤ max_depth → json_of text ≡ Ok d) → IsReadable r → result_of_bytes text ≡ Ok r
 unfolding result_of_bytes
 line_again text d r is again kept =
     let shallow : depth d ≤ max_depth = rw is (omega (arith, result_depth r)) in

@@ -25,7 +25,8 @@ use Rattle.plugin_chain.proofs.OwnCalls.{own-before, own-back}
 -- it makes these calls, one after each reply, and then ends so
 abbrev Makes : NetList → Command → Finish → ℕ → State → List Call → List Reply → Type 0
 Makes list c finish made s [] [] = turn c s ≡ Finishes finish
-Makes list c finish made s (x ∷ xs) (r ∷ rs) = (turn c s ≡ Calls x) × Makes list c finish (made + 1) (advance list c (made + 1) s r) xs rs
+Makes list c finish made s (x ∷ xs) (r ∷ rs) =
+    (turn c s ≡ Calls x) × Makes list c finish (made + 1) (advance list c (made + 1) s r) xs rs
 Makes list c finish made s xs rs = ⊥
 
 each-made : (list : NetList) (c : Command) (finish : Finish) (made : ℕ) (s : State) (xs : List Call) (rs : List Reply)
@@ -35,14 +36,16 @@ each-made list c finish made s [] [] h k call at = cc
 each-made list c finish made s [] (r ∷ rs) h k call at = absurd h
 each-made list c finish made s (x ∷ xs) [] h k call at = absurd h
 each-made list c finish made s (x ∷ xs) (r ∷ rs) h zero call at = h.0 ∙ cc
-each-made list c finish made s (x ∷ xs) (r ∷ rs) h (suc k) call at = each-made list c finish (made + 1) (advance list c (made + 1) s r) xs rs h.1 k call at
+each-made list c finish made s (x ∷ xs) (r ∷ rs) h (suc k) call at =
+    each-made list c finish (made + 1) (advance list c (made + 1) s r) xs rs h.1 k call at
 
 end-made : (list : NetList) (c : Command) (finish : Finish) (made : ℕ) (s : State) (xs : List Call) (rs : List Reply)
     → Makes list c finish made s xs rs → turn c (state_from list c made s rs) ≡ Finishes finish
 end-made list c finish made s [] [] h = h
 end-made list c finish made s [] (r ∷ rs) h = absurd h
 end-made list c finish made s (x ∷ xs) [] h = absurd h
-end-made list c finish made s (x ∷ xs) (r ∷ rs) h = end-made list c finish (made + 1) (advance list c (made + 1) s r) xs rs h.1
+end-made list c finish made s (x ∷ xs) (r ∷ rs) h =
+    end-made list c finish (made + 1) (advance list c (made + 1) s r) xs rs h.1
 
 -- ---- granted calls
 
@@ -86,7 +89,8 @@ before-leases_none list c = all-leases_none (att_of c) (before_of list c) (own-b
 
 back-leases_none : (list : NetList) (c : Command) (given : List Addr)
     → list_all leases_none (back_of list c given) ≡ true
-back-leases_none list c given = all-leases_none (att_of c) (back_of list c given) (own-back list (att_of c) c.netns (mappings_of list c) given)
+back-leases_none list c given =
+    all-leases_none (att_of c) (back_of list c given) (own-back list (att_of c) c.netns (mappings_of list c) given)
 
 -- ---- a run, from its end to its start
 
@@ -98,30 +102,45 @@ makes-back list c given made [] [] none all = refl
 makes-back list c given made [] (r ∷ rs) none all = absurd all
 makes-back list c given made (x ∷ xs) [] none all = absurd all
 makes-back list c given made (x ∷ xs) (r ∷ rs) none all =
-    let both = and_parts (leases_none x) (list_all leases_none xs) none in
-    (refl, subst (λ q. Makes list c (added given) (made + 1) (advance list c (made + 1) (AfterLeases x xs given) q) xs rs) (sym (granted-done x r both.0 all.0)) (makes-back list c given (made + 1) xs rs both.1 all.1))
+    let both = and_parts (leases_none x) (list_all leases_none xs) none in (
+      refl,
+      subst
+          (λ q. Makes list c (added given) (made + 1) (advance list c (made + 1) (AfterLeases x xs given) q) xs rs)
+          (sym (granted-done x r both.0 all.0)) (makes-back list c given (made + 1) xs rs both.1 all.1),
+    )
 
 -- the calls from the leases on
 abbrev from_leases : NetList → Command → List Addr → ℕ → List RangeSet → List Call
 from_leases list c total number sets = lease_calls_from (att_of c) number sets ++ back_of list c total
 
-makes-leases : (list : NetList) (c : Command) (total given : List Addr) (made : ℕ) (sets : List RangeSet) (rs : List Reply)
+makes-leases : (list : NetList) (c : Command) (total given : List Addr) (made : ℕ) (sets : List RangeSet)
+    (rs : List Reply)
     → total ≡ given ++ leases_in rs
-    → AreGranted (from_leases list c total (length given) sets) rs → Makes list c (added total) made (leasing list c sets given) (from_leases list c total (length given) sets) rs
+    → AreGranted (from_leases list c total (length given) sets) rs
+    → Makes list c (added total) made (leasing list c sets given) (from_leases list c total (length given) sets) rs
 unfolding turn advance
 makes-leases list c total given made [] rs is all =
     let none = back-leases_none list c total in
-    let whole : total ≡ given = is ∙ ap (λ more. given ++ more) (none-leased (back_of list c total) rs none all) ∙ append-nil given in
-    subst (λ g. Makes list c (added total) made (after_leases (back_of list c g) g) (back_of list c total) rs) whole (makes-back list c total made (back_of list c total) rs none all)
+    let whole : total ≡ given =
+    is ∙ ap (λ more. given ++ more) (none-leased (back_of list c total) rs none all) ∙ append-nil given in
+    subst (λ g. Makes list c (added total) made (after_leases (back_of list c g) g) (back_of list c total) rs) whole
+    (makes-back list c total made (back_of list c total) rs none all)
 makes-leases list c total given made (s ∷ ss) [] is all = absurd all
 makes-leases list c total given made (s ∷ ss) (r ∷ rs) is all =
     let leased = granted-leased r all.0 in
     let longer = given ++ leased.0 ∷ [] in
-    let more : total ≡ longer ++ leases_in rs = is ∙ ap (λ q. given ++ leases_in (q ∷ rs)) leased.1 ∙ sym (append_assoc given (leased.0 ∷ []) (leases_in rs)) in
-    let rest = makes-leases list c total longer (made + 1) ss rs more (subst (λ n. AreGranted (from_leases list c total n ss) rs) (sym (length_push given leased.0)) all.1) in (
+    let more : total ≡ longer ++ leases_in rs =
+    is ∙ ap (λ q. given ++ leases_in (q ∷ rs)) leased.1 ∙ sym (append_assoc given (leased.0 ∷ []) (leases_in rs)) in
+    let rest =
+    makes-leases list c total longer (made + 1) ss rs more
+    (subst (λ n. AreGranted (from_leases list c total n ss) rs) (sym (length_push given leased.0)) all.1) in (
       refl,
-      subst (λ q. Makes list c (added total) (made + 1) (advance list c (made + 1) (Leasing s ss given) q) (from_leases list c total (length given + 1) ss) rs) (sym leased.1)
-          (subst (λ n. Makes list c (added total) (made + 1) (leasing list c ss longer) (from_leases list c total n ss) rs) (length_push given leased.0) rest),
+      subst (λ q. Makes list c (added total) (made + 1) (advance list c (made + 1) (Leasing s ss given) q)
+          (from_leases list c total (length given + 1) ss) rs)
+          (sym leased.1)
+          (subst
+          (λ n. Makes list c (added total) (made + 1) (leasing list c ss longer) (from_leases list c total n ss) rs)
+          (length_push given leased.0) rest),
     )
 
 -- the calls from here on, of which these stand before the leases
@@ -130,7 +149,8 @@ from_before list c total left = left ++ (lease_calls_of (sets_of list) (att_of c
 
 makes-before : (list : NetList) (c : Command) (total : List Addr) (made : ℕ) (left : List Call) (rs : List Reply)
     → total ≡ leases_in rs → list_all leases_none left ≡ true
-    → AreGranted (from_before list c total left) rs → Makes list c (added total) made (before_leases list c left) (from_before list c total left) rs
+    → AreGranted (from_before list c total left) rs
+    → Makes list c (added total) made (before_leases list c left) (from_before list c total left) rs
 unfolding turn advance
 makes-before list c total made [] rs is none all = makes-leases list c total [] made (sets_of list) rs is all
 makes-before list c total made (x ∷ xs) [] is none all = absurd all
@@ -138,7 +158,9 @@ makes-before list c total made (x ∷ xs) (r ∷ rs) is none all =
     let both = and_parts (leases_none x) (list_all leases_none xs) none in
     let done = granted-done x r both.0 all.0 in (
       refl,
-      subst (λ q. Makes list c (added total) (made + 1) (advance list c (made + 1) (BeforeLeases x xs) q) (from_before list c total xs) rs) (sym done)
+      subst (λ q. Makes list c (added total) (made + 1) (advance list c (made + 1) (BeforeLeases x xs) q)
+          (from_before list c total xs) rs)
+          (sym done)
           (makes-before list c total (made + 1) xs rs (is ∙ ap (λ q. leases_in (q ∷ rs)) done) both.1 all.1),
     )
 
@@ -149,8 +171,12 @@ makes-all list c total [] is all = absurd all
 makes-all list c total (r ∷ rs) is all =
     let done : r ≡ Done = done-is r all.0 in (
       refl,
-      subst (λ q. Makes list c (added total) 1 (advance list c 1 AtBegin q) (from_before list c total (before_of list c)) rs) (sym done)
-          (makes-before list c total 1 (before_of list c) rs (is ∙ ap (λ q. leases_in (q ∷ rs)) done) (before-leases_none list c) all.1),
+      subst
+          (λ q.
+          Makes list c (added total) 1 (advance list c 1 AtBegin q) (from_before list c total (before_of list c)) rs)
+          (sym done)
+          (makes-before list c total 1 (before_of list c) rs (is ∙ ap (λ q. leases_in (q ∷ rs)) done)
+          (before-leases_none list c) all.1),
     )
 
 begins : (list : NetList) (c : Command) → c.verb ≡ verbs.Add → add_refusal c ≡ None → start_state list c ≡ AtBegin
@@ -160,7 +186,9 @@ pub add_makes_its_calls : AddMakesItsCalls
 add_makes_its_calls list c rs is none all =
     let given = leases_in rs in
     let calls = calls_of_add list c given in
-    let makes : Makes list c (added given) 0 (start_state list c) calls rs = subst (λ s. Makes list c (added given) 0 s calls rs) (sym (begins list c is none)) (makes-all list c given rs refl all) in
+    let makes : Makes list c (added given) 0 (start_state list c) calls rs =
+    subst (λ s. Makes list c (added given) 0 s calls rs) (sym (begins list c is none))
+    (makes-all list c given rs refl all) in
     record {
       each = each-made list c (added given) 0 (start_state list c) calls rs makes;
       ends = end-made list c (added given) 0 (start_state list c) calls rs makes;
@@ -212,9 +240,16 @@ add_may_be_granted list c given same =
       replies = Done ∷ (dones before ++ (map Leased given ++ dones back));
       granted = (
         refl,
-        granted-append before (leases ++ back) (dones before) (map Leased given ++ dones back) (granted-dones before (before-leases_none list c))
-            (granted-append leases back (map Leased given) (dones back) (granted-leases (att_of c) 0 (sets_of list) given same) (granted-dones back (back-leases_none list c given))),
+        granted-append before (leases ++ back) (dones before) (map Leased given ++ dones back)
+            (granted-dones before (before-leases_none list c))
+            (granted-append leases back (map Leased given) (dones back)
+            (granted-leases (att_of c) 0 (sets_of list) given same)
+            (granted-dones back (back-leases_none list c given))),
       );
-      leased = filter_map-append leased_by (dones before) (map Leased given ++ dones back) ∙ ap (λ l. l ++ leases_in (map Leased given ++ dones back)) (leased-dones before)
-          ∙ filter_map-append leased_by (map Leased given) (dones back) ∙ ap (λ l. leases_in (map Leased given) ++ l) (leased-dones back) ∙ append-nil (leases_in (map Leased given)) ∙ leased-all given;
+      leased =
+          filter_map-append leased_by (dones before) (map Leased given ++ dones back)
+          ∙ ap (λ l. l ++ leases_in (map Leased given ++ dones back)) (leased-dones before)
+          ∙ filter_map-append leased_by (map Leased given) (dones back)
+          ∙ ap (λ l. leases_in (map Leased given) ++ l) (leased-dones back) ∙ append-nil (leases_in (map Leased given))
+          ∙ leased-all given;
     }

@@ -12,7 +12,9 @@ after_replies-append step made s (x ∷ xs) r =
     ∙ ap (λ k. step k (after_replies step (made + 1) (step (made + 1) s x) xs) r) (omega arith)
 
 -- what each step keeps is kept
-pub after_replies-keeps : (P : State → Type 0) (step : ℕ → State → Reply → State) (made : ℕ) (s : State) (rs : List Reply)
+pub after_replies-keeps : (P : State → Type 0) (step : ℕ → State → Reply → State) (made : ℕ) (s : State)
+    (rs : List Reply)
     → ((number : ℕ) (s : State) (r : Reply) → P s → P (step number s r)) → P s → P (after_replies step made s rs)
 after_replies-keeps P step made s [] keeps h = h
-after_replies-keeps P step made s (r ∷ rs) keeps h = after_replies-keeps P step (made + 1) (step (made + 1) s r) rs keeps (keeps (made + 1) s r h)
+after_replies-keeps P step made s (r ∷ rs) keeps h =
+    after_replies-keeps P step (made + 1) (step (made + 1) s r) rs keeps (keeps (made + 1) s r h)

@@ -14,7 +14,8 @@ pub left_from : {X : Type 0} (xs : List X) (i : ℕ) (x : X) → i < length xs �
 left_from xs i x within at = drop_more xs i x within ∙ ap (λ y. y ∷ drop (i + 1) xs) (sym at)
 
 -- the next object has its question, by its number
-pub numbered_more : {X : Type 0} (f : ℕ → X → Question) (whole asked after : List Question) (number : ℕ) (xs : List X) (i : ℕ) (x : X) (q : Question)
+pub numbered_more : {X : Type 0} (f : ℕ → X → Question) (whole asked after : List Question) (number : ℕ) (xs : List X)
+    (i : ℕ) (x : X) (q : Question)
     → i < length xs → x ≡ get_or xs i x → q ≡ f number x
     → asked ++ scan (λ n y. n + 1) f number (drop i xs) ≡ whole → after ≡ asked ++ q ∷ []
     → after ++ scan (λ n y. n + 1) f (number + 1) (drop (i + 1) xs) ≡ whole

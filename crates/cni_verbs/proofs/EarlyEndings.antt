@@ -37,4 +37,5 @@ pub early_ending-cases : (version : Version) (disabled : Bool) (P : Option Endin
     → (is_before_1_1 version ≡ false → disabled ≡ true → P (Some (Skipped skips.Gc)))
     → (is_before_1_1 version ≡ false → disabled ≡ false → P None)
     → P (early_ending version disabled)
-early_ending-cases version disabled P old skipped open_to = by_early version disabled (is_before_1_1 version) disabled P refl refl old skipped open_to
+early_ending-cases version disabled P old skipped open_to =
+    by_early version disabled (is_before_1_1 version) disabled P refl refl old skipped open_to

@@ -52,7 +52,8 @@ none-made : (first : First) (att : Att) (netns : List ℕ) (calls : List Call) �
     → length calls ≡ 0 → ⊥
 none-made first att netns [] is none =
     let laws = first_laws first in
-    let made : no_objects ≡ added_before (plugin_of first) att netns = ap (share_after_calls no_objects) (sym is) ∙ laws.adds_before att netns no_objects in
+    let made : no_objects ≡ added_before (plugin_of first) att netns =
+    ap (share_after_calls no_objects) (sym is) ∙ laws.adds_before att netns no_objects in
     let links : [] ≡ (plugin_of first).links att netns = ap (λ (s : Share). s.links) made in
     absurd (let there : has_inner att netns [] ≡ true = ap (has_inner att netns) links ∙ laws.inner att netns in cc)
 none-made first att netns (call ∷ calls) is none = absurd (omega arith)
@@ -97,7 +98,8 @@ IsEarly phase =
     ⊎ ((phase ≡ phases.Leased)
     ⊎ (((ending : Ending) × (phase ≡ phases.ReadingCache ending))
     ⊎ (((ending : Ending) × (phase ≡ phases.CacheRead ending))
-    ⊎ ((phase ≡ phases.FindingEntry) ⊎ (((cached : Cached) × (phase ≡ phases.Found cached)) ⊎ ((change : Call) × (phase ≡ phases.Changing change))))))))))
+    ⊎ ((phase ≡ phases.FindingEntry) ⊎ (((cached : Cached) × (phase ≡ phases.Found cached))
+    ⊎ ((change : Call) × (phase ≡ phases.Changing change))))))))))
 
 told-early : (phase : Phase) → IsEarly phase → is_early phase ≡ true
 told-early phase (inl is) = ap is_early is
@@ -118,50 +120,63 @@ open-where list c room made addrs phases.Begun kept early = starts-before list c
 open-where list c room made addrs (phases.BeforeLeases calls passed) kept early =
     subst (λ calls. IsOpen (script.before_leases list c calls)) (sym (left_of calls passed kept.stands.0).1.1) tt
 open-where list c room made addrs phases.Leasing kept early =
-    subst (λ sets. IsOpen (script.leasing list c sets addrs)) (sym (left_of (sets_of list) (length addrs) kept.stands).1.1) tt
-open-where list c room made addrs phases.Leased kept early = starts-after (back_of list c addrs) addrs (calls-left list c addrs)
+    subst (λ sets. IsOpen (script.leasing list c sets addrs))
+    (sym (left_of (sets_of list) (length addrs) kept.stands).1.1) tt
+open-where list c room made addrs phases.Leased kept early =
+    starts-after (back_of list c addrs) addrs (calls-left list c addrs)
 open-where list c room made addrs (phases.AfterLeases calls passed cached) kept early = absurd cc
 open-where list c room made addrs (phases.ReadingCache ending) kept early = tt
-open-where list c room made addrs (phases.CacheRead ending) kept early = starts-deleting (kinds_of list) ending (kinds-some list)
+open-where list c room made addrs (phases.CacheRead ending) kept early =
+    starts-deleting (kinds_of list) ending (kinds-some list)
 open-where list c room made addrs (phases.Deleting deletions passed ending) kept early = absurd cc
 open-where list c room made addrs phases.FindingEntry kept early = tt
-open-where list c room made addrs (phases.Found cached) kept early = starts-asking (check_questions list c cached) (questions-left list c cached)
+open-where list c room made addrs (phases.Found cached) kept early =
+    starts-asking (check_questions list c cached) (questions-left list c cached)
 open-where list c room made addrs (phases.Asking questions passed) kept early = absurd cc
 open-where list c room made addrs (phases.Changing change) kept early = tt
 open-where list c room made addrs (phases.Over ending) kept early = absurd cc
 
 pub early-open : (list : NetList) (c : Command) (room made : ℕ) (addrs : List Addr) (phase : Phase)
     → KeepsOfList list c room made addrs phase → IsEarly phase → IsOpen (state_in list c addrs phase)
-early-open list c room made addrs phase kept early = open-where list c room made addrs phase kept (told-early phase early)
+early-open list c room made addrs phase kept early =
+    open-where list c room made addrs phase kept (told-early phase early)
 
 over-listed : {X : Type 0} (state : List X → State) (items : List X) (passed : ℕ) (over : Bool)
     → (IsOpen (state []) → ⊥) → ((item : X) (left : List X) → IsOpen (state (item ∷ left)))
     → MatchBool over (length items ≤ passed) (passed < length items) → IsOverIf over (state (drop passed items))
-over-listed state items passed true ends starts h = λ opened. let lt = opens state items passed ends opened in omega arith
-over-listed state items passed false ends starts h = subst (λ left. IsOpen (state left)) (sym (left_of items passed h).1.1) (starts _ _)
+over-listed state items passed true ends starts h =
+    λ opened. let lt = opens state items passed ends opened in omega arith
+over-listed state items passed false ends starts h =
+    subst (λ left. IsOpen (state left)) (sym (left_of items passed h).1.1) (starts _ _)
 
-pub after-leases-over : (list : NetList) (c : Command) (passed : ℕ) (calls read : List Call) (cached : Cached) (addrs : List Addr) (phase : Phase) (over : Bool)
+pub after-leases-over : (list : NetList) (c : Command) (passed : ℕ) (calls read : List Call) (cached : Cached)
+    (addrs : List Addr) (phase : Phase) (over : Bool)
     → phase ≡ phases.AfterLeases calls passed cached
-    → read ≡ calls → MatchBool over (length read ≤ passed) (passed < length read) → IsOverIf over (state_in list c addrs phase)
+    → read ≡ calls → MatchBool over (length read ≤ passed) (passed < length read)
+    → IsOverIf over (state_in list c addrs phase)
 after-leases-over list c passed calls read cached addrs phase over is same h =
     subst (λ p. IsOverIf over (state_in list c addrs p)) (sym is)
     (subst (λ cs. IsOverIf over (script.after_leases (drop passed cs) addrs)) same
     (over-listed (λ left. script.after_leases left addrs) read passed over (λ opened. opened) (λ call left. tt) h))
 
-pub deleting-over : (list : NetList) (c : Command) (passed : ℕ) (deletions read : List Call) (ending : Ending) (addrs : List Addr) (phase : Phase) (over : Bool)
+pub deleting-over : (list : NetList) (c : Command) (passed : ℕ) (deletions read : List Call) (ending : Ending)
+    (addrs : List Addr) (phase : Phase) (over : Bool)
     → phase ≡ phases.Deleting deletions passed ending
     → KeepsAhead list c addrs phase → read ≡ deletions → MatchBool over (length read ≤ passed) (passed < length read)
     → IsOverIf over (state_in list c addrs phase)
 deleting-over list c passed deletions read ending addrs phase over is keeps same h =
     let K : Phase → Type 0 = λ p. KeepsAhead list c addrs p in
-    let of_kinds : length read ≡ length (kinds_of list) = ap length (same ∙ subst K is keeps) ∙ length-map (kinds_of list) (deletion (att_of c)) in
+    let of_kinds : length read ≡ length (kinds_of list) =
+    ap length (same ∙ subst K is keeps) ∙ length-map (kinds_of list) (deletion (att_of c)) in
     subst (λ p. IsOverIf over (state_in list c addrs p)) (sym is)
     (over-listed (λ ks. script.deleting ks ending) (kinds_of list) passed over (λ opened. opened) (λ kind ks. tt)
     (subst (λ n. MatchBool over (n ≤ passed) (passed < n)) of_kinds h))
 
-pub asking-over : (list : NetList) (c : Command) (passed : ℕ) (questions read : List Question) (addrs : List Addr) (phase : Phase) (over : Bool)
+pub asking-over : (list : NetList) (c : Command) (passed : ℕ) (questions read : List Question) (addrs : List Addr)
+    (phase : Phase) (over : Bool)
     → phase ≡ phases.Asking questions passed
-    → read ≡ questions → MatchBool over (length read ≤ passed) (passed < length read) → IsOverIf over (state_in list c addrs phase)
+    → read ≡ questions → MatchBool over (length read ≤ passed) (passed < length read)
+    → IsOverIf over (state_in list c addrs phase)
 asking-over list c passed questions read addrs phase over is same h =
     subst (λ p. IsOverIf over (state_in list c addrs p)) (sym is)
     (subst (λ qs. IsOverIf over (script.asking (drop passed qs))) same
@@ -170,7 +185,9 @@ asking-over list c passed questions read addrs phase over is same h =
 -- ---- a run of no network
 
 pub unless-changing : (phase : Phase) (changing : Bool)
-    → MatchBool changing ((change : Call) × (phase ≡ phases.Changing change)) (((number : ℕ) (r : Reply) → script.outside_advance number (state_outside phase) r ≡ state_outside phase) × (IsOpen (state_outside phase) → ⊥))
+    → MatchBool changing ((change : Call) × (phase ≡ phases.Changing change))
+    (((number : ℕ) (r : Reply) → script.outside_advance number (state_outside phase) r ≡ state_outside phase)
+    × (IsOpen (state_outside phase) → ⊥))
     → IsOverIf (not changing) (state_outside phase)
 unless-changing phase true h = subst (λ p. IsOpen (state_outside p)) (sym h.1) tt
 unless-changing phase false h = h.1
@@ -196,41 +213,56 @@ finish-listed : {A X : Type 0} (state : List X → State) (items : List X) (fini
 finish-listed state [] finish f ends starts over = sym (ap (option_map f) ends)
 finish-listed state (item ∷ left) finish f ends starts over = absurd (over (starts item left))
 
-pub after-finish : {A : Type 0} (list : NetList) (c : Command) (passed : ℕ) (calls : List Call) (cached : Cached) (addrs : List Addr) (phase : Phase) (f : Finish → A)
+pub after-finish : {A : Type 0} (list : NetList) (c : Command) (passed : ℕ) (calls : List Call) (cached : Cached)
+    (addrs : List Addr) (phase : Phase) (f : Finish → A)
     → phase ≡ phases.AfterLeases calls passed cached
-    → (IsOpen (state_in list c addrs phase) → ⊥) → Some (f (record { ending = Added; given = addrs })) ≡ option_map f (finish_of (state_in list c addrs phase))
+    → (IsOpen (state_in list c addrs phase) → ⊥)
+    → Some (f (record { ending = Added; given = addrs })) ≡ option_map f (finish_of (state_in list c addrs phase))
 unfolding finish_of
 after-finish list c passed calls cached addrs phase f is over =
-    subst (λ p. Some (f (record { ending = Added; given = addrs })) ≡ option_map f (finish_of (state_in list c addrs p))) (sym is)
-    (finish-listed (λ left. script.after_leases left addrs) (drop passed calls) (record { ending = Added; given = addrs }) f refl (λ call left. tt)
+    subst
+    (λ p. Some (f (record { ending = Added; given = addrs })) ≡ option_map f (finish_of (state_in list c addrs p)))
+    (sym is)
+    (finish-listed (λ left. script.after_leases left addrs) (drop passed calls)
+    (record { ending = Added; given = addrs }) f refl (λ call left. tt)
     (subst (λ p. IsOpen (state_in list c addrs p) → ⊥) is over))
 
-pub deleting-finish : {A : Type 0} (list : NetList) (c : Command) (passed : ℕ) (deletions : List Call) (ending : Ending) (addrs : List Addr) (phase : Phase) (f : Finish → A)
+pub deleting-finish : {A : Type 0} (list : NetList) (c : Command) (passed : ℕ) (deletions : List Call) (ending : Ending)
+    (addrs : List Addr) (phase : Phase) (f : Finish → A)
     → phase ≡ phases.Deleting deletions passed ending
-    → (IsOpen (state_in list c addrs phase) → ⊥) → Some (f (record { ending = ending; given = [] })) ≡ option_map f (finish_of (state_in list c addrs phase))
+    → (IsOpen (state_in list c addrs phase) → ⊥)
+    → Some (f (record { ending = ending; given = [] })) ≡ option_map f (finish_of (state_in list c addrs phase))
 unfolding finish_of
 deleting-finish list c passed deletions ending addrs phase f is over =
-    subst (λ p. Some (f (record { ending = ending; given = [] })) ≡ option_map f (finish_of (state_in list c addrs p))) (sym is)
-    (finish-listed (λ kinds. script.deleting kinds ending) (drop passed (kinds_of list)) (record { ending = ending; given = [] }) f refl (λ kind kinds. tt)
+    subst (λ p. Some (f (record { ending = ending; given = [] })) ≡ option_map f (finish_of (state_in list c addrs p)))
+    (sym is)
+    (finish-listed (λ kinds. script.deleting kinds ending) (drop passed (kinds_of list))
+    (record { ending = ending; given = [] }) f refl (λ kind kinds. tt)
     (subst (λ p. IsOpen (state_in list c addrs p) → ⊥) is over))
 
-pub asking-finish : {A : Type 0} (list : NetList) (c : Command) (passed : ℕ) (questions : List Question) (addrs : List Addr) (phase : Phase) (f : Finish → A)
+pub asking-finish : {A : Type 0} (list : NetList) (c : Command) (passed : ℕ) (questions : List Question)
+    (addrs : List Addr) (phase : Phase) (f : Finish → A)
     → phase ≡ phases.Asking questions passed
-    → (IsOpen (state_in list c addrs phase) → ⊥) → Some (f (record { ending = Yes; given = [] })) ≡ option_map f (finish_of (state_in list c addrs phase))
+    → (IsOpen (state_in list c addrs phase) → ⊥)
+    → Some (f (record { ending = Yes; given = [] })) ≡ option_map f (finish_of (state_in list c addrs phase))
 unfolding finish_of
 asking-finish list c passed questions addrs phase f is over =
-    subst (λ p. Some (f (record { ending = Yes; given = [] })) ≡ option_map f (finish_of (state_in list c addrs p))) (sym is)
-    (finish-listed script.asking (drop passed questions) (record { ending = Yes; given = [] }) f refl (λ question left. tt)
+    subst (λ p. Some (f (record { ending = Yes; given = [] })) ≡ option_map f (finish_of (state_in list c addrs p)))
+    (sym is)
+    (finish-listed script.asking (drop passed questions) (record { ending = Yes; given = [] }) f refl
+    (λ question left. tt)
     (subst (λ p. IsOpen (state_in list c addrs p) → ⊥) is over))
 
-pub over-finish : {A : Type 0} (list : NetList) (c : Command) (ending : Ending) (addrs : List Addr) (phase : Phase) (f : Finish → A)
+pub over-finish : {A : Type 0} (list : NetList) (c : Command) (ending : Ending) (addrs : List Addr) (phase : Phase)
+    (f : Finish → A)
     → phase ≡ phases.Over ending
     → Some (f (record { ending = ending; given = [] })) ≡ option_map f (finish_of (state_in list c addrs phase))
 unfolding finish_of
 over-finish list c ending addrs phase f is = sym (ap (λ p. option_map f (finish_of (state_in list c addrs p))) is)
 
 -- the result that is kept is the answer of an ADD that is over
-pub added-answer : (list : NetList) (c : Command) (calls : List Call) (passed : ℕ) (cached : Cached) (addrs : List Addr) (phase : Phase)
+pub added-answer : (list : NetList) (c : Command) (calls : List Call) (passed : ℕ) (cached : Cached) (addrs : List Addr)
+    (phase : Phase)
     → phase ≡ phases.AfterLeases calls passed cached
     → KeepsAhead list c addrs phase → cached.result ≡ result_of_add list (att_of c) c.netns addrs
 added-answer list c calls passed cached addrs phase is keeps =

@@ -14,17 +14,22 @@ use Rattle.plugin_chain.proofs.WantedShare.{makes-wanted}
 
 -- a cached result is none of the objects that a check asks for
 asked-without_cached : (s : Share) (calls : List Call) (att : Att) (cached : Cached)
-    → share_questions (share_after_calls s calls) ≡ share_questions (share_after_calls s (calls ++ CachePut att cached ∷ []))
-asked-without_cached s calls att cached = sym (ap share_questions (share_after_calls-append s calls (CachePut att cached ∷ [])))
+    → share_questions (share_after_calls s calls)
+    ≡ share_questions (share_after_calls s (calls ++ CachePut att cached ∷ []))
+asked-without_cached s calls att cached =
+    sym (ap share_questions (share_after_calls-append s calls (CachePut att cached ∷ [])))
 
-pub gathered : (list : NetList) (c : Command) (cached : Cached) (att : Att) (addrs leased given : List Addr) (mappings : List PortMapping) (before after : List Call) (none made with_leases all : Share)
+pub gathered : (list : NetList) (c : Command) (cached : Cached) (att : Att) (addrs leased given : List Addr)
+    (mappings : List PortMapping) (before after : List Call) (none made with_leases all : Share)
     → att ≡ att_of c → addrs ≡ addresses_of_result cached.result
     → none ≡ no_objects → before ≡ calls_before list.first att cached.netns → made ≡ share_after_calls none before
     → leased ≡ addrs → with_leases ≡ record made { leases = map (lease_of att) leased }
     → mappings ≡ cached.mappings → given ≡ addrs
-    → after ++ CachePut att (cached_of list att cached.netns mappings given) ∷ [] ≡ back_calls list att cached.netns mappings given
+    → after ++ CachePut att (cached_of list att cached.netns mappings given) ∷ []
+    ≡ back_calls list att cached.netns mappings given
     → all ≡ share_after_calls with_leases after → share_questions all ≡ share_questions (cached_share list c cached)
-gathered list c cached att addrs leased given mappings before after none made with_leases all is_att is_addrs is_none is_before is_made is_leased is_leases is_mappings is_given is_after is_all =
+gathered list c cached att addrs leased given mappings before after none made with_leases all is_att is_addrs is_none
+    is_before is_made is_leased is_leases is_mappings is_given is_after is_all =
     ap share_questions is_all
     ∙ asked-without_cached with_leases after att (cached_of list att cached.netns mappings given)
     ∙ ap (λ calls. share_questions (share_after_calls with_leases calls)) is_after
@@ -32,7 +37,10 @@ gathered list c cached att addrs leased given mappings before after none made wi
     (ap share_questions (makes-wanted list (att_of c) cached.netns cached.mappings (addresses_of_result cached.result)))
 
 -- the questions of the bridge and of what was gathered are all that a check asks
-pub checked : (bridge named : Option (List ℕ)) (listed interfaces : List Interface) (none front all : List Question) (made said : Share)
-    → named ≡ bridge → none ≡ [] → listed ≡ interfaces → front ≡ none ++ bridge_questions named listed → share_questions made ≡ share_questions said → all ≡ front ++ share_questions made
+pub checked : (bridge named : Option (List ℕ)) (listed interfaces : List Interface) (none front all : List Question)
+    (made said : Share)
+    → named ≡ bridge → none ≡ [] → listed ≡ interfaces → front ≡ none ++ bridge_questions named listed
+    → share_questions made ≡ share_questions said → all ≡ front ++ share_questions made
     → all ≡ bridge_questions bridge interfaces ++ share_questions said
-checked bridge named listed interfaces none front all made said is_named is_none is_listed is_front is_made is_all = rw (is_all, is_front, is_none, is_listed, is_made, is_named) refl
+checked bridge named listed interfaces none front all made said is_named is_none is_listed is_front is_made is_all =
+    rw (is_all, is_front, is_none, is_listed, is_made, is_named) refl

@@ -39,15 +39,18 @@ at_before list c passed calls h =
     let left = left_of calls passed h in
     left.1.0 ∙ sym (ap (λ calls. next_call c (script.before_leases list c calls)) left.1.1)
 
-pub next_before : (list : NetList) (c : Command) (room made passed : ℕ) (calls : List Call) (addrs : List Addr) (phase : Phase)
-    → KeepsOfList list c room made addrs phase → phase ≡ phases.BeforeLeases calls passed → slice_get calls passed ≡ next_call c (state_in list c addrs phase)
+pub next_before : (list : NetList) (c : Command) (room made passed : ℕ) (calls : List Call) (addrs : List Addr)
+    (phase : Phase)
+    → KeepsOfList list c room made addrs phase → phase ≡ phases.BeforeLeases calls passed
+    → slice_get calls passed ≡ next_call c (state_in list c addrs phase)
 next_before list c room made passed calls addrs phase kept is =
     let S : Phase → Type 0 = λ p. Stands (length (sets_of list)) made addrs p in
     let here : (passed < length calls) × (addrs ≡ []) = subst S is kept.stands in
     at_before list c passed calls here.0 ∙ sym (ap (λ p. next_call c (state_in list c addrs p)) is)
 
 at_lease : (list : NetList) (c : Command) (addrs : List Addr) → length addrs < length (sets_of list)
-    → option_map (LeaseNext (att_of c) (length addrs)) (slice_get (sets_of list) (length addrs)) ≡ next_call c (script.leasing list c (drop (length addrs) (sets_of list)) addrs)
+    → option_map (LeaseNext (att_of c) (length addrs)) (slice_get (sets_of list) (length addrs))
+    ≡ next_call c (script.leasing list c (drop (length addrs) (sets_of list)) addrs)
 unfolding next_call
 at_lease list c addrs h =
     let left = left_of (sets_of list) (length addrs) h in
@@ -56,22 +59,27 @@ at_lease list c addrs h =
 
 pub next_lease : (list : NetList) (c : Command) (room made : ℕ) (addrs : List Addr) (phase : Phase)
     → KeepsOfList list c room made addrs phase → phase ≡ phases.Leasing
-    → option_map (LeaseNext (att_of c) (length addrs)) (slice_get (sets_of list) (length addrs)) ≡ next_call c (state_in list c addrs phase)
+    → option_map (LeaseNext (att_of c) (length addrs)) (slice_get (sets_of list) (length addrs))
+    ≡ next_call c (state_in list c addrs phase)
 next_lease list c room made addrs phase kept is =
     let S : Phase → Type 0 = λ p. Stands (length (sets_of list)) made addrs p in
     at_lease list c addrs (subst S is kept.stands) ∙ sym (ap (λ p. next_call c (state_in list c addrs p)) is)
 
 -- what is next of a list that is left, by what its first item calls
-next_listed : {X : Type 0} (c : Command) (state : List X → State) (call_of : Option X → Option Call) (items : List X) (passed : ℕ)
-    → call_of None ≡ next_call c (state []) → ((item : X) (left : List X) → call_of (Some item) ≡ next_call c (state (item ∷ left)))
+next_listed : {X : Type 0} (c : Command) (state : List X → State) (call_of : Option X → Option Call) (items : List X)
+    (passed : ℕ)
+    → call_of None ≡ next_call c (state [])
+    → ((item : X) (left : List X) → call_of (Some item) ≡ next_call c (state (item ∷ left)))
     → call_of (slice_get items passed) ≡ next_call c (state (drop passed items))
 next_listed c state call_of items passed over calls =
     elim (left_or_none items passed) [
-      | inl w ↦ ap call_of w.1.0 ∙ calls w.0 (drop (passed + 1) items) ∙ sym (ap (λ left. next_call c (state left)) w.1.1)
+      | inl w ↦
+          ap call_of w.1.0 ∙ calls w.0 (drop (passed + 1) items) ∙ sym (ap (λ left. next_call c (state left)) w.1.1)
       | inr w ↦ ap call_of w.0 ∙ over ∙ sym (ap (λ left. next_call c (state left)) w.1)
     ]
 
-pub next_after : (list : NetList) (c : Command) (passed : ℕ) (calls : List Call) (cached : Cached) (addrs : List Addr) (phase : Phase)
+pub next_after : (list : NetList) (c : Command) (passed : ℕ) (calls : List Call) (cached : Cached) (addrs : List Addr)
+    (phase : Phase)
     → phase ≡ phases.AfterLeases calls passed cached
     → slice_get calls passed ≡ next_call c (state_in list c addrs phase)
 unfolding next_call
@@ -86,7 +94,8 @@ unfolding next_call
 next_cache list c addrs phase (inl w) = sym (ap (λ p. next_call c (state_in list c addrs p)) w.1)
 next_cache list c addrs phase (inr is) = sym (ap (λ p. next_call c (state_in list c addrs p)) is)
 
-pub next_deletion : (list : NetList) (c : Command) (room made passed : ℕ) (deletions : List Call) (ending : Ending) (addrs : List Addr) (phase : Phase)
+pub next_deletion : (list : NetList) (c : Command) (room made passed : ℕ) (deletions : List Call) (ending : Ending)
+    (addrs : List Addr) (phase : Phase)
     → KeepsOfList list c room made addrs phase → phase ≡ phases.Deleting deletions passed ending
     → slice_get deletions passed ≡ next_call c (state_in list c addrs phase)
 unfolding next_call
@@ -94,10 +103,12 @@ next_deletion list c room made passed deletions ending addrs phase kept is =
     let K : Phase → Type 0 = λ p. KeepsAhead list c addrs p in
     ap (λ calls. slice_get calls passed) (subst K is kept.keeps)
     ∙ slice_get-map (deletion (att_of c)) (kinds_of list) passed
-    ∙ next_listed c (λ kinds. script.deleting kinds ending) (option_map (deletion (att_of c))) (kinds_of list) passed refl (λ kind kinds. refl)
+    ∙ next_listed c (λ kinds. script.deleting kinds ending) (option_map (deletion (att_of c)))
+    (kinds_of list) passed refl (λ kind kinds. refl)
     ∙ sym (ap (λ p. next_call c (state_in list c addrs p)) is)
 
-pub next_asking : (list : NetList) (c : Command) (passed : ℕ) (questions : List Question) (addrs : List Addr) (phase : Phase)
+pub next_asking : (list : NetList) (c : Command) (passed : ℕ) (questions : List Question) (addrs : List Addr)
+    (phase : Phase)
     → phase ≡ phases.Asking questions passed
     → option_map (λ question. question.call) (slice_get questions passed) ≡ next_call c (state_in list c addrs phase)
 unfolding next_call
@@ -116,7 +127,10 @@ unfolding next_call
 next_over list c addrs phase ending is = sym (ap (λ p. next_call c (state_in list c addrs p)) is)
 
 pub is-prepared : (phase : Phase) → is_prepared phase ≡ true
-    → (phase ≡ phases.Begun) ⊎ ((phase ≡ phases.Leased) ⊎ (((ending : Ending) × (phase ≡ phases.CacheRead ending)) ⊎ ((cached : Cached) × (phase ≡ phases.Found cached)))) → ⊥
+    → (phase ≡ phases.Begun)
+    ⊎ ((phase ≡ phases.Leased)
+    ⊎ (((ending : Ending) × (phase ≡ phases.CacheRead ending)) ⊎ ((cached : Cached) × (phase ≡ phases.Found cached))))
+    → ⊥
 is-prepared phase h (inl is) = let e = ap is_prepared is in cc
 is-prepared phase h (inr (inl is)) = let e = ap is_prepared is in cc
 is-prepared phase h (inr (inr (inl w))) = let e = ap is_prepared w.1 in cc
@@ -152,7 +166,8 @@ starts_for l k c d phase same_list same h =
 -- ---- what is prepared
 
 -- the invariant holds on where the phase means the same
-pub kept_prepared : (list : Option NetList) (l : NetList) (c : Command) (room made : ℕ) (given addrs : List Addr) (old new : Phase)
+pub kept_prepared : (list : Option NetList) (l : NetList) (c : Command) (room made : ℕ) (given addrs : List Addr)
+    (old new : Phase)
     → list ≡ Some l → addrs ≡ given → IsSameButPrepared l c addrs old new
     → KeepsOfListBy list c room made given old → KeepsOfListBy list c room made given new
 kept_prepared list l c room made given addrs old new is seen same kept =

@@ -23,7 +23,8 @@ IsLeft xs n x = (slice_get xs n ≡ Some x) × (drop n xs ≡ x ∷ drop (n + 1)
 
 left_at : {X : Type 0} (xs : List X) (n : ℕ) (x : X) → n < length xs → slice_get xs n ≡ Some x → get_or xs n x ≡ x
     → IsLeft xs n x
-left_at xs n x h got is = (got, drop-cons xs n x h ∙ ap (λ y. y ∷ drop (suc n) xs) is ∙ ap (λ k. x ∷ drop k xs) (sym (add-one n)))
+left_at xs n x h got is =
+    (got, drop-cons xs n x h ∙ ap (λ y. y ∷ drop (suc n) xs) is ∙ ap (λ k. x ∷ drop k xs) (sym (add-one n)))
 
 pub left_of : {X : Type 0} (xs : List X) (n : ℕ) → n < length xs → (x : X) × IsLeft xs n x
 left_of {X} xs n h =
@@ -55,7 +56,8 @@ calls_over list c made passed calls phase over goes =
 
 pub steps_before : (list : NetList) (c : Command) (number passed : ℕ) (calls : List Call) (r : Reply)
     → passed < length calls
-    → script.at_call_before list c number (drop (passed + 1) calls) r ≡ advance list c number (script.before_leases list c (drop passed calls)) r
+    → script.at_call_before list c number (drop (passed + 1) calls) r
+    ≡ advance list c number (script.before_leases list c (drop passed calls)) r
 unfolding advance
 steps_before list c number passed calls r h =
     let left = left_of calls passed h in
@@ -63,7 +65,8 @@ steps_before list c number passed calls r h =
 
 pub steps_lease : (list : NetList) (c : Command) (number : ℕ) (addrs : List Addr) (r : Reply)
     → length addrs < length (sets_of list)
-    → script.at_lease list c number (drop (length addrs + 1) (sets_of list)) addrs r ≡ advance list c number (script.leasing list c (drop (length addrs) (sets_of list)) addrs) r
+    → script.at_lease list c number (drop (length addrs + 1) (sets_of list)) addrs r
+    ≡ advance list c number (script.leasing list c (drop (length addrs) (sets_of list)) addrs) r
 unfolding advance
 steps_lease list c number addrs r h =
     let left = left_of (sets_of list) (length addrs) h in
@@ -87,7 +90,8 @@ item_left state items passed over h =
 
 pub steps_after : (list : NetList) (c : Command) (number passed : ℕ) (calls : List Call) (addrs : List Addr) (r : Reply)
     → IsOpen (script.after_leases (drop passed calls) addrs)
-    → script.at_call_after number (drop (passed + 1) calls) addrs r ≡ advance list c number (script.after_leases (drop passed calls) addrs) r
+    → script.at_call_after number (drop (passed + 1) calls) addrs r
+    ≡ advance list c number (script.after_leases (drop passed calls) addrs) r
 unfolding advance
 steps_after list c number passed calls addrs r h =
     let left = item_left (λ left. script.after_leases left addrs) calls passed (λ h. h) h in
@@ -95,15 +99,20 @@ steps_after list c number passed calls addrs r h =
 
 pub steps_deletion : (list : NetList) (c : Command) (number passed : ℕ) (kind : Kind) (ending : Ending) (r : Reply)
     → drop passed (kinds_of list) ≡ kind ∷ drop (passed + 1) (kinds_of list)
-    → script.at_deletion number kind (drop (passed + 1) (kinds_of list)) ending r ≡ advance list c number (script.deleting (drop passed (kinds_of list)) ending) r
+    → script.at_deletion number kind (drop (passed + 1) (kinds_of list)) ending r
+    ≡ advance list c number (script.deleting (drop passed (kinds_of list)) ending) r
 unfolding advance
-steps_deletion list c number passed kind ending r here = sym (ap (λ kinds. advance list c number (script.deleting kinds ending) r) here)
+steps_deletion list c number passed kind ending r here =
+    sym (ap (λ kinds. advance list c number (script.deleting kinds ending) r) here)
 
-steps_question : (list : NetList) (c : Command) (number passed : ℕ) (question : Question) (questions : List Question) (r : Reply)
+steps_question : (list : NetList) (c : Command) (number passed : ℕ) (question : Question) (questions : List Question)
+    (r : Reply)
     → drop passed questions ≡ question ∷ drop (passed + 1) questions
-    → script.at_question number question (drop (passed + 1) questions) r ≡ advance list c number (script.asking (drop passed questions)) r
+    → script.at_question number question (drop (passed + 1) questions) r
+    ≡ advance list c number (script.asking (drop passed questions)) r
 unfolding advance
-steps_question list c number passed question questions r here = sym (ap (λ left. advance list c number (script.asking left) r) here)
+steps_question list c number passed question questions r here =
+    sym (ap (λ left. advance list c number (script.asking left) r) here)
 
 steps_entry : (list : NetList) (c : Command) (number : ℕ) (r : Reply)
     → script.at_entry list c number r ≡ advance list c number script.FindingEntry r
@@ -132,7 +141,8 @@ at_state list c made addrs phase e h =
     let P : State → Type 0 = λ state. IsPhaseOf list c made addrs phase state in
     subst P e h
 
-pub leased_goes : (list : NetList) (c : Command) (number len : ℕ) (old addrs : List Addr) (addr : Addr) (r : Reply) (phase : Phase)
+pub leased_goes : (list : NetList) (c : Command) (number len : ℕ) (old addrs : List Addr) (addr : Addr) (r : Reply)
+    (phase : Phase)
     → addrs ≡ old ++ addr ∷ [] → len ≡ length old + 1 → r ≡ Leased addr
     → IsPhaseOf list c number addrs phase (script.leasing list c (drop len (sets_of list)) addrs)
     → IsPhaseOf list c number addrs phase (script.at_lease list c number (drop (length old + 1) (sets_of list)) old r)
@@ -146,11 +156,14 @@ leased_goes list c number len old addrs addr r phase items len_is is h =
 -- ---- each phase
 
 abbrev pub Goes : NetList → Command → ℕ → List Addr → List Addr → Phase → Reply → Phase → Type 0
-Goes list c made old new phase r next = IsPhaseOf list c (made + 1) new next (advance list c (made + 1) (state_in list c old phase) r)
+Goes list c made old new phase r next =
+    IsPhaseOf list c (made + 1) new next (advance list c (made + 1) (state_in list c old phase) r)
 
-pub goes_begin : (list : NetList) (c : Command) (sets made : ℕ) (addrs : List Addr) (phase : Phase) (r : Reply) (next : Phase)
+pub goes_begin : (list : NetList) (c : Command) (sets made : ℕ) (addrs : List Addr) (phase : Phase) (r : Reply)
+    (next : Phase)
     → phase ≡ phases.AtBegin
-    → Stands sets made addrs phase → IsPhaseOf list c (made + 1) [] next (script.at_begin list c (made + 1) r) → Goes list c made addrs addrs phase r next
+    → Stands sets made addrs phase → IsPhaseOf list c (made + 1) [] next (script.at_begin list c (made + 1) r)
+    → Goes list c made addrs addrs phase r next
 goes_begin list c sets made addrs phase r next is stands h =
     let S : Phase → Type 0 = λ p. Stands sets made addrs p in
     let none : addrs ≡ [] = subst S is stands in
@@ -158,20 +171,26 @@ goes_begin list c sets made addrs phase r next is stands h =
     let F : Phase → Type 0 = λ p. Goes list c made addrs addrs p r next in
     subst F (sym is) (subst G (sym none) (at_state list c (made + 1) [] next (steps_begin list c (made + 1) r) h))
 
-pub goes_before : (list : NetList) (c : Command) (sets made passed : ℕ) (calls : List Call) (addrs : List Addr) (phase : Phase) (r : Reply) (next : Phase)
+pub goes_before : (list : NetList) (c : Command) (sets made passed : ℕ) (calls : List Call) (addrs : List Addr)
+    (phase : Phase) (r : Reply) (next : Phase)
     → phase ≡ phases.BeforeLeases calls passed → Stands sets made addrs phase
-    → IsPhaseOf list c (made + 1) [] next (script.at_call_before list c (made + 1) (drop (passed + 1) calls) r) → Goes list c made addrs addrs phase r next
+    → IsPhaseOf list c (made + 1) [] next (script.at_call_before list c (made + 1) (drop (passed + 1) calls) r)
+    → Goes list c made addrs addrs phase r next
 goes_before list c sets made passed calls addrs phase r next is stands h =
     let S : Phase → Type 0 = λ p. Stands sets made addrs p in
     let here : (passed < length calls) × (addrs ≡ []) = subst S is stands in
     let G : List Addr → Type 0 = λ a. Goes list c made a a (phases.BeforeLeases calls passed) r next in
     let F : Phase → Type 0 = λ p. Goes list c made addrs addrs p r next in
-    subst F (sym is) (subst G (sym here.1) (at_state list c (made + 1) [] next (steps_before list c (made + 1) passed calls r here.0) h))
+    subst F (sym is)
+    (subst G (sym here.1) (at_state list c (made + 1) [] next (steps_before list c (made + 1) passed calls r here.0) h))
 
-pub goes_lease : (list : NetList) (c : Command) (sets made : ℕ) (old new : List Addr) (phase : Phase) (r : Reply) (next : Phase)
+pub goes_lease : (list : NetList) (c : Command) (sets made : ℕ) (old new : List Addr) (phase : Phase) (r : Reply)
+    (next : Phase)
     → phase ≡ phases.Leasing
     → Stands sets made old phase → length (sets_of list) ≡ sets
-    → IsPhaseOf list c (made + 1) new next (script.at_lease list c (made + 1) (drop (length old + 1) (sets_of list)) old r) → Goes list c made old new phase r next
+    → IsPhaseOf list c (made + 1) new next
+    (script.at_lease list c (made + 1) (drop (length old + 1) (sets_of list)) old r)
+    → Goes list c made old new phase r next
 goes_lease list c sets made old new phase r next is stands all h =
     let S : Phase → Type 0 = λ p. Stands sets made old p in
     let lt : length old < length (sets_of list) = let below : length old < sets = subst S is stands in omega arith in
@@ -179,48 +198,62 @@ goes_lease list c sets made old new phase r next is stands all h =
     subst F (sym is) (at_state list c (made + 1) new next (steps_lease list c (made + 1) old r lt) h)
 
 -- the result that is kept
-pub kept_result : (list : NetList) (c : Command) (passed : ℕ) (calls : List Call) (cached : Cached) (addrs : List Addr) (phase : Phase)
-    → phase ≡ phases.AfterLeases calls passed cached → KeepsAhead list c addrs phase → cached.result ≡ result_of_add list (att_of c) c.netns addrs
+pub kept_result : (list : NetList) (c : Command) (passed : ℕ) (calls : List Call) (cached : Cached) (addrs : List Addr)
+    (phase : Phase)
+    → phase ≡ phases.AfterLeases calls passed cached → KeepsAhead list c addrs phase
+    → cached.result ≡ result_of_add list (att_of c) c.netns addrs
 kept_result list c passed calls cached addrs phase is keeps =
     let K : Phase → Type 0 = λ p. KeepsAhead list c addrs p in
     subst K is keeps
 
-pub goes_after : (list : NetList) (c : Command) (made passed : ℕ) (calls : List Call) (cached : Cached) (addrs : List Addr) (phase : Phase) (r : Reply) (next : Phase)
+pub goes_after : (list : NetList) (c : Command) (made passed : ℕ) (calls : List Call) (cached : Cached)
+    (addrs : List Addr) (phase : Phase) (r : Reply) (next : Phase)
     → phase ≡ phases.AfterLeases calls passed cached → IsOpen (state_in list c addrs phase)
-    → IsPhaseOf list c (made + 1) addrs next (script.at_call_after (made + 1) (drop (passed + 1) calls) addrs r) → Goes list c made addrs addrs phase r next
+    → IsPhaseOf list c (made + 1) addrs next (script.at_call_after (made + 1) (drop (passed + 1) calls) addrs r)
+    → Goes list c made addrs addrs phase r next
 goes_after list c made passed calls cached addrs phase r next is opens h =
     let O : Phase → Type 0 = λ p. IsOpen (state_in list c addrs p) in
     let F : Phase → Type 0 = λ p. Goes list c made addrs addrs p r next in
-    subst F (sym is) (at_state list c (made + 1) addrs next (steps_after list c (made + 1) passed calls addrs r (subst O is opens)) h)
+    subst F (sym is)
+    (at_state list c (made + 1) addrs next (steps_after list c (made + 1) passed calls addrs r (subst O is opens)) h)
 
-pub goes_cache : (list : NetList) (c : Command) (made : ℕ) (ending : Ending) (addrs : List Addr) (phase : Phase) (r : Reply) (next : Phase)
+pub goes_cache : (list : NetList) (c : Command) (made : ℕ) (ending : Ending) (addrs : List Addr) (phase : Phase)
+    (r : Reply) (next : Phase)
     → phase ≡ phases.ReadingCache ending
-    → IsPhaseOf list c (made + 1) addrs next (script.at_cache list (made + 1) ending r) → Goes list c made addrs addrs phase r next
+    → IsPhaseOf list c (made + 1) addrs next (script.at_cache list (made + 1) ending r)
+    → Goes list c made addrs addrs phase r next
 goes_cache list c made ending addrs phase r next is h =
     let F : Phase → Type 0 = λ p. Goes list c made addrs addrs p r next in
     subst F (sym is) (at_state list c (made + 1) addrs next (steps_cache list c (made + 1) ending r) h)
 
-pub goes_deleting : (list : NetList) (c : Command) (made passed : ℕ) (deletions : List Call) (ending : Ending) (addrs : List Addr) (phase : Phase) (r : Reply) (next : Phase)
+pub goes_deleting : (list : NetList) (c : Command) (made passed : ℕ) (deletions : List Call) (ending : Ending)
+    (addrs : List Addr) (phase : Phase) (r : Reply) (next : Phase)
     → phase ≡ phases.Deleting deletions passed ending
     → KeepsAhead list c addrs phase → IsOpen (state_in list c addrs phase)
-    → ((kind : Kind) → deletions ≡ deletions_of list c → drop passed (kinds_of list) ≡ kind ∷ drop (passed + 1) (kinds_of list)
-    → IsPhaseOf list c (made + 1) addrs next (script.at_deletion (made + 1) kind (drop (passed + 1) (kinds_of list)) ending r))
+    → ((kind : Kind) → deletions ≡ deletions_of list c
+    → drop passed (kinds_of list) ≡ kind ∷ drop (passed + 1) (kinds_of list)
+    → IsPhaseOf list c (made + 1) addrs next
+    (script.at_deletion (made + 1) kind (drop (passed + 1) (kinds_of list)) ending r))
     → Goes list c made addrs addrs phase r next
 goes_deleting list c made passed deletions ending addrs phase r next is keeps opens h =
     let K : Phase → Type 0 = λ p. KeepsAhead list c addrs p in
     let O : Phase → Type 0 = λ p. IsOpen (state_in list c addrs p) in
     let left = item_left (λ kinds. script.deleting kinds ending) (kinds_of list) passed (λ h. h) (subst O is opens) in
     let F : Phase → Type 0 = λ p. Goes list c made addrs addrs p r next in
-    subst F (sym is) (at_state list c (made + 1) addrs next (steps_deletion list c (made + 1) passed left.0 ending r left.1) (h left.0 (subst K is keeps) left.1))
+    subst F (sym is) (at_state list c (made + 1) addrs next
+    (steps_deletion list c (made + 1) passed left.0 ending r left.1) (h left.0 (subst K is keeps) left.1))
 
-pub goes_entry : (list : NetList) (c : Command) (made : ℕ) (addrs : List Addr) (phase : Phase) (r : Reply) (next : Phase)
+pub goes_entry : (list : NetList) (c : Command) (made : ℕ) (addrs : List Addr) (phase : Phase) (r : Reply)
+    (next : Phase)
     → phase ≡ phases.FindingEntry
-    → IsPhaseOf list c (made + 1) addrs next (script.at_entry list c (made + 1) r) → Goes list c made addrs addrs phase r next
+    → IsPhaseOf list c (made + 1) addrs next (script.at_entry list c (made + 1) r)
+    → Goes list c made addrs addrs phase r next
 goes_entry list c made addrs phase r next is h =
     let F : Phase → Type 0 = λ p. Goes list c made addrs addrs p r next in
     subst F (sym is) (at_state list c (made + 1) addrs next (steps_entry list c (made + 1) r) h)
 
-pub goes_asking : (list : NetList) (c : Command) (made passed : ℕ) (questions : List Question) (addrs : List Addr) (phase : Phase) (r : Reply) (next : Phase)
+pub goes_asking : (list : NetList) (c : Command) (made passed : ℕ) (questions : List Question) (addrs : List Addr)
+    (phase : Phase) (r : Reply) (next : Phase)
     → phase ≡ phases.Asking questions passed
     → IsOpen (state_in list c addrs phase)
     → ((question : Question) → slice_get questions passed ≡ Some question
@@ -230,11 +263,14 @@ goes_asking list c made passed questions addrs phase r next is unended h =
     let O : Phase → Type 0 = λ p. IsOpen (state_in list c addrs p) in
     let left = left_of questions passed (opens script.asking questions passed (λ h. h) (subst O is unended)) in
     let F : Phase → Type 0 = λ p. Goes list c made addrs addrs p r next in
-    subst F (sym is) (at_state list c (made + 1) addrs next (steps_question list c (made + 1) passed left.0 questions r left.1.1) (h left.0 left.1.0))
+    subst F (sym is) (at_state list c (made + 1) addrs next
+    (steps_question list c (made + 1) passed left.0 questions r left.1.1) (h left.0 left.1.0))
 
-pub goes_changing : (list : NetList) (c : Command) (made : ℕ) (change : Call) (addrs : List Addr) (phase : Phase) (r : Reply) (next : Phase)
+pub goes_changing : (list : NetList) (c : Command) (made : ℕ) (change : Call) (addrs : List Addr) (phase : Phase)
+    (r : Reply) (next : Phase)
     → phase ≡ phases.Changing change
-    → IsPhaseOf list c (made + 1) addrs next (script.Over (script.changed (made + 1) r) []) → Goes list c made addrs addrs phase r next
+    → IsPhaseOf list c (made + 1) addrs next (script.Over (script.changed (made + 1) r) [])
+    → Goes list c made addrs addrs phase r next
 goes_changing list c made change addrs phase r next is h =
     let F : Phase → Type 0 = λ p. Goes list c made addrs addrs p r next in
     subst F (sym is) (at_state list c (made + 1) addrs next (steps_changing list c (made + 1) change r) h)
@@ -242,7 +278,8 @@ goes_changing list c made change addrs phase r next is h =
 pub over_goes : (list : NetList) (c : Command) (made : ℕ) (addrs : List Addr) (ending changed : Ending)
     → ending ≡ changed
     → IsPhaseOf list c made addrs (phases.Over ending) (script.Over changed [])
-over_goes list c made addrs ending changed same = record { is = ap (λ e. script.Over e []) same; stands = tt; keeps = tt }
+over_goes list c made addrs ending changed same =
+    record { is = ap (λ e. script.Over e []) same; stands = tt; keeps = tt }
 
 -- ---- which phases a reply may come to
 
@@ -253,7 +290,8 @@ awaits list c addrs phases.Begun h is = cc
 awaits list c addrs (phases.BeforeLeases calls passed) h is = tt
 awaits list c addrs phases.Leasing h is = tt
 awaits list c addrs phases.Leased h is = cc
-awaits list c addrs (phases.AfterLeases calls passed cached) h is = opens (λ left. script.after_leases left addrs) calls passed (λ h. h) h
+awaits list c addrs (phases.AfterLeases calls passed cached) h is =
+    opens (λ left. script.after_leases left addrs) calls passed (λ h. h) h
 awaits list c addrs (phases.ReadingCache ending) h is = tt
 awaits list c addrs (phases.Deleting deletions passed ending) h is = tt
 awaits list c addrs phases.FindingEntry h is = tt
@@ -267,4 +305,5 @@ awaits list c addrs (phases.Over ending) h is = h
 pub taken-at : (questions : List Question) (place : ℕ) (taken question : Question)
     → slice_get questions place ≡ Some taken → slice_get questions place ≡ Some question
     → phases.Over (Refused taken.lack) ≡ phases.Over (Refused question.lack)
-taken-at questions place taken question here there = let same : taken ≡ question = cc in ap (λ (q : Question). phases.Over (Refused q.lack)) same
+taken-at questions place taken question here there =
+    let same : taken ≡ question = cc in ap (λ (q : Question). phases.Over (Refused q.lack)) same

@@ -26,12 +26,14 @@ length-after : (c : Chained) (att : Att) (netns : List ℕ) (links : List Link)
 length-after c att netns links =
     let s : Share = record no_objects { links = links } in
     let laws = chained_laws c in
-    ap (λ (t : Share). length t.links) (sym (laws.adds att netns [] [] s)) ∙ later-as_many netns s (chained_calls c att netns [] []) (laws.calls att netns [] []).later
+    ap (λ (t : Share). length t.links) (sym (laws.adds att netns [] [] s))
+    ∙ later-as_many netns s (chained_calls c att netns [] []) (laws.calls att netns [] []).later
 
 length-links : (cs : List Chained) (att : Att) (netns : List ℕ) (links : List Link)
     → length (all_links_after cs att netns links) ≡ length links
 length-links [] att netns links = refl
-length-links (c ∷ cs) att netns links = length-links cs att netns (links_after c att netns links) ∙ length-after c att netns links
+length-links (c ∷ cs) att netns links =
+    length-links cs att netns (links_after c att netns links) ∙ length-after c att netns links
 
 some-of : {X : Type 0} (p : X → Bool) (xs : List X) → list_any p xs ≡ true → 0 < length xs
 some-of p [] h = cc
@@ -39,7 +41,9 @@ some-of p (x ∷ xs) h = omega arith
 
 -- the first plugin makes a link
 first-links : (list : NetList) (att : Att) (netns : List ℕ) → 0 < length (links_made list att netns)
-first-links list att netns = some-of (is_link_of netns att.ifname (Own att)) (links_made list att netns) ((first_laws list.first).inner att netns)
+first-links list att netns =
+    some-of (is_link_of netns att.ifname (Own att)) (links_made list att netns)
+    ((first_laws list.first).inner att netns)
 
 -- ---- CHECK
 
@@ -47,7 +51,8 @@ length-rules : (number : ℕ) (rules : List Rule) → length (rule_questions num
 length-rules number rules = length-scan (λ (n : ℕ) (rule : Rule). n + 1) rule_question number rules
 
 pub length-share : (s : Share)
-    → length (share_questions s) ≡ length s.links + (length s.addresses + (length s.routes + (length s.rules + (length s.settings + length s.leases))))
+    → length (share_questions s) ≡ length s.links
+    + (length s.addresses + (length s.routes + (length s.rules + (length s.settings + length s.leases))))
 length-share s =
     let leases = map lease_question s.leases in
     let settings = map setting_question s.settings in

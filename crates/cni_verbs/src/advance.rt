@@ -2,7 +2,8 @@
 //! and a number in it goes up. Memory is taken for copies alone: of the tag in the way, which the error names, and of
 //! the cached result that a CHECK asks about.
 
-ghost use Rattle.std.specs.Prelude.{◌≡◌, ℕ, ◌+◌, ◌<◌, ◌≤◌, ◌^◌, [], ◌∷◌, List, length, drop, slice_get, Some, vec_capacity, false, IfOk, IsOk, OnErr, OnOk};
+ghost use Rattle.std.specs.Prelude.{◌≡◌, ℕ, ◌+◌, ◌<◌, ◌≤◌, ◌^◌, [], ◌∷◌, List, length, drop, slice_get, Some};
+ghost use Rattle.std.specs.Prelude.{vec_capacity, false, IfOk, IsOk, OnErr, OnOk};
 ghost use Rattle.std.specs.Option.{unwrap_or};
 ghost use Rattle.cni_addr.specs.declared.address.Addr.{Addr};
 ghost use Rattle.cni_result.specs.declared.cached.Cached.{Cached};

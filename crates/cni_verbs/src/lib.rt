@@ -2,8 +2,8 @@
 //!
 //! To the book above it promises definitions: the questions of a CHECK and of a STATUS (`specs/Questions.antt`), the
 //! mappings that reach plugins (`specs/Mappings.antt`), the next call or the end as a function of all replies so far
-//! (`specs/Script.antt`), and the answer of each end (`specs/Endings.antt`). A [`Run`] follows the script one reply at a
-//! time and keeps no replies: it is seen as the list, the command and the script's state (`specs/Progress.antt`), its
+//! (`specs/Script.antt`), and the answer of each end (`specs/Endings.antt`). A [`Run`] follows the script one reply at
+//! a time and keeps no replies: it is seen as the list, the command and the script's state (`specs/Progress.antt`), its
 //! next call and its answer are the script's, and to take a reply takes no memory but for a copy of a text or a list
 //! that the reply holds: what takes more is made by `prepare`, once after each reply. A command of no network runs too:
 //! it is one change from outside. A GC's run is `gc_sweep::GcRun`.

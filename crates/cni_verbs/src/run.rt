@@ -1,6 +1,7 @@
 //! One command's run, a call at a time.
 
-ghost use Rattle.std.specs.Prelude.{◌≡◌, ◌+◌, ◌<◌, ◌≤◌, ◌^◌, is_some, false, true, [], None, Some, IfOk, OnErr, OnOk, length, vec_capacity, IsOk};
+ghost use Rattle.std.specs.Prelude.{◌≡◌, ◌+◌, ◌<◌, ◌≤◌, ◌^◌, is_some, false, true, [], None, Some, IfOk, OnErr, OnOk};
+ghost use Rattle.std.specs.Prelude.{length, vec_capacity, IsOk};
 ghost use Rattle.std.specs.Bool.{FalseIff};
 ghost use Rattle.std.specs.Option.{option_copied};
 ghost use Rattle.kernel_types.specs.Replies.{holds_text_or_list};

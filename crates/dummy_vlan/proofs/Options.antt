@@ -36,7 +36,8 @@ met-vlan_id : (o : Option (List ℕ)) → is_met_by vlan_id_need o ≡ true
 met-vlan_id None h = tt
 met-vlan_id (Some text) h = number-wider 1 4094 (2 ^ 32 - 1) text (omega arith) h
 
-pub vlan_id_number : (options : List Opt) → is_met options vlan_id_need ≡ true → IsNumberOrAbsent (codes "vlanId") options
+pub vlan_id_number : (options : List Opt) → is_met options vlan_id_need ≡ true
+    → IsNumberOrAbsent (codes "vlanId") options
 vlan_id_number options h = met-vlan_id (value_of (codes "vlanId") options) h
 
 few-vlan_ids : (o : Option (List ℕ)) → is_met_by vlan_id_need o ≡ true → option_map_or (digits_value 10) o 0 ≤ 4094
@@ -51,5 +52,6 @@ met-master : (o : Option (List ℕ)) → is_met_by master_need o ≡ true → is
 met-master None h = h
 met-master (Some name) h = refl
 
-pub master_there : (options : List Opt) → is_met options master_need ≡ true → is_some (value_of (codes "master") options) ≡ true
+pub master_there : (options : List Opt) → is_met options master_need ≡ true
+    → is_some (value_of (codes "master") options) ≡ true
 master_there options h = met-master (value_of (codes "master") options) h

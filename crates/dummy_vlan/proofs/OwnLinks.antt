@@ -22,7 +22,8 @@ own-addresses : (ask : Ask)
 own-addresses ask = passes-once (is_own_call ask.att (Links ∷ [])) AddrAdd is_same_addr
     (address_on ask.att ask.netns) (λ g. grind (arith, att_eq-refl ask.att)) ask.given
 
-own-with : (ask : Ask) (link : Link) → is_own_inner_link ask.att link ≡ true → OwnCalls ask (Links ∷ []) (calls_with ask link)
+own-with : (ask : Ask) (link : Link) → is_own_inner_link ask.att link ≡ true
+    → OwnCalls ask (Links ∷ []) (calls_with ask link)
 own-with ask link own = grind (arith, own, own-addresses ask)
 
 pub own_dummy : (ask : Ask) → IsAskable dummy_needs_of ask → OwnCalls ask (Links ∷ []) (dummy_calls_of ask)
@@ -31,4 +32,5 @@ own_dummy ask h = own-with ask (dummy_link_of ask) (own-link ask Dummy None h.co
 pub own_vlan : (ask : Ask) → IsAskable vlan_needs_of ask → OwnCalls ask (Links ∷ []) (vlan_calls_of ask)
 own_vlan ask h =
     let there = master_there ask.options (vlan_master_met ask h) in
-    own-with ask (vlan_link_of ask) (own-link ask (Vlan (vlan_id_of ask.options)) (value_of (codes "master") ask.options) h.container there)
+    own-with ask (vlan_link_of ask)
+    (own-link ask (Vlan (vlan_id_of ask.options)) (value_of (codes "master") ask.options) h.container there)

@@ -1,5 +1,6 @@
 -- A chained plugin does with the mappings that its object asks for what it does with all that reach the list: a
--- `portmap` whose object doesn't ask for them is the only one of its list, and where it doesn't take them none reach it.
+-- `portmap` whose object doesn't ask for them is the only one of its list, and where it doesn't take them none reach
+-- it.
 use Rattle.std.proofs.Common.{◌≡◌, ℕ, zero, suc, Bool, true, false, List, [], ◌∷◌, Some, Result, Ok, Err, refl, ap, ◌∙◌}
 use Rattle.std.proofs.{Common.subst, Math.Bool.or-false}
 use Rattle.std.specs.{List.{AllByRecursion, IsDistinct, list_any, slice_get}, Prelude.{◌||◌, map, if◌then◌else◌}}

@@ -1,5 +1,5 @@
--- What a plugin makes of its request at an ADD, and what all plugins of a list make (CNI specification 1.1.0, section 3,
--- "Adding an attachment").
+-- What a plugin makes of its request at an ADD, and what all plugins of a list make (CNI specification 1.1.0, section
+-- 3, "Adding an attachment").
 use Rattle.std.specs.{List.AllZip, Prelude.{◌≡◌, ℕ, true, List, [], ◌∷◌, ◌++◌, map, Option, Some, None, option_map}}
 use Rattle.std.specs.Prelude.{IsSome, ⊤}
 use Rattle.cni_addr.specs.declared.{address.Addr.Addr, range.RangeSet.RangeSet}

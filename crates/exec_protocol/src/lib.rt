@@ -10,7 +10,8 @@
 //! // env has the words ADD, c1, /ns/a, eth0 and no arguments
 //! let bytes = b"{\"cniVersion\":\"1.1.0\",\"name\":\"pods\",\"type\":\"bridge\"}";
 //! read_request(alloc, &env, bytes)?.name.as_str() // "pods"
-//! read_request(alloc, &env, b"{}")                // Err(RequestError::Conf(ConfError::Version { found })), found empty
+//! read_request(alloc, &env, b"{}")                // Err(RequestError::Conf(ConfError::Version { found })),
+//!                                                 // found empty
 //! ```
 #![tactic(auto)]
 

@@ -36,8 +36,8 @@ struct RequestParts {
 /// JSON text; what a network list says of itself (`list`, the version, `name`); the plugin, which is one that makes an
 /// interface exactly where its type is; `prevResult`; `runtimeConfig`; and `cni.dev/valid-attachments`.
 ///
-/// A member that is null is as an absent one, and unnamed members are ignored. It takes time and memory in proportion to
-/// the bytes, and that of a sort of the ranges.
+/// A member that is null is as an absent one, and unnamed members are ignored. It takes time and memory in proportion
+/// to the bytes, and that of a sort of the ranges.
 #[tactic(auto, using(cni_json::proofs::Steps::steps, crate::proofs::Steps::refusals), unfolding(crate::specs::Reading::request_of_bytes))]
 pub fn read_request(alloc: Global, env: &Env, bytes: &[u8]) -> Result<Request, RequestError>
     ensures exact { Gives is_out_of_memory result (defined.request_of_bytes env.now bytes.now) }

@@ -25,9 +25,12 @@ firewall-few att ips =
 
 pub firewall_laws : ChainedLaws firewall_plugin
 firewall_laws = record {
-  calls = λ att netns mappings ips. rule-calls firewall_plugin att netns mappings ips (firewall_rules att ips) refl refl (own-firewall_rules att ips);
+  calls =
+      λ att netns mappings ips.
+      rule-calls firewall_plugin att netns mappings ips (firewall_rules att ips) refl refl (own-firewall_rules att ips);
   adds = λ att netns mappings ips s.
-      share_after_calls-rules s (firewall_rules att ips) ∙ ap (λ l. record s { rules = s.rules ++ firewall_rules att ips; settings = l }) (sym (append-nil s.settings));
+      share_after_calls-rules s (firewall_rules att ips)
+      ∙ ap (λ l. record s { rules = s.rules ++ firewall_rules att ips; settings = l }) (sym (append-nil s.settings));
   keeps_ips = λ prev. refl;
   keeps_names = λ prev. refl;
   few = λ att netns mappings ips addresses few. let a = firewall-few att ips in omega arith;

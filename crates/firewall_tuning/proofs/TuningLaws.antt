@@ -24,10 +24,14 @@ use Rattle.firewall_tuning.specs.Tuning.{tuning_kinds, tuning_plugin, tuning_set
 -- a test that passes each setting and the link's values passes all
 passes : (p : Call → Bool) (conf : TuningConf) (att : Att) (netns : List ℕ)
     → ((x : _) → p (SettingSet (setting_of att netns x)) ≡ true)
-    → p (LinkSet att (inner_key att netns) conf.mac conf.mtu conf.tx_qlen conf.promisc conf.allmulti) ≡ true → list_all p (tuning_calls_of conf att netns) ≡ true
+    → p (LinkSet att (inner_key att netns) conf.mac conf.mtu conf.tx_qlen conf.promisc conf.allmulti) ≡ true
+    → list_all p (tuning_calls_of conf att netns) ≡ true
 passes p conf att netns settings link =
-    list_all-append p (map SettingSet (tuning_settings conf att netns)) (link_set_calls conf att netns) (passes-once p SettingSet is_same_setting (setting_of att netns) settings conf.sysctl)
-    (list_all-if p (sets_any conf) (LinkSet att (inner_key att netns) conf.mac conf.mtu conf.tx_qlen conf.promisc conf.allmulti ∷ []) (grind (arith, link)))
+    list_all-append p (map SettingSet (tuning_settings conf att netns)) (link_set_calls conf att netns)
+    (passes-once p SettingSet is_same_setting (setting_of att netns) settings conf.sysctl)
+    (list_all-if p (sets_any conf)
+    (LinkSet att (inner_key att netns) conf.mac conf.mtu conf.tx_qlen conf.promisc conf.allmulti ∷ [])
+    (grind (arith, link)))
 
 one-step : (b : Bool) (calls : List Call) → b ≡ false → at_most_one changes_links calls ≡ true
     → (if b then not (list_any changes_links calls) else at_most_one changes_links calls) ≡ true
@@ -36,7 +40,8 @@ one-step b calls h g = rw h g
 one-after_none : (calls more : List Call) → list_any changes_links calls ≡ false → at_most_one changes_links more ≡ true
     → at_most_one changes_links (calls ++ more) ≡ true
 one-after_none [] more h g = g
-one-after_none (x ∷ xs) more h g = one-step (changes_links x) (xs ++ more) (grind (arith, h)) (one-after_none xs more (grind (arith, h)) g)
+one-after_none (x ∷ xs) more h g =
+    one-step (changes_links x) (xs ++ more) (grind (arith, h)) (one-after_none xs more (grind (arith, h)) g)
 
 -- the link's values are set once, or never
 once : (sets : Bool) (settings : List Call) (set : Call) → list_any changes_links settings ≡ false
@@ -50,9 +55,12 @@ tuning-calls conf att netns mappings ips = record {
   own = passes (is_plugin_call_of att) conf att netns (λ x. att_eq-refl att) (att_eq-refl att);
   later = passes (is_later_call netns) conf att netns (λ x. nat_list_eq_equiv.refl netns) refl;
   of_kinds = passes (is_of_kinds tuning_kinds) conf att netns (λ x. refl) refl;
-  stand = λ links there. passes (stands_on links None) conf att netns (λ x. refl) (grind (arith, own-at att netns att.ifname links there));
+  stand =
+      λ links there.
+      passes (stands_on links None) conf att netns (λ x. refl) (grind (arith, own-at att netns att.ifname links there));
   set_once =
-      once (sets_any conf) (map SettingSet (tuning_settings conf att netns)) (LinkSet att (inner_key att netns) conf.mac conf.mtu conf.tx_qlen conf.promisc conf.allmulti)
+      once (sets_any conf) (map SettingSet (tuning_settings conf att netns))
+      (LinkSet att (inner_key att netns) conf.mac conf.mtu conf.tx_qlen conf.promisc conf.allmulti)
       (none-every SettingSet (λ x. refl) (tuning_settings conf att netns)) refl;
 }
 
@@ -64,14 +72,17 @@ share-link_set : (b : Bool) (s : Share) (call : Call) (f : List Link → List Li
 share-link_set true s call f h = h
 share-link_set false s call f h = refl
 
-tuning-adds : (conf : TuningConf) (att : Att) (netns : List ℕ) (mappings : List PortMapping) (ips : List IpEntry) (s : Share)
+tuning-adds : (conf : TuningConf) (att : Att) (netns : List ℕ) (mappings : List PortMapping) (ips : List IpEntry)
+    (s : Share)
     → share_after_calls s (tuning_calls_of conf att netns) ≡ changed_by (tuning_plugin conf) att netns mappings ips s
 tuning-adds conf att netns mappings ips s =
     let settings = tuning_settings conf att netns in
     let with_settings : Share = record s { settings = s.settings ++ settings } in
     let with_all : Share = record with_settings { links = tuned conf att netns s.links } in
-    share_after_calls-then s with_settings with_all (map SettingSet settings) (link_set_calls conf att netns) (share_after_calls-settings s settings)
-    (share-link_set (sets_any conf) with_settings (LinkSet att (inner_key att netns) conf.mac conf.mtu conf.tx_qlen conf.promisc conf.allmulti)
+    share_after_calls-then s with_settings with_all (map SettingSet settings) (link_set_calls conf att netns)
+    (share_after_calls-settings s settings)
+    (share-link_set (sets_any conf) with_settings
+    (LinkSet att (inner_key att netns) conf.mac conf.mtu conf.tx_qlen conf.promisc conf.allmulti)
     (map (set_link att (inner_key att netns) conf.mac conf.mtu conf.tx_qlen conf.promisc conf.allmulti)) refl)
     ∙ ap (λ l. record with_all { rules = l }) (sym (append-nil s.rules))
 
@@ -81,8 +92,10 @@ names-tuned : (conf : TuningConf) (version : Version) (interfaces : List Interfa
     → map (λ i. i.name) (map (tuned_interface conf version) interfaces) ≡ map (λ i. i.name) interfaces
 names-tuned conf version [] = refl
 names-tuned conf version (i ∷ is) =
-    let here : (tuned_interface conf version i).name ≡ i.name = by_test (λ (t : Interface). t.name ≡ i.name) (is_some i.sandbox) _ _ (λ _. refl) (λ _. refl) in
-    ap (λ (n : List ℕ). n ∷ map (λ (x : Interface). x.name) (map (tuned_interface conf version) is)) here ∙ ap (λ (l : List (List ℕ)). i.name ∷ l) (names-tuned conf version is)
+    let here : (tuned_interface conf version i).name ≡ i.name =
+    by_test (λ (t : Interface). t.name ≡ i.name) (is_some i.sandbox) _ _ (λ _. refl) (λ _. refl) in
+    ap (λ (n : List ℕ). n ∷ map (λ (x : Interface). x.name) (map (tuned_interface conf version) is)) here
+    ∙ ap (λ (l : List (List ℕ)). i.name ∷ l) (names-tuned conf version is)
 
 -- ---- how many
 
@@ -92,7 +105,10 @@ tuning-few conf att netns =
     let a = length-map (tuning_settings conf att netns) SettingSet in
     let b = length-each_key_once is_same_setting (map (setting_of att netns) conf.sysctl) in
     let c = length-map conf.sysctl (setting_of att netns) in
-    let d = length-if (sets_any conf) (LinkSet att (inner_key att netns) conf.mac conf.mtu conf.tx_qlen conf.promisc conf.allmulti ∷ []) 1 (omega arith) in
+    let d =
+    length-if (sets_any conf)
+    (LinkSet att (inner_key att netns) conf.mac conf.mtu conf.tx_qlen conf.promisc conf.allmulti ∷ []) 1
+    (omega arith) in
     let e = length-append (map SettingSet (tuning_settings conf att netns)) (link_set_calls conf att netns) in
     omega arith
 

@@ -1,13 +1,15 @@
 //! Where a GC is: the sweep at hand, its owners, and the step of the one at hand.
 
-ghost use Rattle.std.specs.Prelude.{◌≡◌, ◌<◌, ◌≤◌, ◌+◌, not, false, List, drop, filter, length, slice_get, Some, nat_le, nat_lt, [], IfOk, IsOk, OnErr, OnOk};
+ghost use Rattle.std.specs.Prelude.{◌≡◌, ◌<◌, ◌≤◌, ◌+◌, not, false, List, drop, filter, length, slice_get, Some};
+ghost use Rattle.std.specs.Prelude.{nat_le, nat_lt, [], IfOk, IsOk, OnErr, OnOk};
 ghost use Rattle.kernel_types.specs.Replies.{holds_text_or_list, is_fault};
 ghost use Rattle.kernel_types.specs.declared.call.Kind.{Kind};
 ghost use Rattle.pod_file.specs.declared.command.ValidAtt.{ValidAtt};
 ghost use Rattle.cni_verbs.specs.Script.{call_of_work, has_no_work};
 ghost use Rattle.cni_verbs.specs.Sweep.{first_sweep, all_sweeps, is_valid, step_call};
 ghost use Rattle.gc_sweep.specs.Valid.{IsIndexOf};
-ghost use Rattle.gc_sweep.specs.View.{HasTaken, IsPlace, jobs_left, step_of, steps_of, sweep_of, sweeps_after, sweeps_from, work_of};
+ghost use Rattle.gc_sweep.specs.View.{HasTaken, IsPlace, jobs_left, step_of, steps_of, sweep_of, sweeps_after};
+ghost use Rattle.gc_sweep.specs.View.{sweeps_from, work_of};
 
 use crate::valid::ValidIndex;
 use cni_addr::{Duplicate, Items, NoMemory, RefCounted, Text};

@@ -30,7 +30,8 @@ given_candidates (s ∷ ss) [] h = absurd h
 given_candidates (s ∷ ss) (a ∷ more) h =
     let f = range-found a s.ranges h.0 in
     let here : given_by_set s a ≡ Some (given_by a f.0) = ap (option_map (given_by a)) f.1 in
-    ap (λ o. map (λ given. given.address.addr) (cons_option o (given_of ss more))) here ∙ ap (λ addrs. a ∷ addrs) (given_candidates ss more h.1)
+    ap (λ o. map (λ given. given.address.addr) (cons_option o (given_of ss more))) here
+    ∙ ap (λ addrs. a ∷ addrs) (given_candidates ss more h.1)
 
 -- a candidate is given
 pub candidate-given : (set : RangeSet) (addr : Addr) → is_candidate set addr ≡ true → given_by_set set addr ≡ None → ⊥
@@ -40,12 +41,15 @@ candidate-given set addr h none =
     cc
 
 -- the next set has its lease
-pub leases-more : (whole before after : List Call) (att : Att) (sets : List RangeSet) (i : ℕ) (set : RangeSet) (lease : Call)
-    → i < length sets → set ≡ get_or sets i set → lease ≡ LeaseNext att i set → before ++ lease_calls_from att i (drop i sets) ≡ whole → after ≡ before ++ lease ∷ []
+pub leases-more : (whole before after : List Call) (att : Att) (sets : List RangeSet) (i : ℕ) (set : RangeSet)
+    (lease : Call)
+    → i < length sets → set ≡ get_or sets i set → lease ≡ LeaseNext att i set
+    → before ++ lease_calls_from att i (drop i sets) ≡ whole → after ≡ before ++ lease ∷ []
     → after ++ lease_calls_from att (i + 1) (drop (i + 1) sets) ≡ whole
 leases-more whole before after att sets i set lease within at is so_far grown =
     let more : List Call = lease_calls_from att (i + 1) (drop (i + 1) sets) in
     ap (λ calls. calls ++ more) (grown ∙ ap (λ call. before ++ call ∷ []) is)
     ∙ append_assoc before (LeaseNext att i set ∷ []) more
-    ∙ ap (λ rest. before ++ lease_calls_from att i rest) (sym (drop_more sets i set within ∙ ap (λ s. s ∷ drop (i + 1) sets) (sym at)))
+    ∙ ap (λ rest. before ++ lease_calls_from att i rest)
+    (sym (drop_more sets i set within ∙ ap (λ s. s ∷ drop (i + 1) sets) (sym at)))
     ∙ so_far

@@ -3,7 +3,8 @@ use Rattle.std.proofs.{Common.{◌≡◌, ℕ, true, arith}, lemmas.Bool.Decides
 use Rattle.cni_addr.specs.{Codes.family_eq, Equal.addr_eq, declared.address.{Addr.Addr, Family.Family}}
 use Rattle.cni_addr.proofs.Networks.{family_eq-true}
 
-same-fields : (f g : Family) (m n : ℕ) → f ≡ g → m ≡ n → let a : Addr = record { family = f; bits = m } in let b : Addr = record { family = g; bits = n } in a ≡ b
+same-fields : (f g : Family) (m n : ℕ) → f ≡ g → m ≡ n
+    → let a : Addr = record { family = f; bits = m } in let b : Addr = record { family = g; bits = n } in a ≡ b
 same-fields f g m n e d = cc
 
 pub same-address : (a b : Addr) → addr_eq a b ≡ true → a ≡ b

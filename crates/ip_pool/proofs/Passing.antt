@@ -27,13 +27,16 @@ passed-itself_step false self none = none
 
 pub passed-not_itself : (set : RangeSet) (last : Option Addr) (a : Addr) → is_passed set last a a ≡ false
 passed-not_itself set None a = below-not_itself set a
-passed-not_itself set (Some last) a = passed-itself_step (is_below set last a) (is_below set a a) (below-not_itself set a)
+passed-not_itself set (Some last) a =
+    passed-itself_step (is_below set last a) (is_below set a a) (below-not_itself set a)
 
 -- ---- from the first candidate on
 
-first_on : (set : RangeSet) (xs : List Addr) → all_pairs (is_below set) xs ≡ true → all_pairs (never_passes set None) xs ≡ true
+first_on : (set : RangeSet) (xs : List Addr) → all_pairs (is_below set) xs ≡ true
+    → all_pairs (never_passes set None) xs ≡ true
 first_on set xs ascend =
-    all_pairs-weaker (λ a. true) (is_below set) (never_passes set None) (λ a b here there less. ap not (below-not_back set a b less)) xs (always xs) ascend
+    all_pairs-weaker (λ a. true) (is_below set) (never_passes set None)
+    (λ a b here there less. ap not (below-not_back set a b less)) xs (always xs) ascend
   where
     always : (xs : List Addr) → list_all (λ a. true) xs ≡ true
     always [] = refl
@@ -50,40 +53,73 @@ way_step_home la lb ba home back = grind arith
 way_step_over : (la lb ba : Bool) → la ≡ true → lb ≡ false → not (cond la (lb && ba) (lb || ba)) ≡ true
 way_step_over la lb ba after home = grind arith
 
-rest-in_order : (set : RangeSet) (last : Addr) (rest : List Addr) → list_all (is_below set last) rest ≡ true → all_pairs (is_below set) rest ≡ true → all_pairs (never_passes set (Some last)) rest ≡ true
+rest-in_order : (set : RangeSet) (last : Addr) (rest : List Addr) → list_all (is_below set last) rest ≡ true
+    → all_pairs (is_below set) rest ≡ true → all_pairs (never_passes set (Some last)) rest ≡ true
 rest-in_order set last rest after ascend =
-    all_pairs-weaker (is_below set last) (is_below set) (never_passes set (Some last)) (λ a b here there less. way_step (is_below set last a) (is_below set last b) (is_below set b a) here (below-not_back set a b less)) rest after ascend
+    all_pairs-weaker (is_below set last) (is_below set) (never_passes set (Some last))
+    (λ a b here there less.
+    way_step (is_below set last a) (is_below set last b) (is_below set b a) here (below-not_back set a b less))
+    rest after ascend
 
-home-in_order : (set : RangeSet) (last : Addr) (home : List Addr) → list_all (λ a. not (is_below set last a)) home ≡ true → all_pairs (is_below set) home ≡ true → all_pairs (never_passes set (Some last)) home ≡ true
+home-in_order : (set : RangeSet) (last : Addr) (home : List Addr)
+    → list_all (λ a. not (is_below set last a)) home ≡ true → all_pairs (is_below set) home ≡ true
+    → all_pairs (never_passes set (Some last)) home ≡ true
 home-in_order set last home before ascend =
-    all_pairs-weaker (λ a. not (is_below set last a)) (is_below set) (never_passes set (Some last)) (λ a b here there less. way_step_home (is_below set last a) (is_below set last b) (is_below set b a) (grind (arith, there)) (below-not_back set a b less)) home before ascend
+    all_pairs-weaker (λ a. not (is_below set last a)) (is_below set) (never_passes set (Some last))
+    (λ a b here there less. way_step_home (is_below set last a) (is_below set last b) (is_below set b a)
+    (grind (arith, there)) (below-not_back set a b less)) home before ascend
 
-rest-all_before : (set : RangeSet) (last : Addr) (rest home : List Addr) → list_all (is_below set last) rest ≡ true → list_all (λ a. not (is_below set last a)) home ≡ true → all_before (never_passes set (Some last)) rest home ≡ true
+rest-all_before : (set : RangeSet) (last : Addr) (rest home : List Addr) → list_all (is_below set last) rest ≡ true
+    → list_all (λ a. not (is_below set last a)) home ≡ true → all_before (never_passes set (Some last)) rest home ≡ true
 rest-all_before set last rest home after before =
-    list_all-weaker (is_below set last) (λ a. list_all (never_passes set (Some last) a) home) (λ a here. list_all-weaker (λ b. not (is_below set last b)) (never_passes set (Some last) a) (λ b there. way_step_over (is_below set last a) (is_below set last b) (is_below set b a) here (grind (arith, there))) home before) rest after
+    list_all-weaker (is_below set last) (λ a. list_all (never_passes set (Some last) a) home)
+    (λ a here. list_all-weaker (λ b. not (is_below set last b)) (never_passes set (Some last) a) (λ b there.
+    way_step_over (is_below set last a) (is_below set last b) (is_below set b a) here (grind (arith, there)))
+    home before) rest after
 
 -- what ascends, gone round from one of its addresses
-around : (set : RangeSet) (last : Addr) (front rest : List Addr) → all_pairs (is_below set) (front ++ (last ∷ rest)) ≡ true → all_pairs (never_passes set (Some last)) (rest ++ (front ++ (last ∷ []))) ≡ true
+around : (set : RangeSet) (last : Addr) (front rest : List Addr)
+    → all_pairs (is_below set) (front ++ (last ∷ rest)) ≡ true
+    → all_pairs (never_passes set (Some last)) (rest ++ (front ++ (last ∷ []))) ≡ true
 around set last front rest ascend =
-    let across : all_before (is_below set) front (last ∷ rest) ≡ true = all_pairs-across (is_below set) front (last ∷ rest) ascend in
-    let right : (list_all (is_below set last) rest && all_pairs (is_below set) rest) ≡ true = all_pairs-right (is_below set) front (last ∷ rest) ascend in
+    let across : all_before (is_below set) front (last ∷ rest) ≡ true =
+    all_pairs-across (is_below set) front (last ∷ rest) ascend in
+    let right : (list_all (is_below set last) rest && all_pairs (is_below set) rest) ≡ true =
+    all_pairs-right (is_below set) front (last ∷ rest) ascend in
     let left : all_pairs (is_below set) front ≡ true = all_pairs-left (is_below set) front (last ∷ rest) ascend in
-    let to_last : all_before (is_below set) front (last ∷ []) ≡ true = list_all-weaker (λ a. is_below set a last && list_all (is_below set a) rest) (λ a. is_below set a last && true) (λ a h. grind arith) front across in
-    let home : all_pairs (is_below set) (front ++ (last ∷ [])) ≡ true = all_pairs-append (is_below set) front (last ∷ []) left to_last refl in
-    let front_before : list_all (λ a. not (is_below set last a)) front ≡ true = list_all-weaker (λ a. is_below set a last && true) (λ a. not (is_below set last a)) (λ a h. ap not (below-not_back set a last (grind arith))) front to_last in
-    let last_before : list_all (λ a. not (is_below set last a)) (last ∷ []) ≡ true = ap (λ b. not b && true) (below-not_itself set last) in
-    let before : list_all (λ a. not (is_below set last a)) (front ++ (last ∷ [])) ≡ true = list_all-append (λ a. not (is_below set last a)) front (last ∷ []) ∙ rw (front_before, last_before) refl in
-    all_pairs-append (never_passes set (Some last)) rest (front ++ (last ∷ [])) (rest-in_order set last rest (grind arith) (grind arith)) (rest-all_before set last rest (front ++ (last ∷ [])) (grind arith) before) (home-in_order set last (front ++ (last ∷ [])) before home)
+    let to_last : all_before (is_below set) front (last ∷ []) ≡ true =
+    list_all-weaker (λ a. is_below set a last && list_all (is_below set a) rest) (λ a. is_below set a last && true)
+    (λ a h. grind arith) front across in
+    let home : all_pairs (is_below set) (front ++ (last ∷ [])) ≡ true =
+    all_pairs-append (is_below set) front (last ∷ []) left to_last refl in
+    let front_before : list_all (λ a. not (is_below set last a)) front ≡ true =
+    list_all-weaker (λ a. is_below set a last && true) (λ a. not (is_below set last a))
+    (λ a h. ap not (below-not_back set a last (grind arith))) front to_last in
+    let last_before : list_all (λ a. not (is_below set last a)) (last ∷ []) ≡ true =
+    ap (λ b. not b && true) (below-not_itself set last) in
+    let before : list_all (λ a. not (is_below set last a)) (front ++ (last ∷ [])) ≡ true =
+    list_all-append (λ a. not (is_below set last a)) front (last ∷ []) ∙ rw (front_before, last_before) refl in
+    all_pairs-append (never_passes set (Some last)) rest (front ++ (last ∷ []))
+    (rest-in_order set last rest (grind arith) (grind arith))
+    (rest-all_before set last rest (front ++ (last ∷ [])) (grind arith) before)
+    (home-in_order set last (front ++ (last ∷ [])) before home)
 
-around_first : (set : RangeSet) (last : Addr) (xs : List Addr) (n : ℕ) (first : FirstAt (addr_eq last) xs n) → all_pairs (is_below set) xs ≡ true → all_pairs (never_passes set (Some last)) (drop (n + 1) xs ++ take (n + 1) xs) ≡ true
+around_first : (set : RangeSet) (last : Addr) (xs : List Addr) (n : ℕ) (first : FirstAt (addr_eq last) xs n)
+    → all_pairs (is_below set) xs ≡ true
+    → all_pairs (never_passes set (Some last)) (drop (n + 1) xs ++ take (n + 1) xs) ≡ true
 around_first set last xs n first ascend =
     let same : last ≡ first.item = same-address last first.item first.passes in
     let parts = rw (← same) at first.around in
     let home = rw (← same) at first.up_to in
-    ap (λ l. all_pairs (never_passes set (Some last)) (drop (n + 1) xs ++ l)) home ∙ around set last (take n xs) (drop (n + 1) xs) (ap (all_pairs (is_below set)) (sym parts) ∙ ascend)
+    ap (λ l. all_pairs (never_passes set (Some last)) (drop (n + 1) xs ++ l)) home
+    ∙ around set last (take n xs) (drop (n + 1) xs) (ap (all_pairs (is_below set)) (sym parts) ∙ ascend)
 
 -- the candidates in the order in which they are tried
-pub tried-in_order : (set : RangeSet) (last : Option Addr) → are_apart set.ranges ≡ true → is_candidate_or_none set last ≡ true → all_pairs (never_passes set last) (after_last_first last (candidates_of set)) ≡ true
+pub tried-in_order : (set : RangeSet) (last : Option Addr) → are_apart set.ranges ≡ true
+    → is_candidate_or_none set last ≡ true
+    → all_pairs (never_passes set last) (after_last_first last (candidates_of set)) ≡ true
 tried-in_order set None apart known = first_on set (candidates_of set) (candidates-ascend set.ranges apart)
 tried-in_order set (Some last) apart known =
-    around_first set last (candidates_of set) (position_or_len (addr_eq last) (candidates_of set)) (first_at (addr_eq last) (candidates_of set) (list_any-candidates last set.ranges ∙ known)) (candidates-ascend set.ranges apart)
+    around_first set last (candidates_of set) (position_or_len (addr_eq last) (candidates_of set))
+    (first_at (addr_eq last) (candidates_of set) (list_any-candidates last set.ranges ∙ known))
+    (candidates-ascend set.ranges apart)

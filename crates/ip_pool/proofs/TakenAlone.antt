@@ -12,10 +12,12 @@ list_any-alike : {X : Type 0} (p q : X → Bool) → ((x : X) → p x ≡ q x) �
 list_any-alike p q alike [] = refl
 list_any-alike p q alike (x ∷ xs) = rw (alike x, list_any-alike p q alike xs) refl
 
-pub pick-taken_alone : (set : RangeSet) (last : Option Addr) (taken other : List Addr) → ((a : Addr) → is_taken taken a ≡ is_taken other a) → pick_of set last taken ≡ pick_of set last other
+pub pick-taken_alone : (set : RangeSet) (last : Option Addr) (taken other : List Addr)
+    → ((a : Addr) → is_taken taken a ≡ is_taken other a) → pick_of set last taken ≡ pick_of set last other
 pick-taken_alone set last taken other same =
     find-alike (is_free taken) (is_free other) (λ a. ap not (same a)) (after_last_first last (candidates_of set))
 
-pub has_free-taken_alone : (set : RangeSet) (taken other : List Addr) → ((a : Addr) → is_taken taken a ≡ is_taken other a) → has_free_of set taken ≡ has_free_of set other
+pub has_free-taken_alone : (set : RangeSet) (taken other : List Addr)
+    → ((a : Addr) → is_taken taken a ≡ is_taken other a) → has_free_of set taken ≡ has_free_of set other
 has_free-taken_alone set taken other same =
     list_any-alike (is_free taken) (is_free other) (λ a. ap not (same a)) (candidates_of set)

@@ -23,7 +23,8 @@ keeps-all (x ∷ xs) = ap (λ ys. x ∷ ys) (keeps-all xs)
 -- one more link, which leaves
 pub drops-one : {X Y : Type 0} (leaves : Y → Bool) (on : X → Y → Bool) (ys : List Y) (i : ℕ) (y : Y) → i < length ys
     → y ≡ get_or ys i y → leaves y ≡ true → (xs : List X)
-    → filter (λ x. not (on x y)) (filter (λ x. not (list_any (λ l. leaves l && on x l) (take i ys))) xs) ≡ filter (λ x. not (list_any (λ l. leaves l && on x l) (take (i + 1) ys))) xs
+    → filter (λ x. not (on x y)) (filter (λ x. not (list_any (λ l. leaves l && on x l) (take i ys))) xs)
+    ≡ filter (λ x. not (list_any (λ l. leaves l && on x l) (take (i + 1) ys))) xs
 drops-one leaves on ys i y within is goes xs =
     filter-filter (λ x. not (list_any (λ l. leaves l && on x l) (take i ys))) (λ x. not (on x y)) xs
     ∙ filter_agree _ _ (λ x.
@@ -33,7 +34,8 @@ drops-one leaves on ys i y within is goes xs =
 -- one more link, which stays
 pub drops-none : {X Y : Type 0} (leaves : Y → Bool) (on : X → Y → Bool) (ys : List Y) (i : ℕ) (y : Y) → i < length ys
     → y ≡ get_or ys i y → leaves y ≡ false → (xs : List X)
-    → filter (λ x. not (list_any (λ l. leaves l && on x l) (take i ys))) xs ≡ filter (λ x. not (list_any (λ l. leaves l && on x l) (take (i + 1) ys))) xs
+    → filter (λ x. not (list_any (λ l. leaves l && on x l) (take i ys))) xs
+    ≡ filter (λ x. not (list_any (λ l. leaves l && on x l) (take (i + 1) ys))) xs
 drops-none leaves on ys i y within is stays xs =
     filter_agree _ _ (λ x.
     let more = list_any_more (λ l. leaves l && on x l) ys i y within in

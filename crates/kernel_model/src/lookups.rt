@@ -3,7 +3,8 @@
 ghost use Rattle.std.specs.Prelude.{◌≡◌, IfOk, find};
 ghost use Rattle.std.specs.Option.{option_copied, option_map};
 ghost use Rattle.kernel_types.specs.Apply.Calls.{is_free_master, has_free_master};
-ghost use Rattle.kernel_types.specs.Terms.{has_link_in, has_ns_in, is_host_or_ns, link_in, is_host_link, is_host_bridge, has_bridge_in, is_link_of};
+ghost use Rattle.kernel_types.specs.Terms.{has_link_in, has_ns_in, is_host_or_ns, link_in, is_host_link};
+ghost use Rattle.kernel_types.specs.Terms.{is_host_bridge, has_bridge_in, is_link_of};
 
 use crate::lists::Tagged;
 use cni_addr::{Duplicate, NoMemory, Text};

@@ -75,7 +75,17 @@ unfolding last_data
 last_is_whole last = refl
 
 -- no object of a dump has such a number
-pub ruleset objects_are_whole = (namespace_is_whole, link_is_whole, address_is_whole, route_is_whole, rule_is_whole, setting_is_whole, lease_is_whole, cached_is_whole, last_is_whole)
+pub ruleset objects_are_whole = (
+  namespace_is_whole,
+  link_is_whole,
+  address_is_whole,
+  route_is_whole,
+  rule_is_whole,
+  setting_is_whole,
+  lease_is_whole,
+  cached_is_whole,
+  last_is_whole,
+)
 
 -- ---- the lists one after another
 
@@ -88,4 +98,5 @@ first_list data_of old new xs ys is same = is ∙ ap (λ l. old ++ lines_of data
 pub next_list : {A : Type 0} (data_of : A → Data) (old text mid new : List ℕ) (xs ys : List A) → mid ≡ old ++ text
     → new ≡ mid ++ lines_of data_of xs → xs ≡ ys → new ≡ old ++ (text ++ lines_of data_of ys)
 next_list data_of old text mid new xs ys before is same =
-    is ∙ ap (λ l. mid ++ lines_of data_of l) same ∙ ap (λ l. l ++ lines_of data_of ys) before ∙ append_assoc old text (lines_of data_of ys)
+    is ∙ ap (λ l. mid ++ lines_of data_of l) same ∙ ap (λ l. l ++ lines_of data_of ys) before
+    ∙ append_assoc old text (lines_of data_of ys)

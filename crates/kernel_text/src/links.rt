@@ -3,7 +3,8 @@
 ghost use Rattle.std.specs.Prelude.{◌≡◌, IfOk, OnOk};
 ghost use Rattle.serde_json.specs.View.{view};
 ghost use Rattle.cni_json.specs.Members.{members_of};
-ghost use Rattle.kernel_text.specs.Dump.{namespace_data, link_key_data, link_data, put_identity, put_attributes, put_relations};
+ghost use Rattle.kernel_text.specs.Dump.{namespace_data, link_key_data, link_data, put_identity, put_attributes};
+ghost use Rattle.kernel_text.specs.Dump.{put_relations};
 
 use crate::dump::Dumped;
 use crate::tags::put_tag;

@@ -23,12 +23,14 @@ by_way P (Some t) host next h g = h t
 pub by_addition : (P : Host → Type 0) (there : Bool) (o : Option Tag) (host next : Host) (reply : Reply) → P host
     → (there ≡ true → o ≡ None → P next) → P (if there then append_unless_taken o host next else (host, reply)).0
 by_addition P there o host next reply h g =
-    by_test (λ (step : Host × Reply). P step.0) there (append_unless_taken o host next) (host, reply) (λ t. by_way (λ step. P step.0) o host next (λ _. h) (g t)) (λ _. h)
+    by_test (λ (step : Host × Reply). P step.0) there (append_unless_taken o host next) (host, reply)
+    (λ t. by_way (λ step. P step.0) o host next (λ _. h) (g t)) (λ _. h)
 
 -- the host stays where it is there already
 pub by_absence : (P : Host → Type 0) (there : Bool) (reply : Reply) (host next : Host) → P host
     → (there ≡ false → P next) → P (unless_there there reply host next).0
-by_absence P there reply host next h g = by_test (λ (step : Host × Reply). P step.0) there (host, reply) (next, Done) (λ _. h) g
+by_absence P there reply host next h g =
+    by_test (λ (step : Host × Reply). P step.0) there (host, reply) (next, Done) (λ _. h) g
 
 pub none-option_map : {A B : Type 0} (f : A → B) (o : Option A) → option_map f o ≡ None → o ≡ None
 none-option_map f None h = refl
@@ -41,7 +43,8 @@ none-option_or (Some x) p h = cc
 -- ---- attachments and tags
 
 pub att_eq-refl : (a : Att) → att_eq a a ≡ true
-att_eq-refl a = grind (arith, nat_list_eq_equiv.refl a.network, nat_list_eq_equiv.refl a.container, nat_list_eq_equiv.refl a.ifname)
+att_eq-refl a =
+    grind (arith, nat_list_eq_equiv.refl a.network, nat_list_eq_equiv.refl a.container, nat_list_eq_equiv.refl a.ifname)
 
 pub tag_eq-refl : (t : Tag) → tag_eq t t ≡ true
 tag_eq-refl Outside = refl

@@ -34,7 +34,8 @@ drops_first-step gone false x xs ys e c = inl (refl, c)
 
 pub DropsOnly-without_first : {X : Type 0} (gone : X → Bool) (xs : List X) → DropsOnly gone xs (without_first gone xs)
 DropsOnly-without_first gone [] = refl
-DropsOnly-without_first gone (x ∷ xs) = drops_first-step gone (gone x) x xs (without_first gone xs) refl (DropsOnly-without_first gone xs)
+DropsOnly-without_first gone (x ∷ xs) =
+    drops_first-step gone (gone x) x xs (without_first gone xs) refl (DropsOnly-without_first gone xs)
 
 -- ---- what passes is changed, dropped or put at the end
 
@@ -42,7 +43,10 @@ pub ChangesOnly-DropsOnly : {X : Type 0} (own : X → Bool) (xs ys : List X) →
 ChangesOnly-DropsOnly own [] ys d = ap (list_all own) d
 ChangesOnly-DropsOnly own (x ∷ xs) [] d = (d.0, ChangesOnly-DropsOnly own xs [] d.1)
 ChangesOnly-DropsOnly own (x ∷ xs) (y ∷ ys) d =
-    elim d [ inl same ↦ inl (same.0, ChangesOnly-DropsOnly own xs ys same.1) | inr gone ↦ inr (inr (gone.0, ChangesOnly-DropsOnly own xs (y ∷ ys) gone.1)) ]
+    elim d [
+      | inl same ↦ inl (same.0, ChangesOnly-DropsOnly own xs ys same.1)
+      | inr gone ↦ inr (inr (gone.0, ChangesOnly-DropsOnly own xs (y ∷ ys) gone.1))
+    ]
 
 pub ChangesOnly-nothing : {X : Type 0} (own : X → Bool) (xs : List X) → ChangesOnly own xs xs
 ChangesOnly-nothing own xs = ChangesOnly-DropsOnly own xs xs (DropsOnly-nothing own xs)
@@ -57,7 +61,10 @@ pub ChangesOnly-map : {X : Type 0} (own : X → Bool) (f : X → X)
     → ((x : X) → (f x ≡ x) ⊎ ((own x ≡ true) × (own (f x) ≡ true))) → (xs : List X) → ChangesOnly own xs (map f xs)
 ChangesOnly-map own f w [] = refl
 ChangesOnly-map own f w (x ∷ xs) =
-    elim (w x) [ inl e ↦ inl (sym e, ChangesOnly-map own f w xs) | inr e ↦ inr (inl (e.0, e.1, ChangesOnly-map own f w xs)) ]
+    elim (w x) [
+      | inl e ↦ inl (sym e, ChangesOnly-map own f w xs)
+      | inr e ↦ inr (inl (e.0, e.1, ChangesOnly-map own f w xs))
+    ]
 
 -- ---- what doesn't pass stays
 
@@ -68,9 +75,12 @@ filter-ChangesOnly own p apart [] ys c = filter_never p own apart ys c
 filter-ChangesOnly own p apart (x ∷ xs) [] c = grind (arith, apart x c.0, filter-ChangesOnly own p apart xs [] c.1)
 filter-ChangesOnly own p apart (x ∷ xs) (y ∷ ys) c =
     elim c [
-      | inl same ↦ let e : x ≡ y = same.0 in let rest : filter p ys ≡ filter p xs = filter-ChangesOnly own p apart xs ys same.1 in rw e (grind (arith, rest))
+      | inl same ↦ let e : x ≡ y = same.0 in
+          let rest : filter p ys ≡ filter p xs = filter-ChangesOnly own p apart xs ys same.1 in rw e
+          (grind (arith, rest))
       | inr other ↦ elim other [
-        | inl changed ↦ grind (arith, apart x changed.0, apart y changed.1, filter-ChangesOnly own p apart xs ys changed.2)
+        | inl changed ↦
+            grind (arith, apart x changed.0, apart y changed.1, filter-ChangesOnly own p apart xs ys changed.2)
         | inr dropped ↦ grind (arith, apart x dropped.0, filter-ChangesOnly own p apart xs (y ∷ ys) dropped.1)
       ]
     ]

@@ -19,15 +19,21 @@ IsSound-rule_del host att sound = IsSound-with_rules host _ sound (record {
 pub IsSound-setting_del : (host : Host) (att : Att) → IsSound host → IsSound (setting_del_of host att).0
 IsSound-setting_del host att sound = IsSound-with_settings host _ sound (record {
   keys = distinct-without_first (λ a b. is_same_setting b a) (λ s. is_own att s.tag) host.settings sound.settings.keys;
-  tags = list_all-without_first (λ s. setting_fits_tag host.namespaces s s.tag) (λ s. is_own att s.tag) host.settings sound.settings.tags;
+  tags =
+      list_all-without_first (λ s. setting_fits_tag host.namespaces s s.tag)
+      (λ s. is_own att s.tag) host.settings sound.settings.tags;
 })
 
 -- ---- leases
 
 pub IsSound-lease_del : (host : Host) (att : Att) → IsSound host → IsSound (lease_del_of host att).0
 IsSound-lease_del host att sound = IsSound-with_leases host _ sound (record {
-  keys = distinct-without_first (λ a b. bytes_eq a.network b.network && addr_eq a.addr b.addr) (λ l. is_own att l.tag) host.leases sound.leases.keys;
-  tags = list_all-without_first (λ l. is_some (owner_in l.network l.tag)) (λ l. is_own att l.tag) host.leases sound.leases.tags;
+  keys =
+      distinct-without_first (λ a b. bytes_eq a.network b.network && addr_eq a.addr b.addr)
+      (λ l. is_own att l.tag) host.leases sound.leases.keys;
+  tags =
+      list_all-without_first (λ l. is_some (owner_in l.network l.tag))
+      (λ l. is_own att l.tag) host.leases sound.leases.tags;
 })
 
 -- ---- cached results

@@ -18,8 +18,10 @@ use Rattle.kernel_types.proofs.{ChangeLemmas.DropsOnly-without_first, TouchRemov
 use Rattle.kernel_types.proofs.TouchRemoval.{gone_owned, gone_may_go}
 
 -- no more than the attachment's objects of the lists that don't lie on links are removed
-RemovesOwn-with : (att : Att) (host : Host) (rules : List Rule) (settings : List Setting) (leases : List Lease) (cached : List CachedObj)
-    → DropsOnly (λ r. is_own att r.tag) host.rules rules → DropsOnly (λ s. is_own att s.tag) host.settings settings → DropsOnly (λ l. is_own att l.tag) host.leases leases → DropsOnly (λ c. is_own att c.tag) host.cached cached
+RemovesOwn-with : (att : Att) (host : Host) (rules : List Rule) (settings : List Setting) (leases : List Lease)
+    (cached : List CachedObj)
+    → DropsOnly (λ r. is_own att r.tag) host.rules rules → DropsOnly (λ s. is_own att s.tag) host.settings settings
+    → DropsOnly (λ l. is_own att l.tag) host.leases leases → DropsOnly (λ c. is_own att c.tag) host.cached cached
     → RemovesOwn att host (record host { rules = rules; settings = settings; leases = leases; cached = cached })
 RemovesOwn-with att host rules settings leases cached r s l c = record {
   namespaces = refl;
@@ -34,7 +36,9 @@ RemovesOwn-with att host rules settings leases cached r s l c = record {
 }
 
 pub RemovesOwn-nothing : (att : Att) (host : Host) → RemovesOwn att host host
-RemovesOwn-nothing att host = RemovesOwn-with att host host.rules host.settings host.leases host.cached (DropsOnly-nothing _ host.rules) (DropsOnly-nothing _ host.settings) (DropsOnly-nothing _ host.leases) (DropsOnly-nothing _ host.cached)
+RemovesOwn-nothing att host =
+    RemovesOwn-with att host host.rules host.settings host.leases host.cached (DropsOnly-nothing _ host.rules)
+    (DropsOnly-nothing _ host.settings) (DropsOnly-nothing _ host.leases) (DropsOnly-nothing _ host.cached)
 
 -- what only removes the attachment's objects touches no other
 pub TouchesOwn-RemovesOwn : (att : Att) (old new : Host) → RemovesOwn att old new → TouchesOwn att old new
@@ -50,21 +54,34 @@ TouchesOwn-RemovesOwn att old new removes = record {
 }
 
 pub TouchesOwnAlone-RemovesOwn : (att : Att) (old new : Host) → RemovesOwn att old new → TouchesOwnAlone att old new
-TouchesOwnAlone-RemovesOwn att old new removes = record { own = TouchesOwn-RemovesOwn att old new removes; lasts = removes.lasts }
+TouchesOwnAlone-RemovesOwn att old new removes =
+    record { own = TouchesOwn-RemovesOwn att old new removes; lasts = removes.lasts }
 
 -- ---- one object that isn't a link
 
 pub RemovesOwn-rule_del : (host : Host) (att : Att) → RemovesOwn att host (rule_del_of host att).0
-RemovesOwn-rule_del host att = RemovesOwn-with att host _ host.settings host.leases host.cached (DropsOnly-without_first (λ x. is_own att x.tag) host.rules) (DropsOnly-nothing _ host.settings) (DropsOnly-nothing _ host.leases) (DropsOnly-nothing _ host.cached)
+RemovesOwn-rule_del host att =
+    RemovesOwn-with att host _ host.settings host.leases host.cached
+    (DropsOnly-without_first (λ x. is_own att x.tag) host.rules) (DropsOnly-nothing _ host.settings)
+    (DropsOnly-nothing _ host.leases) (DropsOnly-nothing _ host.cached)
 
 pub RemovesOwn-setting_del : (host : Host) (att : Att) → RemovesOwn att host (setting_del_of host att).0
-RemovesOwn-setting_del host att = RemovesOwn-with att host host.rules _ host.leases host.cached (DropsOnly-nothing _ host.rules) (DropsOnly-without_first (λ x. is_own att x.tag) host.settings) (DropsOnly-nothing _ host.leases) (DropsOnly-nothing _ host.cached)
+RemovesOwn-setting_del host att =
+    RemovesOwn-with att host host.rules _ host.leases host.cached (DropsOnly-nothing _ host.rules)
+    (DropsOnly-without_first (λ x. is_own att x.tag) host.settings) (DropsOnly-nothing _ host.leases)
+    (DropsOnly-nothing _ host.cached)
 
 pub RemovesOwn-lease_del : (host : Host) (att : Att) → RemovesOwn att host (lease_del_of host att).0
-RemovesOwn-lease_del host att = RemovesOwn-with att host host.rules host.settings _ host.cached (DropsOnly-nothing _ host.rules) (DropsOnly-nothing _ host.settings) (DropsOnly-without_first (λ x. is_own att x.tag) host.leases) (DropsOnly-nothing _ host.cached)
+RemovesOwn-lease_del host att =
+    RemovesOwn-with att host host.rules host.settings _ host.cached (DropsOnly-nothing _ host.rules)
+    (DropsOnly-nothing _ host.settings) (DropsOnly-without_first (λ x. is_own att x.tag) host.leases)
+    (DropsOnly-nothing _ host.cached)
 
 pub RemovesOwn-cache_del : (host : Host) (att : Att) → RemovesOwn att host (cache_del_of host att).0
-RemovesOwn-cache_del host att = RemovesOwn-with att host host.rules host.settings host.leases _ (DropsOnly-nothing _ host.rules) (DropsOnly-nothing _ host.settings) (DropsOnly-nothing _ host.leases) (DropsOnly-without_first (λ x. is_own att x.tag) host.cached)
+RemovesOwn-cache_del host att =
+    RemovesOwn-with att host host.rules host.settings host.leases _ (DropsOnly-nothing _ host.rules)
+    (DropsOnly-nothing _ host.settings) (DropsOnly-nothing _ host.leases)
+    (DropsOnly-without_first (λ x. is_own att x.tag) host.cached)
 
 -- ---- a link, its peer and what is on them
 
@@ -75,11 +92,18 @@ removes-without_link att host found sound f =
     let gone : Link → Bool = goes_with found.ns found.name in
     record {
       namespaces = refl;
-      links = DropsOnly-filter (λ l. is_own att l.tag) (λ l. not (gone l)) host.links (gone_owned att host found sound f);
-      addresses = DropsOnly-filter (λ a. is_own att a.tag) (λ a. not (list_any (λ l. gone l && is_at a.ns a.link l) host.links)) host.addresses
-          (addresses_gone (is_own att) gone host.links host.addresses sound.links.keys (gone_may_go att host found sound f) sound.addresses);
-      routes = DropsOnly-filter (λ r. is_own att r.tag) (λ r. not (list_any (λ l. gone l && is_at r.ns r.link l) host.links)) host.routes
-          (routes_gone (is_own att) gone host.links host.routes sound.links.keys (gone_may_go att host found sound f) sound.routes);
+      links =
+          DropsOnly-filter (λ l. is_own att l.tag) (λ l. not (gone l)) host.links (gone_owned att host found sound f);
+      addresses =
+          DropsOnly-filter (λ a. is_own att a.tag) (λ a. not (list_any (λ l. gone l && is_at a.ns a.link l) host.links))
+          host.addresses
+          (addresses_gone (is_own att) gone host.links host.addresses sound.links.keys
+          (gone_may_go att host found sound f) sound.addresses);
+      routes =
+          DropsOnly-filter (λ r. is_own att r.tag) (λ r. not (list_any (λ l. gone l && is_at r.ns r.link l) host.links))
+          host.routes
+          (routes_gone (is_own att) gone host.links host.routes sound.links.keys
+          (gone_may_go att host found sound f) sound.routes);
       rules = DropsOnly-nothing (λ r. is_own att r.tag) host.rules;
       settings = DropsOnly-nothing (λ s. is_own att s.tag) host.settings;
       leases = DropsOnly-nothing (λ l. is_own att l.tag) host.leases;
@@ -112,11 +136,21 @@ RemovesOwn-apply host (RuleAppend rule) att sound e = cc
 RemovesOwn-apply host (SettingSet setting) att sound e = cc
 RemovesOwn-apply host (LeaseNext a number set) att sound e = cc
 RemovesOwn-apply host (CachePut a cached) att sound e = cc
-RemovesOwn-apply host (LinkDel a) att sound e = let P : Att → Type 0 = λ b. RemovesOwn b host (link_del_of host a).0 in subst P (same_Some a att e) (RemovesOwn-link_del host a sound)
-RemovesOwn-apply host (RuleDel a) att sound e = let P : Att → Type 0 = λ b. RemovesOwn b host (rule_del_of host a).0 in subst P (same_Some a att e) (RemovesOwn-rule_del host a)
-RemovesOwn-apply host (SettingDel a) att sound e = let P : Att → Type 0 = λ b. RemovesOwn b host (setting_del_of host a).0 in subst P (same_Some a att e) (RemovesOwn-setting_del host a)
-RemovesOwn-apply host (LeaseDel a) att sound e = let P : Att → Type 0 = λ b. RemovesOwn b host (lease_del_of host a).0 in subst P (same_Some a att e) (RemovesOwn-lease_del host a)
-RemovesOwn-apply host (CacheDel a) att sound e = let P : Att → Type 0 = λ b. RemovesOwn b host (cache_del_of host a).0 in subst P (same_Some a att e) (RemovesOwn-cache_del host a)
+RemovesOwn-apply host (LinkDel a) att sound e =
+    let P : Att → Type 0 = λ b. RemovesOwn b host (link_del_of host a).0 in subst P (same_Some a att e)
+    (RemovesOwn-link_del host a sound)
+RemovesOwn-apply host (RuleDel a) att sound e =
+    let P : Att → Type 0 = λ b. RemovesOwn b host (rule_del_of host a).0 in subst P (same_Some a att e)
+    (RemovesOwn-rule_del host a)
+RemovesOwn-apply host (SettingDel a) att sound e =
+    let P : Att → Type 0 = λ b. RemovesOwn b host (setting_del_of host a).0 in subst P (same_Some a att e)
+    (RemovesOwn-setting_del host a)
+RemovesOwn-apply host (LeaseDel a) att sound e =
+    let P : Att → Type 0 = λ b. RemovesOwn b host (lease_del_of host a).0 in subst P (same_Some a att e)
+    (RemovesOwn-lease_del host a)
+RemovesOwn-apply host (CacheDel a) att sound e =
+    let P : Att → Type 0 = λ b. RemovesOwn b host (cache_del_of host a).0 in subst P (same_Some a att e)
+    (RemovesOwn-cache_del host a)
 RemovesOwn-apply host (HasObj probe) att sound e = cc
 RemovesOwn-apply host (CacheGet a) att sound e = cc
 RemovesOwn-apply host (OwnersOf network kind) att sound e = cc

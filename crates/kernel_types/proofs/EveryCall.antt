@@ -31,7 +31,8 @@ IsSound-apply host (GatewayEnsure bridge cidr) sound allowed = IsSound-gateway_e
 IsSound-apply host (ForwardEnsure family) sound allowed = IsSound-forward_ensure host family sound
 IsSound-apply host (VethAdd host_end inner_end) sound allowed = IsSound-veth_add host host_end inner_end allowed sound
 IsSound-apply host (MacvlanAdd link) sound allowed = IsSound-macvlan_add host link allowed sound
-IsSound-apply host (LinkSet att key mac mtu tx_qlen promisc allmulti) sound allowed = IsSound-link_set host att key mac mtu tx_qlen promisc allmulti sound
+IsSound-apply host (LinkSet att key mac mtu tx_qlen promisc allmulti) sound allowed =
+    IsSound-link_set host att key mac mtu tx_qlen promisc allmulti sound
 IsSound-apply host (AddrAdd obj) sound allowed = IsSound-addr_add host obj allowed sound
 IsSound-apply host (RouteAdd obj) sound allowed = IsSound-route_add host obj sound
 IsSound-apply host (RuleAppend rule) sound allowed = IsSound-rule_append host rule allowed sound
@@ -60,16 +61,19 @@ Touches-apply host (GatewayEnsure bridge cidr) sound allowed = AddsAddress-gatew
 Touches-apply host (ForwardEnsure family) sound allowed = AddsSetting-forward_ensure host family
 Touches-apply host (VethAdd host_end inner_end) sound allowed = TouchesTag-veth_add host host_end inner_end allowed
 Touches-apply host (MacvlanAdd link) sound allowed = TouchesTag-macvlan_add host link allowed
-Touches-apply host (LinkSet att key mac mtu tx_qlen promisc allmulti) sound allowed = TouchesOwnAlone-link_set host att key mac mtu tx_qlen promisc allmulti
+Touches-apply host (LinkSet att key mac mtu tx_qlen promisc allmulti) sound allowed =
+    TouchesOwnAlone-link_set host att key mac mtu tx_qlen promisc allmulti
 Touches-apply host (AddrAdd obj) sound allowed = TouchesTag-addr_add host obj allowed
 Touches-apply host (RouteAdd obj) sound allowed = TouchesTag-route_add host obj allowed
 Touches-apply host (RuleAppend rule) sound allowed = TouchesTag-rule_append host rule allowed
 Touches-apply host (SettingSet setting) sound allowed = TouchesTag-setting_set host setting allowed.0
 Touches-apply host (LeaseNext att number set) sound allowed = TouchesOwnAndLast-lease_next host att number set
 Touches-apply host (CachePut att cached) sound allowed = TouchesOwnAlone-cache_put host att cached
-Touches-apply host (LinkDel att) sound allowed = TouchesOwnAlone-RemovesOwn att host _ (RemovesOwn-link_del host att sound)
+Touches-apply host (LinkDel att) sound allowed =
+    TouchesOwnAlone-RemovesOwn att host _ (RemovesOwn-link_del host att sound)
 Touches-apply host (RuleDel att) sound allowed = TouchesOwnAlone-RemovesOwn att host _ (RemovesOwn-rule_del host att)
-Touches-apply host (SettingDel att) sound allowed = TouchesOwnAlone-RemovesOwn att host _ (RemovesOwn-setting_del host att)
+Touches-apply host (SettingDel att) sound allowed =
+    TouchesOwnAlone-RemovesOwn att host _ (RemovesOwn-setting_del host att)
 Touches-apply host (LeaseDel att) sound allowed = TouchesOwnAlone-RemovesOwn att host _ (RemovesOwn-lease_del host att)
 Touches-apply host (CacheDel att) sound allowed = TouchesOwnAlone-RemovesOwn att host _ (RemovesOwn-cache_del host att)
 Touches-apply host (HasObj probe) sound allowed = refl

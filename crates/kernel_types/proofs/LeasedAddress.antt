@@ -22,7 +22,8 @@ chosen host att number a (Some b) h = cc
 pub leased-picked : (host : Host) (att : Att) (number : ℕ) (set : RangeSet) (a : Addr)
     → (lease_next_of host att number set).1 ≡ Leased a
     → pick_of set (last_leased host att.network number) (leased_addresses host att.network) ≡ Some a
-leased-picked host att number set a h = chosen host att number a (pick_of set (last_leased host att.network number) (leased_addresses host att.network)) h
+leased-picked host att number set a h =
+    chosen host att number a (pick_of set (last_leased host att.network number) (leased_addresses host att.network)) h
 
 none_chosen : (host : Host) (att : Att) (number : ℕ) (o : Option Addr) → (lease_taken host att number o).1 ≡ Empty
     → o ≡ None
@@ -32,7 +33,9 @@ none_chosen host att number (Some b) h = cc
 pub empty-picked : (host : Host) (att : Att) (number : ℕ) (set : RangeSet)
     → (lease_next_of host att number set).1 ≡ Empty
     → pick_of set (last_leased host att.network number) (leased_addresses host att.network) ≡ None
-empty-picked host att number set h = none_chosen host att number (pick_of set (last_leased host att.network number) (leased_addresses host att.network)) h
+empty-picked host att number set h =
+    none_chosen host att number (pick_of set (last_leased host att.network number) (leased_addresses host att.network))
+    h
 
 -- ---- what the choice is
 
@@ -41,21 +44,28 @@ pub leased-next : (host : Host) (att : Att) (number : ℕ) (set : RangeSet) (a :
     → IsAllowed host (LeaseNext att number set) → (lease_next_of host att number set).1 ≡ Leased a
     → IsNextAddress set (last_leased host att.network number) (leased_addresses host att.network) a
 leased-next host att number set a allowed h =
-    subst (IsPick set (last_leased host att.network number) (leased_addresses host att.network)) (leased-picked host att number set a h)
+    subst (IsPick set (last_leased host att.network number) (leased_addresses host att.network))
+    (leased-picked host att number set a h)
     (pick-is_pick set (last_leased host att.network number) (leased_addresses host att.network) allowed.0 allowed.1)
 
 pub leased-candidate : (host : Host) (att : Att) (number : ℕ) (set : RangeSet) (a : Addr)
     → (lease_next_of host att number set).1 ≡ Leased a → is_candidate set a ≡ true
-leased-candidate host att number set a h = picked-candidate set (last_leased host att.network number) (leased_addresses host att.network) a (leased-picked host att number set a h)
+leased-candidate host att number set a h =
+    picked-candidate set (last_leased host att.network number) (leased_addresses host att.network) a
+    (leased-picked host att number set a h)
 
 pub leased-free : (host : Host) (att : Att) (number : ℕ) (set : RangeSet) (a : Addr)
     → (lease_next_of host att number set).1 ≡ Leased a → is_taken (leased_addresses host att.network) a ≡ false
-leased-free host att number set a h = picked-free set (last_leased host att.network number) (leased_addresses host att.network) a (leased-picked host att number set a h)
+leased-free host att number set a h =
+    picked-free set (last_leased host att.network number) (leased_addresses host att.network) a
+    (leased-picked host att number set a h)
 
 -- none is left where the reply is empty
 pub empty-exhausted : (host : Host) (att : Att) (number : ℕ) (set : RangeSet)
     → (lease_next_of host att number set).1 ≡ Empty → IsExhausted set (leased_addresses host att.network)
-empty-exhausted host att number set h = none-exhausted set (last_leased host att.network number) (leased_addresses host att.network) (empty-picked host att number set h)
+empty-exhausted host att number set h =
+    none-exhausted set (last_leased host att.network number) (leased_addresses host att.network)
+    (empty-picked host att number set h)
 
 -- ---- it is the last of its pool from then on
 
@@ -74,8 +84,10 @@ last_moved : (network : List ℕ) (number : ℕ) (a : Addr) (lasts : List Last)
     → option_map (λ l. l.addr) (find (is_of_pool network number) (map (moved_last network number a) lasts)) ≡ Some a
 last_moved network number a [] h = cc
 last_moved network number a (l ∷ ls) h =
-    let same : is_of_pool network number (moved_last network number a l) ≡ is_of_pool network number l = is_of_pool-moved network number a network number l in
-    found_at (is_of_pool network number (moved_last network number a l)) (moved_last network number a l) (find (is_of_pool network number) (map (moved_last network number a) ls)) a
+    let same : is_of_pool network number (moved_last network number a l) ≡ is_of_pool network number l =
+    is_of_pool-moved network number a network number l in
+    found_at (is_of_pool network number (moved_last network number a l)) (moved_last network number a l)
+    (find (is_of_pool network number) (map (moved_last network number a) ls)) a
     (λ own. moved_last-addr network number a l (sym same ∙ own))
     (λ other. last_moved network number a ls (grind (arith, h, same, other)))
 
@@ -87,9 +99,12 @@ last_added p new (l ∷ ls) own none = grind (arith, none, last_added p new ls o
 pub last_leased-with_last : (host : Host) (network : List ℕ) (number : ℕ) (a : Addr)
     → last_leased (with_last host network number a) network number ≡ Some a
 last_leased-with_last host network number a =
-    by_test (λ (next : Host). last_leased next network number ≡ Some a) (list_any (is_of_pool network number) host.lasts) _ _
+    by_test (λ (next : Host). last_leased next network number ≡ Some a)
+    (list_any (is_of_pool network number) host.lasts) _ _
     (λ there. last_moved network number a host.lasts there)
-    (λ none. ap (option_map (λ l. l.addr)) (last_added (is_of_pool network number) (record { network = network; set = number; addr = a }) host.lasts (grind (arith, pool_itself network number a)) none))
+    (λ none. ap (option_map (λ l. l.addr))
+    (last_added (is_of_pool network number) (record { network = network; set = number; addr = a }) host.lasts
+    (grind (arith, pool_itself network number a)) none))
 
 pub same_leased : (a b : Addr) → Leased a ≡ Leased b → a ≡ b
 same_leased a b h = cc
@@ -100,9 +115,13 @@ after_taken : (host : Host) (att : Att) (number : ℕ) (a : Addr) (o : Option Ad
 after_taken host att number a None h = cc
 after_taken host att number a (Some b) h =
     let same : b ≡ a = same_leased b a h in
-    last_leased-with_last (record host { leases = host.leases ++ record { network = att.network; addr = b; tag = Own att } ∷ [] }) att.network number b ∙ ap Some same
+    last_leased-with_last
+    (record host { leases = host.leases ++ record { network = att.network; addr = b; tag = Own att } ∷ [] })
+    att.network number b ∙ ap Some same
 
 pub last_leased-lease_next : (host : Host) (att : Att) (number : ℕ) (set : RangeSet) (a : Addr)
     → (lease_next_of host att number set).1 ≡ Leased a
     → last_leased (lease_next_of host att number set).0 att.network number ≡ Some a
-last_leased-lease_next host att number set a h = after_taken host att number a (pick_of set (last_leased host att.network number) (leased_addresses host att.network)) h
+last_leased-lease_next host att number set a h =
+    after_taken host att number a
+    (pick_of set (last_leased host att.network number) (leased_addresses host att.network)) h

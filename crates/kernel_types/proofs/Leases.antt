@@ -21,22 +21,27 @@ use Rattle.kernel_types.proofs.OneList.{TouchesOwn-with_lasts, TouchesOwn-with_l
 -- a last that is moved stays that of its pool
 moved_last-network : (network : List ℕ) (number : ℕ) (addr : Addr) (l : Last)
     → (moved_last network number addr l).network ≡ l.network
-moved_last-network network number addr l = by_test (λ (m : Last). m.network ≡ l.network) (is_of_pool network number l) _ _ (λ _. refl) (λ _. refl)
+moved_last-network network number addr l =
+    by_test (λ (m : Last). m.network ≡ l.network) (is_of_pool network number l) _ _ (λ _. refl) (λ _. refl)
 
 moved_last-set : (network : List ℕ) (number : ℕ) (addr : Addr) (l : Last)
     → (moved_last network number addr l).set ≡ l.set
-moved_last-set network number addr l = by_test (λ (m : Last). m.set ≡ l.set) (is_of_pool network number l) _ _ (λ _. refl) (λ _. refl)
+moved_last-set network number addr l =
+    by_test (λ (m : Last). m.set ≡ l.set) (is_of_pool network number l) _ _ (λ _. refl) (λ _. refl)
 
 pub is_of_pool-moved : (network : List ℕ) (number : ℕ) (addr : Addr) (net : List ℕ) (n : ℕ) (l : Last)
     → is_of_pool net n (moved_last network number addr l) ≡ is_of_pool net n l
 is_of_pool-moved network number addr net n l =
-    ap (λ (w : List ℕ). bytes_eq w net && (moved_last network number addr l).set == n) (moved_last-network network number addr l)
+    ap (λ (w : List ℕ). bytes_eq w net && (moved_last network number addr l).set == n)
+    (moved_last-network network number addr l)
     ∙ ap (λ (k : ℕ). bytes_eq l.network net && k == n) (moved_last-set network number addr l)
 
 same_pool-moved : (network : List ℕ) (number : ℕ) (addr : Addr) (a b : Last)
-    → is_of_pool (moved_last network number addr b).network (moved_last network number addr b).set (moved_last network number addr a) ≡ is_of_pool b.network b.set a
+    → is_of_pool (moved_last network number addr b).network (moved_last network number addr b).set
+    (moved_last network number addr a) ≡ is_of_pool b.network b.set a
 same_pool-moved network number addr a b =
-    ap (λ (w : List ℕ). is_of_pool w (moved_last network number addr b).set (moved_last network number addr a)) (moved_last-network network number addr b)
+    ap (λ (w : List ℕ). is_of_pool w (moved_last network number addr b).set (moved_last network number addr a))
+    (moved_last-network network number addr b)
     ∙ ap (λ (k : ℕ). is_of_pool b.network k (moved_last network number addr a)) (moved_last-set network number addr b)
     ∙ is_of_pool-moved network number addr b.network b.set a
 
@@ -45,16 +50,22 @@ pub IsSound-with_last : (host : Host) (network : List ℕ) (number : ℕ) (addr 
 IsSound-with_last host network number addr sound =
     by_test (λ (next : Host). IsSound next) (list_any (is_of_pool network number) host.lasts) _ _
     (λ there. IsSound-with_lasts host _ sound (record {
-      keys = distinct-map (λ a b. is_of_pool b.network b.set a) (moved_last network number addr) (same_pool-moved network number addr) host.lasts ∙ sound.lasts.keys;
+      keys =
+          distinct-map (λ a b. is_of_pool b.network b.set a) (moved_last network number addr)
+          (same_pool-moved network number addr) host.lasts ∙ sound.lasts.keys;
     }))
     (λ none. IsSound-with_lasts host _ sound (record {
-      keys = distinct-push (λ a b. is_of_pool b.network b.set a) host.lasts (record { network = network; set = number; addr = addr }) sound.lasts.keys none;
+      keys =
+          distinct-push (λ a b. is_of_pool b.network b.set a) host.lasts
+          (record { network = network; set = number; addr = addr }) sound.lasts.keys none;
     }))
 
 moves_only : (network : List ℕ) (number : ℕ) (addr : Addr) (l : Last)
-    → (moved_last network number addr l ≡ l) ⊎ ((is_of_pool network number l ≡ true) × (is_of_pool network number (moved_last network number addr l) ≡ true))
+    → (moved_last network number addr l ≡ l)
+    ⊎ ((is_of_pool network number l ≡ true) × (is_of_pool network number (moved_last network number addr l) ≡ true))
 moves_only network number addr l =
-    by_test (λ (m : Last). (m ≡ l) ⊎ ((is_of_pool network number l ≡ true) × (is_of_pool network number m ≡ true))) (is_of_pool network number l) _ _
+    by_test (λ (m : Last). (m ≡ l) ⊎ ((is_of_pool network number l ≡ true) × (is_of_pool network number m ≡ true)))
+    (is_of_pool network number l) _ _
     (λ own. inr (own, own)) (λ _. inl refl)
 
 pub pool_itself : (network : List ℕ) (number : ℕ) (addr : Addr)
@@ -64,9 +75,12 @@ pool_itself network number addr = grind (arith, nat_tests, nat_list_eq_equiv.ref
 pub ChangesOnly-with_last : (host : Host) (network : List ℕ) (number : ℕ) (addr : Addr)
     → ChangesOnly (is_of_pool network number) host.lasts (with_last host network number addr).lasts
 ChangesOnly-with_last host network number addr =
-    by_test (λ (next : Host). ChangesOnly (is_of_pool network number) host.lasts next.lasts) (list_any (is_of_pool network number) host.lasts) _ _
-    (λ there. ChangesOnly-map (is_of_pool network number) (moved_last network number addr) (moves_only network number addr) host.lasts)
-    (λ none. ChangesOnly-append (is_of_pool network number) host.lasts (record { network = network; set = number; addr = addr } ∷ []) (pool_itself network number addr))
+    by_test (λ (next : Host). ChangesOnly (is_of_pool network number) host.lasts next.lasts)
+    (list_any (is_of_pool network number) host.lasts) _ _
+    (λ there. ChangesOnly-map (is_of_pool network number) (moved_last network number addr)
+    (moves_only network number addr) host.lasts)
+    (λ none. ChangesOnly-append (is_of_pool network number) host.lasts
+    (record { network = network; set = number; addr = addr } ∷ []) (pool_itself network number addr))
 
 TouchesOwn-with_last : (att : Att) (old host : Host) (network : List ℕ) (number : ℕ) (addr : Addr)
     → TouchesOwn att old host → TouchesOwn att old (with_last host network number addr)
@@ -88,29 +102,48 @@ sound-lease_taken : (host : Host) (att : Att) (number : ℕ) (o : Option Addr)
     → IsSound (lease_taken host att number o).0
 sound-lease_taken host att number None free sound = sound
 sound-lease_taken host att number (Some addr) free sound =
-    IsSound-with_last (record host { leases = host.leases ++ record { network = att.network; addr = addr; tag = Own att } ∷ [] }) att.network number addr (IsSound-with_leases host _ sound (record {
-      keys = distinct-push (λ a b. bytes_eq a.network b.network && addr_eq a.addr b.addr) host.leases (record { network = att.network; addr = addr; tag = Own att }) sound.leases.keys (free-new host att.network addr (free addr refl));
-      tags = list_all-push (λ l. is_some (owner_in l.network l.tag)) host.leases (record { network = att.network; addr = addr; tag = Own att }) sound.leases.tags
+    IsSound-with_last
+    (record host { leases = host.leases ++ record { network = att.network; addr = addr; tag = Own att } ∷ [] })
+    att.network number addr (IsSound-with_leases host _ sound (record {
+      keys =
+          distinct-push (λ a b. bytes_eq a.network b.network && addr_eq a.addr b.addr) host.leases
+          (record { network = att.network; addr = addr; tag = Own att }) sound.leases.keys
+          (free-new host att.network addr (free addr refl));
+      tags =
+          list_all-push (λ l. is_some (owner_in l.network l.tag)) host.leases
+          (record { network = att.network; addr = addr; tag = Own att }) sound.leases.tags
           (ap (λ b. is_some (if b then Some att else None)) (nat_list_eq_equiv.refl att.network));
     }))
 
 pub IsSound-lease_next : (host : Host) (att : Att) (number : ℕ) (set : RangeSet) → IsSound host
     → IsSound (lease_next_of host att number set).0
 IsSound-lease_next host att number set sound =
-    sound-lease_taken host att number (pick_of set (last_leased host att.network number) (leased_addresses host att.network))
-    (λ addr found. passes-find (is_free (leased_addresses host att.network)) (after_last_first (last_leased host att.network number) (candidates_of set)) addr found) sound
+    sound-lease_taken host att number
+    (pick_of set (last_leased host att.network number) (leased_addresses host att.network))
+    (λ addr found. passes-find (is_free (leased_addresses host att.network))
+    (after_last_first (last_leased host att.network number) (candidates_of set)) addr found) sound
 
 touches-lease_taken : (host : Host) (att : Att) (number : ℕ) (o : Option Addr)
     → TouchesOwnAndLast att att.network number host (lease_taken host att number o).0
-touches-lease_taken host att number None = record { own = TouchesOwn-nothing att host; lasts = ChangesOnly-nothing (is_of_pool att.network number) host.lasts }
+touches-lease_taken host att number None =
+    record { own = TouchesOwn-nothing att host; lasts = ChangesOnly-nothing (is_of_pool att.network number) host.lasts }
 touches-lease_taken host att number (Some addr) =
     let own : is_own att (Own att) ≡ true = att_eq-refl att in
     record {
-      own = TouchesOwn-with_last att host (record host { leases = host.leases ++ record { network = att.network; addr = addr; tag = Own att } ∷ [] }) att.network number addr
-          (TouchesOwn-with_leases att host _ (ChangesOnly-append (λ l. is_own att l.tag) host.leases (record { network = att.network; addr = addr; tag = Own att } ∷ []) (grind (arith, own))));
-      lasts = ChangesOnly-with_last (record host { leases = host.leases ++ record { network = att.network; addr = addr; tag = Own att } ∷ [] }) att.network number addr;
+      own =
+          TouchesOwn-with_last att host
+          (record host { leases = host.leases ++ record { network = att.network; addr = addr; tag = Own att } ∷ [] })
+          att.network number addr
+          (TouchesOwn-with_leases att host _ (ChangesOnly-append (λ l. is_own att l.tag) host.leases
+          (record { network = att.network; addr = addr; tag = Own att } ∷ []) (grind (arith, own))));
+      lasts =
+          ChangesOnly-with_last
+          (record host { leases = host.leases ++ record { network = att.network; addr = addr; tag = Own att } ∷ [] })
+          att.network number addr;
     }
 
 pub TouchesOwnAndLast-lease_next : (host : Host) (att : Att) (number : ℕ) (set : RangeSet)
     → TouchesOwnAndLast att att.network number host (lease_next_of host att number set).0
-TouchesOwnAndLast-lease_next host att number set = touches-lease_taken host att number (pick_of set (last_leased host att.network number) (leased_addresses host att.network))
+TouchesOwnAndLast-lease_next host att number set =
+    touches-lease_taken host att number
+    (pick_of set (last_leased host att.network number) (leased_addresses host att.network))

@@ -44,37 +44,46 @@ link_fits_tag-alike a b (Own att) ns kind = rw (ns, kind) refl
 
 link_fits_tag-kept : (f : Link → Link) → KeepsPlaces f → (l : Link)
     → link_fits_tag (f l) (f l).tag ≡ link_fits_tag l l.tag
-link_fits_tag-kept f keeps l = ap (link_fits_tag (f l)) (keeps.tag l) ∙ link_fits_tag-alike (f l) l l.tag (keeps.ns l) (keeps.kind l)
+link_fits_tag-kept f keeps l =
+    ap (link_fits_tag (f l)) (keeps.tag l) ∙ link_fits_tag-alike (f l) l l.tag (keeps.ns l) (keeps.kind l)
 
 peers_back-kept : (f : Link → Link) → KeepsPlaces f → (l : Link) (key : LinkKey) (m : Link)
     → peers_back (f l) key (f m) ≡ peers_back l key m
-peers_back-kept f keeps l key m = rw (keeps.ns m, keeps.name m, keeps.peer m, keeps.tag m, keeps.ns l, keeps.name l, keeps.tag l) refl
+peers_back-kept f keeps l key m =
+    rw (keeps.ns m, keeps.name m, keeps.peer m, keeps.tag m, keeps.ns l, keeps.name l, keeps.tag l) refl
 
 peer_fits-alike : (f : Link → Link) → KeepsPlaces f → (links : List Link) (l : Link) (o : Option LinkKey)
     → peer_fits (map f links) (f l) o ≡ peer_fits links l o
 peer_fits-alike f keeps links l None = rw (keeps.kind l) refl
 peer_fits-alike f keeps links l (Some key) =
     let some : list_any (peers_back (f l) key) (map f links) ≡ list_any (peers_back l key) links =
-    list_any-map (peers_back (f l) key) f links ∙ list_any-same_test (λ m. peers_back (f l) key (f m)) (peers_back l key) (peers_back-kept f keeps l key) links in
-    ap (λ b. is_veth (f l).kind && b && not (is_host_ns (f l).ns && is_host_ns key.ns) && (is_host_ns (f l).ns || is_host_ns key.ns)) some ∙ rw (keeps.kind l, keeps.ns l) refl
+    list_any-map (peers_back (f l) key) f links
+    ∙ list_any-same_test (λ m. peers_back (f l) key (f m)) (peers_back l key) (peers_back-kept f keeps l key) links in
+    ap (λ b. is_veth (f l).kind && b && not (is_host_ns (f l).ns && is_host_ns key.ns)
+    && (is_host_ns (f l).ns || is_host_ns key.ns)) some ∙ rw (keeps.kind l, keeps.ns l) refl
 
 peer_fits-kept : (f : Link → Link) → KeepsPlaces f → (links : List Link) (l : Link)
     → peer_fits (map f links) (f l) (f l).peer ≡ peer_fits links l l.peer
-peer_fits-kept f keeps links l = ap (peer_fits (map f links) (f l)) (keeps.peer l) ∙ peer_fits-alike f keeps links l l.peer
+peer_fits-kept f keeps links l =
+    ap (peer_fits (map f links) (f l)) (keeps.peer l) ∙ peer_fits-alike f keeps links l l.peer
 
 address_fits_tag-kept : (f : Link → Link) → KeepsPlaces f → (links : List Link) (a : AddrObj) (t : Tag)
     → address_fits_tag (map f links) a t ≡ address_fits_tag links a t
 address_fits_tag-kept f keeps links a Outside = refl
 address_fits_tag-kept f keeps links a Base =
     ap (λ b. is_host_ns a.ns && b)
-    (list_any-map (is_host_bridge a.link) f links ∙ list_any-same_test (λ l. is_host_bridge a.link (f l)) (is_host_bridge a.link) (is_host_bridge-kept f keeps a.link) links)
+    (list_any-map (is_host_bridge a.link) f links ∙ list_any-same_test (λ l. is_host_bridge a.link (f l))
+    (is_host_bridge a.link) (is_host_bridge-kept f keeps a.link) links)
 address_fits_tag-kept f keeps links a (Own att) =
-    list_any-map (is_link_of a.ns a.link (Own att)) f links ∙ list_any-same_test (λ l. is_link_of a.ns a.link (Own att) (f l)) (is_link_of a.ns a.link (Own att)) (is_link_of-kept f keeps a.ns a.link (Own att)) links
+    list_any-map (is_link_of a.ns a.link (Own att)) f links
+    ∙ list_any-same_test (λ l. is_link_of a.ns a.link (Own att) (f l)) (is_link_of a.ns a.link (Own att))
+    (is_link_of-kept f keeps a.ns a.link (Own att)) links
 
 route_lies-kept : (f : Link → Link) → KeepsPlaces f → (links : List Link) (ns name : List ℕ) (t : Tag)
     → list_any (is_link_of ns name t) (map f links) ≡ list_any (is_link_of ns name t) links
 route_lies-kept f keeps links ns name t =
-    list_any-map (is_link_of ns name t) f links ∙ list_any-same_test (λ l. is_link_of ns name t (f l)) (is_link_of ns name t) (is_link_of-kept f keeps ns name t) links
+    list_any-map (is_link_of ns name t) f links ∙ list_any-same_test (λ l. is_link_of ns name t (f l))
+    (is_link_of ns name t) (is_link_of-kept f keeps ns name t) links
 
 -- ---- the host
 
@@ -85,19 +94,26 @@ IsSound-map_links f keeps host sound = record {
   links = record {
     keys = distinct-map (λ a b. is_at b.ns b.name a) f (same_place-kept f keeps) host.links ∙ sound.links.keys;
     tags = list_all-map (λ l. link_fits_tag l l.tag) f host.links
-        ∙ list_all-weaker (λ l. link_fits_tag l l.tag) (λ l. link_fits_tag (f l) (f l).tag) (λ l h. link_fits_tag-kept f keeps l ∙ h) host.links sound.links.tags;
+        ∙ list_all-weaker (λ l. link_fits_tag l l.tag) (λ l. link_fits_tag (f l) (f l).tag)
+        (λ l h. link_fits_tag-kept f keeps l ∙ h) host.links sound.links.tags;
     places = list_all-map (λ l. is_host_or_ns host.namespaces l.ns) f host.links
-        ∙ list_all-weaker (λ l. is_host_or_ns host.namespaces l.ns) (λ l. is_host_or_ns host.namespaces (f l).ns) (λ l h. ap (is_host_or_ns host.namespaces) (keeps.ns l) ∙ h) host.links sound.links.places;
+        ∙ list_all-weaker (λ l. is_host_or_ns host.namespaces l.ns) (λ l. is_host_or_ns host.namespaces (f l).ns)
+        (λ l h. ap (is_host_or_ns host.namespaces) (keeps.ns l) ∙ h) host.links sound.links.places;
     peers = list_all-map (λ l. peer_fits (map f host.links) l l.peer) f host.links
-        ∙ list_all-weaker (λ l. peer_fits host.links l l.peer) (λ l. peer_fits (map f host.links) (f l) (f l).peer) (λ l h. peer_fits-kept f keeps host.links l ∙ h) host.links sound.links.peers;
+        ∙ list_all-weaker (λ l. peer_fits host.links l l.peer) (λ l. peer_fits (map f host.links) (f l) (f l).peer)
+        (λ l h. peer_fits-kept f keeps host.links l ∙ h) host.links sound.links.peers;
   };
   addresses = record {
     keys = sound.addresses.keys;
-    on_links = list_all-weaker (λ a. address_fits_tag host.links a a.tag) (λ a. address_fits_tag (map f host.links) a a.tag) (λ a h. address_fits_tag-kept f keeps host.links a a.tag ∙ h) host.addresses sound.addresses.on_links;
+    on_links =
+        list_all-weaker (λ a. address_fits_tag host.links a a.tag) (λ a. address_fits_tag (map f host.links) a a.tag)
+        (λ a h. address_fits_tag-kept f keeps host.links a a.tag ∙ h) host.addresses sound.addresses.on_links;
   };
   routes = record {
     keys = sound.routes.keys;
-    on_links = list_all-weaker (λ r. list_any (is_link_of r.ns r.link r.tag) host.links) (λ r. list_any (is_link_of r.ns r.link r.tag) (map f host.links))
+    on_links =
+        list_all-weaker (λ r. list_any (is_link_of r.ns r.link r.tag) host.links)
+        (λ r. list_any (is_link_of r.ns r.link r.tag) (map f host.links))
         (λ r h. route_lies-kept f keeps host.links r.ns r.link r.tag ∙ h) host.routes sound.routes.on_links;
   };
   rules = sound.rules;
@@ -119,25 +135,30 @@ KeepsPlaces-set_link att key mac mtu tx_qlen promisc allmulti = record {
   tag = λ l. by_test (λ (m : Link). m.tag ≡ l.tag) (is_own_at att key l) _ _ (λ _. refl) (λ _. refl);
 }
 
-pub IsSound-link_set : (host : Host) (att : Att) (key : LinkKey) (mac : Option Mac) (mtu tx_qlen : Option ℕ) (promisc allmulti : Bool)
+pub IsSound-link_set : (host : Host) (att : Att) (key : LinkKey) (mac : Option Mac) (mtu tx_qlen : Option ℕ)
+    (promisc allmulti : Bool)
     → IsSound host → IsSound (link_set_of host att key mac mtu tx_qlen promisc allmulti).0
 IsSound-link_set host att key mac mtu tx_qlen promisc allmulti sound =
     by_test (λ (step : Host × Reply). IsSound step.0) (list_any (is_own_at att key) host.links) _ _
-    (λ _. IsSound-map_links (set_link att key mac mtu tx_qlen promisc allmulti) (KeepsPlaces-set_link att key mac mtu tx_qlen promisc allmulti) host sound)
+    (λ _. IsSound-map_links (set_link att key mac mtu tx_qlen promisc allmulti)
+    (KeepsPlaces-set_link att key mac mtu tx_qlen promisc allmulti) host sound)
     (λ _. sound)
 
 own_at : (att : Att) (key : LinkKey) (l : Link) → is_own_at att key l ≡ true → is_own att l.tag ≡ true
 own_at att key l h = grind (arith, h)
 
 sets_own : (att : Att) (key : LinkKey) (mac : Option Mac) (mtu tx_qlen : Option ℕ) (promisc allmulti : Bool) (l : Link)
-    → (set_link att key mac mtu tx_qlen promisc allmulti l ≡ l) ⊎ ((is_own att l.tag ≡ true) × (is_own att (set_link att key mac mtu tx_qlen promisc allmulti l).tag ≡ true))
+    → (set_link att key mac mtu tx_qlen promisc allmulti l ≡ l)
+    ⊎ ((is_own att l.tag ≡ true) × (is_own att (set_link att key mac mtu tx_qlen promisc allmulti l).tag ≡ true))
 sets_own att key mac mtu tx_qlen promisc allmulti l =
     by_test (λ (m : Link). (m ≡ l) ⊎ ((is_own att l.tag ≡ true) × (is_own att m.tag ≡ true))) (is_own_at att key l) _ _
     (λ own. inr (own_at att key l own, own_at att key l own)) (λ _. inl refl)
 
-pub TouchesOwnAlone-link_set : (host : Host) (att : Att) (key : LinkKey) (mac : Option Mac) (mtu tx_qlen : Option ℕ) (promisc allmulti : Bool)
+pub TouchesOwnAlone-link_set : (host : Host) (att : Att) (key : LinkKey) (mac : Option Mac) (mtu tx_qlen : Option ℕ)
+    (promisc allmulti : Bool)
     → TouchesOwnAlone att host (link_set_of host att key mac mtu tx_qlen promisc allmulti).0
 TouchesOwnAlone-link_set host att key mac mtu tx_qlen promisc allmulti =
     by_test (λ (step : Host × Reply). TouchesOwnAlone att host step.0) (list_any (is_own_at att key) host.links) _ _
-    (λ _. TouchesOwnAlone-with_links att host _ (ChangesOnly-map (λ l. is_own att l.tag) (set_link att key mac mtu tx_qlen promisc allmulti) (sets_own att key mac mtu tx_qlen promisc allmulti) host.links))
+    (λ _. TouchesOwnAlone-with_links att host _ (ChangesOnly-map (λ l. is_own att l.tag)
+    (set_link att key mac mtu tx_qlen promisc allmulti) (sets_own att key mac mtu tx_qlen promisc allmulti) host.links))
     (λ _. TouchesOwnAlone-nothing att host)

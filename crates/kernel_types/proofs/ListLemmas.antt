@@ -6,7 +6,9 @@ use Rattle.std.specs.Prelude.{if◌then◌else◌, nat_lt, position}
 pub use Rattle.std.proofs.lemmas.List.Folds.{list_all-map}
 use Rattle.std.proofs.lemmas.Option.{cond_some}
 use Rattle.cni_addr.specs.Lists.{distinct, without_first}
-pub use Rattle.cni_addr.proofs.Lists.{are_new, distinct-append, distinct-push, filter-push_dropped, list_all-append, list_all-push, list_any-append_left, list_any-append_none, list_any-append_right, list_any-map, list_any-same_test}
+pub use Rattle.cni_addr.proofs.Lists.{are_new, distinct-append, distinct-push, filter-push_dropped, list_all-append}
+pub use Rattle.cni_addr.proofs.Lists.{list_all-push, list_any-append_left, list_any-append_none, list_any-append_right}
+pub use Rattle.cni_addr.proofs.Lists.{list_any-map, list_any-same_test}
 pub use Rattle.ip_pool.proofs.InOrder.{list_all-filter, list_all-weaker, passes-find}
 use Rattle.ip_pool.proofs.Lists.{list_any-no_position}
 
@@ -21,7 +23,8 @@ pub remove-position_or_len : {X : Type 0} (p : X → Bool) (xs : List X) → lis
     → remove xs (position_or_len p xs) ≡ without_first p xs
 remove-position_or_len p [] h = grind arith
 remove-position_or_len p (x ∷ xs) h =
-    remove-step (p x) x xs (position_or_len p xs) (without_first p xs) (λ e. remove-position_or_len p xs (grind (arith, h, e)))
+    remove-step (p x) x xs (position_or_len p xs) (without_first p xs)
+    (λ e. remove-position_or_len p xs (grind (arith, h, e)))
 
 pub without_first-none : {X : Type 0} (p : X → Bool) (xs : List X) → list_any p xs ≡ false → without_first p xs ≡ xs
 without_first-none p [] h = refl
@@ -34,7 +37,8 @@ any-step false n l a h = grind (arith, nat_tests)
 list_any-position_or_len : {X : Type 0} (p : X → Bool) (xs : List X)
     → list_any p xs ≡ nat_lt (position_or_len p xs) (length xs)
 list_any-position_or_len p [] = refl
-list_any-position_or_len p (x ∷ xs) = any-step (p x) (position_or_len p xs) (length xs) (list_any p xs) (list_any-position_or_len p xs)
+list_any-position_or_len p (x ∷ xs) =
+    any-step (p x) (position_or_len p xs) (length xs) (list_any p xs) (list_any-position_or_len p xs)
 
 -- what `position` and `remove` make together
 pub without_first-position : {X : Type 0} (p : X → Bool) (xs : List X) (i : ℕ) → position p xs ≡ Some i
@@ -112,7 +116,8 @@ distinct-filter same keep (x ∷ xs) h = grind (arith, distinct-filter same keep
 pub distinct-without_first : {X : Type 0} (same : X → X → Bool) (gone : X → Bool) (xs : List X)
     → distinct same xs ≡ true → distinct same (without_first gone xs) ≡ true
 distinct-without_first same gone [] h = refl
-distinct-without_first same gone (x ∷ xs) h = grind (arith, distinct-without_first same gone xs, list_any-without_first (same x) gone xs)
+distinct-without_first same gone (x ∷ xs) h =
+    grind (arith, distinct-without_first same gone xs, list_any-without_first (same x) gone xs)
 
 -- ---- what `position` finds
 
@@ -126,7 +131,8 @@ find-position_or_len : {X : Type 0} (p : X → Bool) (xs : List X) (y : X) → l
     → y ≡ get_or xs (position_or_len p xs) y → find p xs ≡ Some y
 find-position_or_len p [] y h e = grind arith
 find-position_or_len p (x ∷ xs) y h e =
-    find-step (p x) x xs (position_or_len p xs) y (find p xs) e (λ no g. find-position_or_len p xs y (grind (arith, h, no)) g)
+    find-step (p x) x xs (position_or_len p xs) y (find p xs) e
+    (λ no g. find-position_or_len p xs y (grind (arith, h, no)) g)
 
 pub find-position : {X : Type 0} (p : X → Bool) (xs : List X) (i : ℕ) (y : X) → position p xs ≡ Some i
     → y ≡ get_or xs i y → find p xs ≡ Some y
@@ -162,7 +168,8 @@ pub distinct-map : {X : Type 0} (same : X → X → Bool) (f : X → X) → ((x 
     → (xs : List X) → distinct same (map f xs) ≡ distinct same xs
 distinct-map same f e [] = refl
 distinct-map same f e (x ∷ xs) =
-    let head : list_any (same (f x)) (map f xs) ≡ list_any (same x) xs = list_any-map (same (f x)) f xs ∙ list_any-same_test (λ y. same (f x) (f y)) (same x) (e x) xs in
+    let head : list_any (same (f x)) (map f xs) ≡ list_any (same x) xs =
+    list_any-map (same (f x)) f xs ∙ list_any-same_test (λ y. same (f x) (f y)) (same x) (e x) xs in
     grind (arith, head, distinct-map same f e xs)
 
 -- a test of what is left of a list, and then changed

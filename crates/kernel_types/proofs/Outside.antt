@@ -71,7 +71,8 @@ peer-veth links l (Some key) h s = grind (arith, h)
 
 by_loose : (links : List Link) (l : Link) (inner : Bool) → is_host_ns l.ns ≡ inner → link_fits_tag l l.tag ≡ true
     → peer_fits links l l.peer ≡ true → is_loose l ≡ true → may_go is_unshared l ≡ true
-by_loose links l false e t p loose = let unshared : is_unshared l.tag ≡ true = inner-unshared l l.tag t e in grind (arith, unshared, e)
+by_loose links l false e t p loose =
+    let unshared : is_unshared l.tag ≡ true = inner-unshared l l.tag t e in grind (arith, unshared, e)
 by_loose links l true e t p loose =
     let veth : is_veth l.kind ≡ true = peer-veth links l l.peer p (grind (arith, loose, e)) in
     let unshared : is_unshared l.tag ≡ true = veth-unshared l l.tag t veth in
@@ -81,20 +82,28 @@ by_loose links l true e t p loose =
 loose-may_go : (gone : Link → Bool) (host : Host) → IsSound host → ((l : Link) → gone l ≡ true → is_loose l ≡ true)
     → list_all (λ l. not (gone l) || may_go is_unshared l) host.links ≡ true
 loose-may_go gone host sound loose =
-    list_all-both (λ l. link_fits_tag l l.tag) (λ l. peer_fits host.links l l.peer) (λ l. not (gone l) || may_go is_unshared l)
-    (λ l t p. keeps_or_owns (gone l) (may_go is_unshared l) (λ g. by_loose host.links l (is_host_ns l.ns) refl t p (loose l g))) host.links sound.links.tags sound.links.peers
+    list_all-both (λ l. link_fits_tag l l.tag) (λ l. peer_fits host.links l l.peer)
+    (λ l. not (gone l) || may_go is_unshared l)
+    (λ l t p. keeps_or_owns (gone l) (may_go is_unshared l)
+    (λ g. by_loose host.links l (is_host_ns l.ns) refl t p (loose l g))) host.links sound.links.tags sound.links.peers
 
 pub RemovesUnshared-without_links : (gone : Link → Bool) (host : Host) → IsSound host
     → ((l : Link) → gone l ≡ true → is_loose l ≡ true) → RemovesUnshared host (without_links gone host)
 RemovesUnshared-without_links gone host sound loose =
-    let may : list_all (λ l. not (gone l) || may_go is_unshared l) host.links ≡ true = loose-may_go gone host sound loose in
+    let may : list_all (λ l. not (gone l) || may_go is_unshared l) host.links ≡ true =
+    loose-may_go gone host sound loose in
     record {
       namespaces = DropsOnly-nothing (λ n. is_unshared n.tag) host.namespaces;
       links = DropsOnly-filter (λ l. is_unshared l.tag) (λ l. not (gone l)) host.links
-          (list_all-weaker (λ l. not (gone l) || may_go is_unshared l) (λ l. not (gone l) || is_unshared l.tag) (λ l h. grind (arith, h)) host.links may);
-      addresses = DropsOnly-filter (λ a. is_unshared a.tag) (λ a. not (list_any (λ l. gone l && is_at a.ns a.link l) host.links)) host.addresses
+          (list_all-weaker (λ l. not (gone l) || may_go is_unshared l) (λ l. not (gone l) || is_unshared l.tag)
+          (λ l h. grind (arith, h)) host.links may);
+      addresses =
+          DropsOnly-filter (λ a. is_unshared a.tag)
+          (λ a. not (list_any (λ l. gone l && is_at a.ns a.link l) host.links)) host.addresses
           (addresses_gone is_unshared gone host.links host.addresses sound.links.keys may sound.addresses);
-      routes = DropsOnly-filter (λ r. is_unshared r.tag) (λ r. not (list_any (λ l. gone l && is_at r.ns r.link l) host.links)) host.routes
+      routes =
+          DropsOnly-filter (λ r. is_unshared r.tag)
+          (λ r. not (list_any (λ l. gone l && is_at r.ns r.link l) host.links)) host.routes
           (routes_gone is_unshared gone host.links host.routes sound.links.keys may sound.routes);
       rules = DropsOnly-nothing (λ r. is_unshared r.tag) host.rules;
       settings = DropsOnly-nothing (λ s. is_unshared s.tag) host.settings;
@@ -121,16 +130,19 @@ drops_found : (host : Host) (key : LinkKey) (o : Option Link) → is_host_ns key
 drops_found host key None inner f sound = RemovesUnshared-nothing host
 drops_found host key (Some found) inner f sound =
     RemovesUnshared-without_links (goes_with found.ns found.name) host sound
-    (goes_with-loose found.ns found.name (at-inner key.ns key.name found inner (passes-find (is_at key.ns key.name) host.links found f)))
+    (goes_with-loose found.ns found.name
+    (at-inner key.ns key.name found inner (passes-find (is_at key.ns key.name) host.links found f)))
 
 pub IsSound-drop_link : (host : Host) (key : LinkKey) → IsSound host → IsSound (drop_link_of host key).0
 IsSound-drop_link host key sound =
-    by_test (λ (step : Host × Reply). IsSound step.0) (has_named_ns host key.ns) _ _ (λ _. IsSound-without_link host (link_at host key.ns key.name) sound) (λ _. sound)
+    by_test (λ (step : Host × Reply). IsSound step.0) (has_named_ns host key.ns) _ _
+    (λ _. IsSound-without_link host (link_at host key.ns key.name) sound) (λ _. sound)
 
 pub RemovesUnshared-drop_link : (host : Host) (key : LinkKey) → is_host_ns key.ns ≡ false → IsSound host
     → RemovesUnshared host (drop_link_of host key).0
 RemovesUnshared-drop_link host key inner sound =
-    by_test (λ (step : Host × Reply). RemovesUnshared host step.0) (has_named_ns host key.ns) _ _ (λ _. drops_found host key (link_at host key.ns key.name) inner refl sound) (λ _. RemovesUnshared-nothing host)
+    by_test (λ (step : Host × Reply). RemovesUnshared host step.0) (has_named_ns host key.ns) _ _
+    (λ _. drops_found host key (link_at host key.ns key.name) inner refl sound) (λ _. RemovesUnshared-nothing host)
 
 -- ---- the rules of a table
 
@@ -147,7 +159,8 @@ RemovesUnshared-flush host table sound = record {
   addresses = DropsOnly-nothing (λ a. is_unshared a.tag) host.addresses;
   routes = DropsOnly-nothing (λ r. is_unshared r.tag) host.routes;
   rules = DropsOnly-filter (λ r. is_unshared r.tag) (λ r. not (table_eq r.table table)) host.rules
-      (list_all-weaker (λ r. is_owned r.tag) (λ r. not (table_eq r.table table) || is_unshared r.tag) (λ r h. grind (arith, owned-unshared r.tag h)) host.rules sound.rules.tags);
+      (list_all-weaker (λ r. is_owned r.tag) (λ r. not (table_eq r.table table) || is_unshared r.tag)
+      (λ r h. grind (arith, owned-unshared r.tag h)) host.rules sound.rules.tags);
   settings = DropsOnly-nothing (λ s. is_unshared s.tag) host.settings;
   leases = refl;
   cached = refl;

@@ -58,7 +58,8 @@ peer_fits-kept q links l (Some key) h stays =
     let gone : (q l.ns l.name || q key.ns key.name) ≡ false = grind (arith, stays) in
     let kept : list_any (peers_back l key) (filter (λ m. not (goes_by q m)) links) ≡ true =
     list_any-kept (peers_back l key) (λ m. not (goes_by q m)) links some
-    (none_by (λ m. peers_back l key m && not (not (goes_by q m))) (λ m. and_false (peers_back l key m) (goes_by q m) (λ a. peer_goes_alike q l key m a gone)) links) in
+    (none_by (λ m. peers_back l key m && not (not (goes_by q m)))
+    (λ m. and_false (peers_back l key m) (goes_by q m) (λ a. peer_goes_alike q l key m a gone)) links) in
     grind (arith, h, kept)
 
 pub AreLinks-without : (q : List ℕ → List ℕ → Bool) (namespaces : List NsObj) (links : List Link)
@@ -67,7 +68,9 @@ AreLinks-without q namespaces links sound = record {
   keys = distinct-filter (λ a b. is_at b.ns b.name a) (λ l. not (goes_by q l)) links sound.keys;
   tags = list_all-filter (λ l. link_fits_tag l l.tag) (λ l. not (goes_by q l)) links sound.tags;
   places = list_all-filter (λ l. is_host_or_ns namespaces l.ns) (λ l. not (goes_by q l)) links sound.places;
-  peers = list_all-kept (λ l. peer_fits links l l.peer) (λ l. peer_fits (filter (λ m. not (goes_by q m)) links) l l.peer) (λ l. not (goes_by q l)) (λ l h stays. peer_fits-kept q links l l.peer h stays) links sound.peers;
+  peers =
+      list_all-kept (λ l. peer_fits links l l.peer) (λ l. peer_fits (filter (λ m. not (goes_by q m)) links) l l.peer)
+      (λ l. not (goes_by q l)) (λ l h stays. peer_fits-kept q links l l.peer h stays) links sound.peers;
 }
 
 -- ---- what is on the links
@@ -78,7 +81,8 @@ on_kept : (gone p at : Link → Bool) (links : List Link) → ((l : Link) → p 
     → list_any p (filter (λ l. not (gone l)) links) ≡ true
 on_kept gone p at links w some stays =
     list_any-kept p (λ l. not (gone l)) links some
-    (list_any-none (λ l. p l && not (not (gone l))) (λ l. gone l && at l) (λ l h. grind (arith, h, w l)) links (grind (arith, stays)))
+    (list_any-none (λ l. p l && not (not (gone l))) (λ l. gone l && at l) (λ l h. grind (arith, h, w l)) links
+    (grind (arith, stays)))
 
 address_fits_tag-kept : (gone : Link → Bool) (links : List Link) (a : AddrObj) (t : Tag)
     → address_fits_tag links a t ≡ true → not (list_any (λ l. gone l && is_at a.ns a.link l) links) ≡ true
@@ -86,25 +90,42 @@ address_fits_tag-kept : (gone : Link → Bool) (links : List Link) (a : AddrObj)
 address_fits_tag-kept gone links a Outside h stays = h
 address_fits_tag-kept gone links a Base h stays =
     let lies = and_parts (is_host_ns a.ns) (list_any (is_host_bridge a.link) links) h in
-    let kept = on_kept gone (is_host_bridge a.link) (is_at a.ns a.link) links (λ l b. host_bridge-at a.ns a.link l lies.0 b) lies.1 stays in
+    let kept =
+    on_kept gone (is_host_bridge a.link) (is_at a.ns a.link) links (λ l b. host_bridge-at a.ns a.link l lies.0 b) lies.1
+    stays in
     grind (arith, h, kept)
 address_fits_tag-kept gone links a (Own att) h stays =
-    on_kept gone (is_link_of a.ns a.link (Own att)) (is_at a.ns a.link) links (λ l h. (and_parts (is_at a.ns a.link l) (tag_eq l.tag (Own att)) h).0) h stays
+    on_kept gone (is_link_of a.ns a.link (Own att)) (is_at a.ns a.link) links
+    (λ l h. (and_parts (is_at a.ns a.link l) (tag_eq l.tag (Own att)) h).0) h stays
 
 pub AreAddresses-without : (gone : Link → Bool) (links : List Link) (addresses : List AddrObj)
     → AreAddresses links addresses
-    → AreAddresses (filter (λ l. not (gone l)) links) (filter (λ a. not (list_any (λ l. gone l && is_at a.ns a.link l) links)) addresses)
+    → AreAddresses (filter (λ l. not (gone l)) links)
+    (filter (λ a. not (list_any (λ l. gone l && is_at a.ns a.link l) links)) addresses)
 AreAddresses-without gone links addresses sound = record {
-  keys = distinct-filter (λ a b. is_same_addr b a) (λ a. not (list_any (λ l. gone l && is_at a.ns a.link l) links)) addresses sound.keys;
-  on_links = list_all-kept (λ a. address_fits_tag links a a.tag) (λ a. address_fits_tag (filter (λ l. not (gone l)) links) a a.tag) (λ a. not (list_any (λ l. gone l && is_at a.ns a.link l) links)) (λ a h stays. address_fits_tag-kept gone links a a.tag h stays) addresses sound.on_links;
+  keys =
+      distinct-filter (λ a b. is_same_addr b a) (λ a. not (list_any (λ l. gone l && is_at a.ns a.link l) links))
+      addresses sound.keys;
+  on_links =
+      list_all-kept (λ a. address_fits_tag links a a.tag)
+      (λ a. address_fits_tag (filter (λ l. not (gone l)) links) a a.tag)
+      (λ a. not (list_any (λ l. gone l && is_at a.ns a.link l) links))
+      (λ a h stays. address_fits_tag-kept gone links a a.tag h stays) addresses sound.on_links;
 }
 
 pub AreRoutes-without : (gone : Link → Bool) (links : List Link) (routes : List RouteObj) → AreRoutes links routes
-    → AreRoutes (filter (λ l. not (gone l)) links) (filter (λ r. not (list_any (λ l. gone l && is_at r.ns r.link l) links)) routes)
+    → AreRoutes (filter (λ l. not (gone l)) links)
+    (filter (λ r. not (list_any (λ l. gone l && is_at r.ns r.link l) links)) routes)
 AreRoutes-without gone links routes sound = record {
-  keys = distinct-filter (λ a b. is_same_route b a) (λ r. not (list_any (λ l. gone l && is_at r.ns r.link l) links)) routes sound.keys;
-  on_links = list_all-kept (λ r. list_any (is_link_of r.ns r.link r.tag) links) (λ r. list_any (is_link_of r.ns r.link r.tag) (filter (λ l. not (gone l)) links)) (λ r. not (list_any (λ l. gone l && is_at r.ns r.link l) links))
-      (λ r h stays. on_kept gone (is_link_of r.ns r.link r.tag) (is_at r.ns r.link) links (λ l h. (and_parts (is_at r.ns r.link l) (tag_eq l.tag r.tag) h).0) h stays) routes sound.on_links;
+  keys =
+      distinct-filter (λ a b. is_same_route b a) (λ r. not (list_any (λ l. gone l && is_at r.ns r.link l) links)) routes
+      sound.keys;
+  on_links =
+      list_all-kept (λ r. list_any (is_link_of r.ns r.link r.tag) links)
+      (λ r. list_any (is_link_of r.ns r.link r.tag) (filter (λ l. not (gone l)) links))
+      (λ r. not (list_any (λ l. gone l && is_at r.ns r.link l) links))
+      (λ r h stays. on_kept gone (is_link_of r.ns r.link r.tag) (is_at r.ns r.link) links
+      (λ l h. (and_parts (is_at r.ns r.link l) (tag_eq l.tag r.tag) h).0) h stays) routes sound.on_links;
 }
 
 pub IsSound-without_links : (q : List ℕ → List ℕ → Bool) (host : Host) → IsSound host
@@ -123,7 +144,8 @@ IsSound-without_links q host sound = record {
 
 pub IsSound-without_link : (host : Host) (found : Option Link) → IsSound host → IsSound (without_link host found).0
 IsSound-without_link host None sound = sound
-IsSound-without_link host (Some link) sound = IsSound-without_links (λ a b. bytes_eq a link.ns && bytes_eq b link.name) host sound
+IsSound-without_link host (Some link) sound =
+    IsSound-without_links (λ a b. bytes_eq a link.ns && bytes_eq b link.name) host sound
 
 pub IsSound-link_del : (host : Host) (att : Att) → IsSound host → IsSound (link_del_of host att).0
 IsSound-link_del host att sound = IsSound-without_link host _ sound

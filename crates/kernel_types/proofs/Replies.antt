@@ -39,13 +39,16 @@ appended (Some t) host next = in_place host (Taken t) refl
 bridge_reply : (host : Host) (o : Option Link) (bridge : Link) → IsReplyOf host (bridge_or_new host o bridge)
 bridge_reply host None bridge = changed host _ Done refl refl
 bridge_reply host (Some link) bridge =
-    in_place host _ (by_test (λ (reply : Reply). is_fault reply ≡ false) (is_bridge link.kind) Done (Taken link.tag) (λ _. refl) (λ _. refl))
+    in_place host _ (by_test (λ (reply : Reply). is_fault reply ≡ false) (is_bridge link.kind) Done (Taken link.tag)
+    (λ _. refl) (λ _. refl))
 
 begin_reply : (host : Host) (att : Att) (netns : List ℕ)
-    → is_fault (if is_host_or_ns host.namespaces netns then (if has_objects host att then Taken (tags.Own att) else Done) else NoNs) ≡ false
+    → is_fault (if is_host_or_ns host.namespaces netns
+    then (if has_objects host att then Taken (tags.Own att) else Done) else NoNs) ≡ false
 begin_reply host att netns =
     by_test (λ (reply : Reply). is_fault reply ≡ false) (is_host_or_ns host.namespaces netns) _ NoNs
-    (λ _. by_test (λ (reply : Reply). is_fault reply ≡ false) (has_objects host att) (Taken (tags.Own att)) Done (λ _. refl) (λ _. refl))
+    (λ _. by_test (λ (reply : Reply). is_fault reply ≡ false) (has_objects host att) (Taken (tags.Own att)) Done
+    (λ _. refl) (λ _. refl))
     (λ _. refl)
 
 lease_reply : (host : Host) (att : Att) (number : ℕ) (o : Option Addr) → IsReplyOf host (lease_taken host att number o)
@@ -58,18 +61,22 @@ without_reply host (Some link) = changed host _ _ refl refl
 
 pub IsReplyOf-apply : (host : Host) (call : Call) → IsReplyOf host (apply.apply host call)
 IsReplyOf-apply host (Begin att netns) = in_place host _ (begin_reply host att netns)
-IsReplyOf-apply host (BridgeEnsure name mtu promisc) = bridge_reply host (find (is_host_link name) host.links) (new_bridge name mtu promisc)
+IsReplyOf-apply host (BridgeEnsure name mtu promisc) =
+    bridge_reply host (find (is_host_link name) host.links) (new_bridge name mtu promisc)
 IsReplyOf-apply host (GatewayEnsure bridge cidr) =
     by_test (IsReplyOf host) (has_host_bridge host bridge) _ _
     (λ _. by_test (IsReplyOf host) (list_any _ host.addresses) _ _
     (λ _. in_place host _ refl) (λ _. changed host _ _ refl refl))
     (λ _. in_place host _ refl)
 IsReplyOf-apply host (ForwardEnsure family) =
-    by_test (IsReplyOf host) (list_any _ host.settings) _ _ (λ _. in_place host _ refl) (λ _. changed host _ _ refl refl)
+    by_test (IsReplyOf host) (list_any _ host.settings) _ _ (λ _. in_place host _ refl)
+    (λ _. changed host _ _ refl refl)
 IsReplyOf-apply host (VethAdd host_end inner_end) =
     by_test (IsReplyOf host) (has_named_ns host inner_end.ns) _ _
     (λ _. by_test (IsReplyOf host) (master_is_bridge_or_none host host_end.master) _ _
-    (λ _. appended (option_map (λ l. l.tag) (option_or (link_at host inner_end.ns inner_end.name) (link_at host host_end.ns host_end.name))) host _) (λ _. in_place host _ refl))
+    (λ _. appended (option_map (λ l. l.tag)
+    (option_or (link_at host inner_end.ns inner_end.name) (link_at host host_end.ns host_end.name))) host _)
+    (λ _. in_place host _ refl))
     (λ _. in_place host _ refl)
 IsReplyOf-apply host (MacvlanAdd link) =
     by_test (IsReplyOf host) (has_named_ns host link.ns) _ _
@@ -77,21 +84,27 @@ IsReplyOf-apply host (MacvlanAdd link) =
     (λ _. appended (option_map (λ l. l.tag) (link_at host link.ns link.name)) host _) (λ _. in_place host _ refl))
     (λ _. in_place host _ refl)
 IsReplyOf-apply host (LinkSet att key mac mtu tx_qlen promisc allmulti) =
-    by_test (IsReplyOf host) (list_any (is_own_at att key) host.links) _ _ (λ _. changed host _ _ refl refl) (λ _. in_place host _ refl)
+    by_test (IsReplyOf host) (list_any (is_own_at att key) host.links) _ _ (λ _. changed host _ _ refl refl)
+    (λ _. in_place host _ refl)
 IsReplyOf-apply host (AddrAdd obj) =
     by_test (IsReplyOf host) (has_link_of host obj.ns obj.link obj.tag) _ _
-    (λ _. appended (option_map (λ a. a.tag) (find (is_same_addr obj) host.addresses)) host _) (λ _. in_place host _ refl)
+    (λ _. appended (option_map (λ a. a.tag) (find (is_same_addr obj) host.addresses)) host _)
+    (λ _. in_place host _ refl)
 IsReplyOf-apply host (RouteAdd obj) =
     by_test (IsReplyOf host) (has_link_of host obj.ns obj.link obj.tag) _ _
     (λ _. appended (option_map (λ r. r.tag) (find (is_same_route obj) host.routes)) host _) (λ _. in_place host _ refl)
 IsReplyOf-apply host (RuleAppend rule) =
-    by_test (IsReplyOf host) (list_any (λ r. rule_eq r rule) host.rules) _ _ (λ _. in_place host _ refl) (λ _. changed host _ _ refl refl)
+    by_test (IsReplyOf host) (list_any (λ r. rule_eq r rule) host.rules) _ _ (λ _. in_place host _ refl)
+    (λ _. changed host _ _ refl refl)
 IsReplyOf-apply host (SettingSet setting) =
     by_test (IsReplyOf host) (has_named_ns host setting.ns) _ _
-    (λ _. appended (option_map (λ s. s.tag) (find (is_same_setting setting) host.settings)) host _) (λ _. in_place host _ refl)
-IsReplyOf-apply host (LeaseNext att number set) = lease_reply host att number (pick_of set (last_leased host att.network number) (leased_addresses host att.network))
+    (λ _. appended (option_map (λ s. s.tag) (find (is_same_setting setting) host.settings)) host _)
+    (λ _. in_place host _ refl)
+IsReplyOf-apply host (LeaseNext att number set) =
+    lease_reply host att number (pick_of set (last_leased host att.network number) (leased_addresses host att.network))
 IsReplyOf-apply host (CachePut att cached) =
-    by_test (IsReplyOf host) (list_any (λ c. is_own att c.tag) host.cached) _ _ (λ _. in_place host _ refl) (λ _. changed host _ _ refl refl)
+    by_test (IsReplyOf host) (list_any (λ c. is_own att c.tag) host.cached) _ _ (λ _. in_place host _ refl)
+    (λ _. changed host _ _ refl refl)
 IsReplyOf-apply host (LinkDel att) = without_reply host (find (λ l. is_own att l.tag) host.links)
 IsReplyOf-apply host (RuleDel att) = changed host _ _ refl refl
 IsReplyOf-apply host (SettingDel att) = changed host _ _ refl refl
@@ -106,5 +119,6 @@ IsReplyOf-apply host (NsChange name true) =
 IsReplyOf-apply host (NsChange name false) =
     by_test (IsReplyOf host) (has_named_ns host name) _ _ (λ _. changed host _ _ refl refl) (λ _. in_place host _ refl)
 IsReplyOf-apply host (Outside (DropLink key)) =
-    by_test (IsReplyOf host) (has_named_ns host key.ns) _ _ (λ _. without_reply host (link_at host key.ns key.name)) (λ _. in_place host _ refl)
+    by_test (IsReplyOf host) (has_named_ns host key.ns) _ _ (λ _. without_reply host (link_at host key.ns key.name))
+    (λ _. in_place host _ refl)
 IsReplyOf-apply host (Outside (Flush table)) = changed host _ _ refl refl

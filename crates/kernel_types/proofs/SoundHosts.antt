@@ -23,7 +23,8 @@ place_of_link : (namespaces : List NsObj) (ns name : List ℕ) (p : Link → Boo
     → list_all (λ l. is_host_or_ns namespaces l.ns) links ≡ true → is_host_or_ns namespaces ns ≡ true
 place_of_link namespaces ns name p [] w h places = cc
 place_of_link namespaces ns name p (l ∷ ls) w h places =
-    let here : is_at ns name l ≡ true → is_host_or_ns namespaces l.ns ≡ is_host_or_ns namespaces ns = λ at. ap (is_host_or_ns namespaces) ((bytes_eq-Decides l.ns ns).0 (grind (arith, at))) in
+    let here : is_at ns name l ≡ true → is_host_or_ns namespaces l.ns ≡ is_host_or_ns namespaces ns =
+    λ at. ap (is_host_or_ns namespaces) ((bytes_eq-Decides l.ns ns).0 (grind (arith, at))) in
     grind (arith, h, places, w l, here, place_of_link namespaces ns name p ls w)
 
 place_of_address : (namespaces : List NsObj) (links : List Link)
@@ -43,10 +44,18 @@ place_of_setting namespaces s (Own att) h = h
 pub AreInPlaces-sound : (host : Host) → IsSound host → AreInPlaces host
 AreInPlaces-sound host sound = record {
   links = sound.links.places;
-  addresses = list_all-weaker (λ a. address_fits_tag host.links a a.tag) (λ a. is_host_or_ns host.namespaces a.ns) (λ a h. place_of_address host.namespaces host.links sound.links.places a a.tag h) host.addresses sound.addresses.on_links;
-  routes = list_all-weaker (λ r. list_any (is_link_of r.ns r.link r.tag) host.links) (λ r. is_host_or_ns host.namespaces r.ns)
-      (λ r h. place_of_link host.namespaces r.ns r.link (is_link_of r.ns r.link r.tag) host.links (λ l g. grind (arith, g)) h sound.links.places) host.routes sound.routes.on_links;
-  settings = list_all-weaker (λ s. setting_fits_tag host.namespaces s s.tag) (λ s. is_host_or_ns host.namespaces s.ns) (λ s h. place_of_setting host.namespaces s s.tag h) host.settings sound.settings.tags;
+  addresses =
+      list_all-weaker (λ a. address_fits_tag host.links a a.tag) (λ a. is_host_or_ns host.namespaces a.ns)
+      (λ a h. place_of_address host.namespaces host.links sound.links.places a a.tag h) host.addresses
+      sound.addresses.on_links;
+  routes =
+      list_all-weaker (λ r. list_any (is_link_of r.ns r.link r.tag) host.links)
+      (λ r. is_host_or_ns host.namespaces r.ns)
+      (λ r h. place_of_link host.namespaces r.ns r.link (is_link_of r.ns r.link r.tag) host.links
+      (λ l g. grind (arith, g)) h sound.links.places) host.routes sound.routes.on_links;
+  settings =
+      list_all-weaker (λ s. setting_fits_tag host.namespaces s s.tag) (λ s. is_host_or_ns host.namespaces s.ns)
+      (λ s h. place_of_setting host.namespaces s s.tag h) host.settings sound.settings.tags;
 }
 
 -- ---- namespaces
@@ -78,12 +87,19 @@ distinct-addresses : (network : List ℕ) (leases : List Lease)
     → distinct addr_eq (map (λ l. l.addr) (filter (λ l. bytes_eq l.network network) leases)) ≡ true
 distinct-addresses network [] h = refl
 distinct-addresses network (x ∷ xs) h =
-    let same_network : (l : Lease) → bytes_eq x.network network ≡ true → bytes_eq l.network network ≡ true → bytes_eq x.network l.network ≡ true =
-    λ l a b. let xn : x.network ≡ network = (bytes_eq-Decides x.network network).0 a in let ln : l.network ≡ network = (bytes_eq-Decides l.network network).0 b in rw (xn, ln) (nat_list_eq_equiv.refl network) in
-    let new : bytes_eq x.network network ≡ true → list_any (addr_eq x.addr) (map (λ l. l.addr) (filter (λ l. bytes_eq l.network network) xs)) ≡ false =
+    let same_network : (l : Lease) → bytes_eq x.network network ≡ true → bytes_eq l.network network ≡ true
+    → bytes_eq x.network l.network ≡ true =
+    λ l a b. let xn : x.network ≡ network = (bytes_eq-Decides x.network network).0 a in
+    let ln : l.network ≡ network = (bytes_eq-Decides l.network network).0 b in rw (xn, ln)
+    (nat_list_eq_equiv.refl network) in
+    let new : bytes_eq x.network network ≡ true
+    → list_any (addr_eq x.addr) (map (λ l. l.addr) (filter (λ l. bytes_eq l.network network) xs)) ≡ false =
     λ a. list_any-map_filter (addr_eq x.addr) (λ l. l.addr) (λ l. bytes_eq l.network network) xs
-    ∙ list_any-none (λ l. bytes_eq l.network network && addr_eq x.addr l.addr) (λ l. bytes_eq x.network l.network && addr_eq x.addr l.addr) (λ l g. grind (arith, g, same_network l a)) xs (grind (arith, h)) in
-    distinct-step (bytes_eq x.network network) x (filter (λ l. bytes_eq l.network network) xs) new (distinct-addresses network xs (grind (arith, h)))
+    ∙ list_any-none (λ l. bytes_eq l.network network && addr_eq x.addr l.addr)
+    (λ l. bytes_eq x.network l.network && addr_eq x.addr l.addr) (λ l g. grind (arith, g, same_network l a)) xs
+    (grind (arith, h)) in
+    distinct-step (bytes_eq x.network network) x (filter (λ l. bytes_eq l.network network) xs) new
+    (distinct-addresses network xs (grind (arith, h)))
 
 pub NoAddressTwice-sound : (network : List ℕ) (host : Host) → IsSound host → NoAddressTwice network host
 NoAddressTwice-sound network host sound = distinct-addresses network host.leases sound.leases.keys
@@ -117,10 +133,12 @@ one_among same s x y (z ∷ zs) d at_x at_y h =
     elim at_x [
       | inl ex ↦ elim at_y [
         | inl ey ↦ ex ∙ sym ey
-        | inr ly ↦ let differ : same z y ≡ false = among-fails (same z) y zs ly none in let alike : same z y ≡ true = ap (λ w. same w y) (sym ex) ∙ h in absurd (cc (differ, alike))
+        | inr ly ↦ let differ : same z y ≡ false = among-fails (same z) y zs ly none in
+            let alike : same z y ≡ true = ap (λ w. same w y) (sym ex) ∙ h in absurd (cc (differ, alike))
       ]
       | inr lx ↦ elim at_y [
-        | inl ey ↦ let differ : same z x ≡ false = among-fails (same z) x zs lx none in let alike : same z x ≡ true = ap (λ w. same w x) (sym ey) ∙ s y x ∙ h in absurd (cc (differ, alike))
+        | inl ey ↦ let differ : same z x ≡ false = among-fails (same z) x zs lx none in
+            let alike : same z x ≡ true = ap (λ w. same w x) (sym ey) ∙ s y x ∙ h in absurd (cc (differ, alike))
         | inr ly ↦ one_among same s x y zs (grind (arith, d)) lx ly h
       ]
     ]
@@ -155,8 +173,10 @@ pub goes_with-sound : (host : Host) (link other : Link) → IsSound host → Con
 goes_with-sound host link other sound link_there other_there =
     let at_link : IsAmong link host.links = IsAmong-Contains link host.links link_there in
     let at_other : IsAmong other host.links = IsAmong-Contains other host.links other_there in
-    let fits_link : peer_fits host.links link link.peer ≡ true = among-passes (λ l. peer_fits host.links l l.peer) link host.links at_link sound.links.peers in
-    let fits_other : peer_fits host.links other other.peer ≡ true = among-passes (λ l. peer_fits host.links l l.peer) other host.links at_other sound.links.peers in
+    let fits_link : peer_fits host.links link link.peer ≡ true =
+    among-passes (λ l. peer_fits host.links l l.peer) link host.links at_link sound.links.peers in
+    let fits_other : peer_fits host.links other other.peer ≡ true =
+    among-passes (λ l. peer_fits host.links l l.peer) other host.links at_other sound.links.peers in
     ap (λ b. is_at link.ns link.name other || b)
     (both_ways (is_peer_at link.ns link.name other.peer) (is_peer_at other.ns other.name link.peer)
     (peer_names_back host.links other link other.peer sound.links.keys at_link fits_other)
@@ -180,7 +200,8 @@ tag_on : (links : List Link) (link : Link) (ns name : List ℕ) (t : Tag)
     → distinct (λ a b. is_at b.ns b.name a) links ≡ true → IsAmong link links → is_at ns name link ≡ true
     → has_link_in links ns name t ≡ true → tag_eq link.tag t ≡ true
 tag_on links link ns name t keys among at lies =
-    let passes : is_link_of ns name t link ≡ true = passes_at (is_link_of ns name t) ns name link links (λ l h. grind (arith, h)) at keys among lies in
+    let passes : is_link_of ns name t link ≡ true =
+    passes_at (is_link_of ns name t) ns name link links (λ l h. grind (arith, h)) at keys among lies in
     grind (arith, passes)
 
 address_on : (links : List Link) (link : Link) (a : AddrObj) (t : Tag)
@@ -189,19 +210,30 @@ address_on : (links : List Link) (link : Link) (a : AddrObj) (t : Tag)
 address_on links link a Outside keys among at fits = cc
 address_on links link a Base keys among at fits =
     let on = and_parts (is_host_ns a.ns) (has_bridge_in links a.link) fits in
-    let bridge : is_host_bridge a.link link ≡ true = passes_at (is_host_bridge a.link) a.ns a.link link links (λ l b. host_bridge-at a.ns a.link l on.0 b) at keys among on.1 in
+    let bridge : is_host_bridge a.link link ≡ true =
+    passes_at (is_host_bridge a.link) a.ns a.link link links (λ l b. host_bridge-at a.ns a.link l on.0 b) at keys among
+    on.1 in
     grind (arith, bridge)
-address_on links link a (Own att) keys among at fits = grind (arith, tag_on links link a.ns a.link (Own att) keys among at fits)
+address_on links link a (Own att) keys among at fits =
+    grind (arith, tag_on links link a.ns a.link (Own att) keys among at fits)
 
 -- in a sound host what is on a link has its tag, or is shared and on a bridge of the host
 pub HasTagsOn-sound : (host : Host) (link : Link) → IsSound host → Contains host.links link → HasTagsOn link host
 HasTagsOn-sound host link sound there =
     let among : IsAmong link host.links = IsAmong-Contains link host.links there in
     record {
-      addresses = list_all-weaker (λ a. address_fits_tag host.links a a.tag) (λ a. not (is_at a.ns a.link link) || may_be_on link a.tag)
-          (λ a h. keeps_or_owns (is_at a.ns a.link link) (may_be_on link a.tag) (λ at. address_on host.links link a a.tag sound.links.keys among at h)) host.addresses sound.addresses.on_links;
-      routes = list_all-weaker (λ r. has_link_in host.links r.ns r.link r.tag) (λ r. not (is_at r.ns r.link link) || tag_eq link.tag r.tag)
-          (λ r h. keeps_or_owns (is_at r.ns r.link link) (tag_eq link.tag r.tag) (λ at. tag_on host.links link r.ns r.link r.tag sound.links.keys among at h)) host.routes sound.routes.on_links;
+      addresses =
+          list_all-weaker (λ a. address_fits_tag host.links a a.tag)
+          (λ a. not (is_at a.ns a.link link) || may_be_on link a.tag)
+          (λ a h. keeps_or_owns (is_at a.ns a.link link) (may_be_on link a.tag)
+          (λ at. address_on host.links link a a.tag sound.links.keys among at h)) host.addresses
+          sound.addresses.on_links;
+      routes =
+          list_all-weaker (λ r. has_link_in host.links r.ns r.link r.tag)
+          (λ r. not (is_at r.ns r.link link) || tag_eq link.tag r.tag)
+          (λ r h. keeps_or_owns (is_at r.ns r.link link) (tag_eq link.tag r.tag)
+          (λ at. tag_on host.links link r.ns r.link r.tag sound.links.keys among at h)) host.routes
+          sound.routes.on_links;
     }
 
 -- ---- what goes with a namespace
@@ -222,18 +254,22 @@ peer_there : (links : List Link) (name : List ℕ) (other : Link) (o : Option Li
 peer_there links name other None fits h = cc
 peer_there links name other (Some key) fits h =
     let same : key.ns ≡ name = (bytes_eq-Decides key.ns name).0 h in
-    list_any-weaker (peers_back other key) (is_peer_from name other) (λ l back. rw (← same) (grind (arith, back))) links (grind (arith, fits))
+    list_any-weaker (peers_back other key) (is_peer_from name other) (λ l back. rw (← same) (grind (arith, back))) links
+    (grind (arith, fits))
 
 -- in a sound host a link goes with a namespace exactly where it is in it, or is the peer of a link that is
 pub goes_with_ns-sound : (host : Host) (name : List ℕ) (other : Link) → IsSound host → Contains host.links other
     → goes_with_ns name other ≡ is_in_ns_or_peer name host.links other
 goes_with_ns-sound host name other sound other_there =
     let at_other : IsAmong other host.links = IsAmong-Contains other host.links other_there in
-    let fits_other : peer_fits host.links other other.peer ≡ true = among-passes (λ l. peer_fits host.links l l.peer) other host.links at_other sound.links.peers in
+    let fits_other : peer_fits host.links other other.peer ≡ true =
+    among-passes (λ l. peer_fits host.links l l.peer) other host.links at_other sound.links.peers in
     ap (λ b. bytes_eq other.ns name || b)
     (both_ways (has_peer_in name other.peer) (list_any (is_peer_from name other) host.links)
     (peer_there host.links name other other.peer fits_other)
     (from_among (is_peer_from name other) (has_peer_in name other.peer) host.links
     (λ l at_link from.
-    let fits_link : peer_fits host.links l l.peer ≡ true = among-passes (λ l. peer_fits host.links l l.peer) l host.links at_link sound.links.peers in
-    peer_in_its_ns l.ns l.name name other.peer (grind (arith, from)) (peer_names_back host.links l other l.peer sound.links.keys at_other fits_link (grind (arith, from))))))
+    let fits_link : peer_fits host.links l l.peer ≡ true =
+    among-passes (λ l. peer_fits host.links l l.peer) l host.links at_link sound.links.peers in
+    peer_in_its_ns l.ns l.name name other.peer (grind (arith, from))
+    (peer_names_back host.links l other l.peer sound.links.keys at_other fits_link (grind (arith, from))))))

@@ -12,7 +12,8 @@ distinct-names : (names : List (List ℕ))
     → distinct (λ a b. bytes_eq a.name b.name) (map outside_namespace names) ≡ distinct bytes_eq names
 distinct-names [] = refl
 distinct-names (x ∷ xs) =
-    let head : list_any (λ n. bytes_eq x n.name) (map outside_namespace xs) ≡ list_any (bytes_eq x) xs = list_any-map (λ n. bytes_eq x n.name) outside_namespace xs in
+    let head : list_any (λ n. bytes_eq x n.name) (map outside_namespace xs) ≡ list_any (bytes_eq x) xs =
+    list_any-map (λ n. bytes_eq x n.name) outside_namespace xs in
     grind (arith, head, distinct-names xs)
 
 all_outside : (names : List (List ℕ)) → list_all (λ n. tag_eq n.tag Outside) (map outside_namespace names) ≡ true
@@ -39,9 +40,13 @@ IsSound-opening_with names links good outside = record {
   };
   links = record {
     keys = outside.keys;
-    tags = list_all-weaker is_outside_link (λ l. link_fits_tag l l.tag) (λ l h. shared-fits l l.tag (grind (arith, h)) (grind (arith, h))) links outside.outside;
+    tags =
+        list_all-weaker is_outside_link (λ l. link_fits_tag l l.tag)
+        (λ l h. shared-fits l l.tag (grind (arith, h)) (grind (arith, h))) links outside.outside;
     places = outside.places;
-    peers = list_all-weaker is_outside_link (λ l. peer_fits links l l.peer) (λ l h. shared-alone links l l.peer (grind (arith, h)) (grind (arith, h))) links outside.outside;
+    peers =
+        list_all-weaker is_outside_link (λ l. peer_fits links l l.peer)
+        (λ l h. shared-alone links l l.peer (grind (arith, h)) (grind (arith, h))) links outside.outside;
   };
   addresses = record { keys = refl; on_links = refl };
   routes = record { keys = refl; on_links = refl };

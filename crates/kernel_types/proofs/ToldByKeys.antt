@@ -17,7 +17,8 @@ same_addr_key k l = bytes_eq k.ns l.ns && bytes_eq k.link l.link && addr_eq k.ad
 addr_key-itself : (k : AddrKey) → same_addr_key k k ≡ true
 addr_key-itself k =
     both (bytes_eq k.ns k.ns && bytes_eq k.link k.link) (addr_eq k.addr k.addr)
-    (both (bytes_eq k.ns k.ns) (bytes_eq k.link k.link) ((bytes_eq-Decides k.ns k.ns).1 refl) ((bytes_eq-Decides k.link k.link).1 refl))
+    (both (bytes_eq k.ns k.ns) (bytes_eq k.link k.link) ((bytes_eq-Decides k.ns k.ns).1 refl)
+    ((bytes_eq-Decides k.link k.link).1 refl))
     (addr_eq-itself k.addr)
 
 addr_key-equal : (k l : AddrKey) → same_addr_key k l ≡ true → k ≡ l
@@ -40,12 +41,15 @@ abbrev same_route_key : RouteKey → RouteKey → Bool
 same_route_key k l = bytes_eq k.ns l.ns && cidr_eq k.dst l.dst && bytes_eq k.link l.link
 
 cidr-itself : (c : Cidr) → cidr_eq c c ≡ true
-cidr-itself c = both (addr_eq c.addr c.addr) (c.prefix == c.prefix) (addr_eq-itself c.addr) ((unsigned_Decides c.prefix c.prefix).1 refl)
+cidr-itself c =
+    both (addr_eq c.addr c.addr) (c.prefix == c.prefix) (addr_eq-itself c.addr)
+    ((unsigned_Decides c.prefix c.prefix).1 refl)
 
 cidr-equal : (c d : Cidr) → cidr_eq c d ≡ true → c ≡ d
 cidr-equal c d same =
     let parts = and_parts (addr_eq c.addr d.addr) (c.prefix == d.prefix) same in
-    λ i. record { addr = same-address c.addr d.addr parts.0 i; prefix = (unsigned_Decides c.prefix d.prefix).0 parts.1 i }
+    λ i.
+    record { addr = same-address c.addr d.addr parts.0 i; prefix = (unsigned_Decides c.prefix d.prefix).0 parts.1 i }
 
 route_key-itself : (k : RouteKey) → same_route_key k k ≡ true
 route_key-itself k =
@@ -74,7 +78,8 @@ same_setting_key k l = bytes_eq k.ns l.ns && bytes_eq k.key l.key
 
 setting_key-itself : (k : SettingKey) → same_setting_key k k ≡ true
 setting_key-itself k =
-    both (bytes_eq k.ns k.ns) (bytes_eq k.key k.key) ((bytes_eq-Decides k.ns k.ns).1 refl) ((bytes_eq-Decides k.key k.key).1 refl)
+    both (bytes_eq k.ns k.ns) (bytes_eq k.key k.key) ((bytes_eq-Decides k.ns k.ns).1 refl)
+    ((bytes_eq-Decides k.key k.key).1 refl)
 
 setting_key-equal : (k l : SettingKey) → same_setting_key k l ≡ true → k ≡ l
 setting_key-equal k l same =

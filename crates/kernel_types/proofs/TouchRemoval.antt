@@ -38,7 +38,8 @@ same-found {X} same p s (x ∷ xs) y d f =
     by_bool (p x)
     (λ t. let e : x ≡ y = same_Some x y (rw t at f) in
     let P : X → Type 0 = λ v. list_all (λ z. not (same z v) || p z) xs ≡ true in
-    let tail : list_all (λ z. not (same z y) || p z) xs ≡ true = subst P e (none_same same p s x xs (grind (arith, d))) in
+    let tail : list_all (λ z. not (same z y) || p z) xs ≡ true =
+    subst P e (none_same same p s x xs (grind (arith, d))) in
     grind (arith, t, tail))
     (λ n. let later : find p xs ≡ Some y = rw n at f in
     let tail : list_all (λ z. not (same z y) || p z) xs ≡ true = same-found same p s xs y (grind (arith, d)) later in
@@ -59,12 +60,15 @@ from_one p q c w (x ∷ xs) h g = grind (arith, w x, from_one p q c w xs)
 -- two that pass at one place are one
 both_at : {X : Type 0} (same : X → X → Bool) (p q at : X → Bool) → ((x : X) → p x ≡ true → at x ≡ true)
     → ((x : X) → q x ≡ true → at x ≡ true) → ((x y : X) → at x ≡ true → at y ≡ true → same x y ≡ true)
-    → (xs : List X) → distinct same xs ≡ true → list_any p xs ≡ true → list_any q xs ≡ true → list_any (λ x. p x && q x) xs ≡ true
+    → (xs : List X) → distinct same xs ≡ true → list_any p xs ≡ true → list_any q xs ≡ true
+    → list_any (λ x. p x && q x) xs ≡ true
 both_at same p q at wp wq one [] d h g = cc
 both_at same p q at wp wq one (x ∷ xs) d h g =
     let later = both_at same p q at wp wq one xs in
-    let p_here : p x ≡ true → list_any q xs ≡ true → list_any (same x) xs ≡ true = λ px qs. list_any-weaker q (same x) (λ y qy. one x y (wp x px) (wq y qy)) xs qs in
-    let q_here : q x ≡ true → list_any p xs ≡ true → list_any (same x) xs ≡ true = λ qx ps. list_any-weaker p (same x) (λ y py. one x y (wq x qx) (wp y py)) xs ps in
+    let p_here : p x ≡ true → list_any q xs ≡ true → list_any (same x) xs ≡ true =
+    λ px qs. list_any-weaker q (same x) (λ y qy. one x y (wp x px) (wq y qy)) xs qs in
+    let q_here : q x ≡ true → list_any p xs ≡ true → list_any (same x) xs ≡ true =
+    λ qx ps. list_any-weaker p (same x) (λ y py. one x y (wq x qx) (wp y py)) xs ps in
     grind (arith, d, h, g, later, p_here, q_here)
 
 -- ---- tags and places
@@ -92,51 +96,68 @@ may_go mine l = mine l.tag && not (is_host_ns l.ns && is_bridge l.kind)
 -- an object whose link with its tag goes has such a tag
 on_gone : (mine : Tag → Bool) → (gone : Link → Bool) (links : List Link) (ns name : List ℕ) (t : Tag)
     → distinct (λ a b. is_at b.ns b.name a) links ≡ true → list_all (λ m. not (gone m) || may_go mine m) links ≡ true
-    → list_any (is_link_of ns name t) links ≡ true → list_any (λ l. gone l && is_at ns name l) links ≡ true → mine t ≡ true
+    → list_any (is_link_of ns name t) links ≡ true → list_any (λ l. gone l && is_at ns name l) links ≡ true
+    → mine t ≡ true
 on_gone mine gone links ns name t keys may lies goes =
     from_one (λ x. is_link_of ns name t x && (gone x && is_at ns name x)) (λ m. not (gone m) || may_go mine m) (mine t)
-    (λ x a w. let same : mine x.tag ≡ mine t = ap mine (tag_eq-same x.tag t (grind (arith, a))) in grind (arith, a, w, same))
+    (λ x a w.
+    let same : mine x.tag ≡ mine t = ap mine (tag_eq-same x.tag t (grind (arith, a))) in grind (arith, a, w, same))
     links
-    (both_at (λ a b. is_at b.ns b.name a) (is_link_of ns name t) (λ l. gone l && is_at ns name l) (is_at ns name) (λ x h. (and_parts (is_at ns name x) (tag_eq x.tag t) h).0) (λ x h. (and_parts (gone x) (is_at ns name x) h).1) (one_place ns name) links keys lies goes)
+    (both_at (λ a b. is_at b.ns b.name a) (is_link_of ns name t) (λ l. gone l && is_at ns name l) (is_at ns name)
+    (λ x h. (and_parts (is_at ns name x) (tag_eq x.tag t) h).0) (λ x h. (and_parts (gone x) (is_at ns name x) h).1)
+    (one_place ns name) links keys lies goes)
     may
 
 address_gone : (mine : Tag → Bool) → (gone : Link → Bool) (links : List Link)
     → distinct (λ a b. is_at b.ns b.name a) links ≡ true → list_all (λ m. not (gone m) || may_go mine m) links ≡ true
-    → (a : AddrObj) (t : Tag) → address_fits_tag links a t ≡ true → list_any (λ l. gone l && is_at a.ns a.link l) links ≡ true → mine t ≡ true
+    → (a : AddrObj) (t : Tag) → address_fits_tag links a t ≡ true
+    → list_any (λ l. gone l && is_at a.ns a.link l) links ≡ true → mine t ≡ true
 address_gone mine gone links keys may a Outside lies goes = cc
 address_gone mine gone links keys may a Base lies goes =
     let on = and_parts (is_host_ns a.ns) (list_any (is_host_bridge a.link) links) lies in
-    from_one (λ x. is_host_bridge a.link x && (gone x && is_at a.ns a.link x)) (λ m. not (gone m) || may_go mine m) (mine Base)
+    from_one (λ x. is_host_bridge a.link x && (gone x && is_at a.ns a.link x)) (λ m. not (gone m) || may_go mine m)
+    (mine Base)
     (λ x h w. grind (arith, h, w))
     links
-    (both_at (λ x y. is_at y.ns y.name x) (is_host_bridge a.link) (λ l. gone l && is_at a.ns a.link l) (is_at a.ns a.link) (λ x b. host_bridge-at a.ns a.link x on.0 b) (λ x h. (and_parts (gone x) (is_at a.ns a.link x) h).1) (one_place a.ns a.link) links keys on.1 goes)
+    (both_at (λ x y. is_at y.ns y.name x) (is_host_bridge a.link) (λ l. gone l && is_at a.ns a.link l)
+    (is_at a.ns a.link) (λ x b. host_bridge-at a.ns a.link x on.0 b)
+    (λ x h. (and_parts (gone x) (is_at a.ns a.link x) h).1) (one_place a.ns a.link) links keys on.1 goes)
     may
-address_gone mine gone links keys may a (Own b) lies goes = on_gone mine gone links a.ns a.link (Own b) keys may lies goes
+address_gone mine gone links keys may a (Own b) lies goes =
+    on_gone mine gone links a.ns a.link (Own b) keys may lies goes
 
 pub addresses_gone : (mine : Tag → Bool) → (gone : Link → Bool) (links : List Link) (addresses : List AddrObj)
     → distinct (λ a b. is_at b.ns b.name a) links ≡ true → list_all (λ m. not (gone m) || may_go mine m) links ≡ true
-    → AreAddresses links addresses → list_all (λ a. not (list_any (λ l. gone l && is_at a.ns a.link l) links) || mine a.tag) addresses ≡ true
+    → AreAddresses links addresses
+    → list_all (λ a. not (list_any (λ l. gone l && is_at a.ns a.link l) links) || mine a.tag) addresses ≡ true
 addresses_gone mine gone links addresses keys may sound =
-    list_all-weaker (λ a. address_fits_tag links a a.tag) (λ a. not (list_any (λ l. gone l && is_at a.ns a.link l) links) || mine a.tag)
-    (λ a h. keeps_or_owns (list_any (λ l. gone l && is_at a.ns a.link l) links) (mine a.tag) (address_gone mine gone links keys may a a.tag h)) addresses sound.on_links
+    list_all-weaker (λ a. address_fits_tag links a a.tag)
+    (λ a. not (list_any (λ l. gone l && is_at a.ns a.link l) links) || mine a.tag)
+    (λ a h. keeps_or_owns (list_any (λ l. gone l && is_at a.ns a.link l) links) (mine a.tag)
+    (address_gone mine gone links keys may a a.tag h)) addresses sound.on_links
 
 pub routes_gone : (mine : Tag → Bool) → (gone : Link → Bool) (links : List Link) (routes : List RouteObj)
     → distinct (λ a b. is_at b.ns b.name a) links ≡ true → list_all (λ m. not (gone m) || may_go mine m) links ≡ true
-    → AreRoutes links routes → list_all (λ r. not (list_any (λ l. gone l && is_at r.ns r.link l) links) || mine r.tag) routes ≡ true
+    → AreRoutes links routes
+    → list_all (λ r. not (list_any (λ l. gone l && is_at r.ns r.link l) links) || mine r.tag) routes ≡ true
 routes_gone mine gone links routes keys may sound =
-    list_all-weaker (λ r. list_any (is_link_of r.ns r.link r.tag) links) (λ r. not (list_any (λ l. gone l && is_at r.ns r.link l) links) || mine r.tag)
-    (λ r h. keeps_or_owns (list_any (λ l. gone l && is_at r.ns r.link l) links) (mine r.tag) (on_gone mine gone links r.ns r.link r.tag keys may h)) routes sound.on_links
+    list_all-weaker (λ r. list_any (is_link_of r.ns r.link r.tag) links)
+    (λ r. not (list_any (λ l. gone l && is_at r.ns r.link l) links) || mine r.tag)
+    (λ r h. keeps_or_owns (list_any (λ l. gone l && is_at r.ns r.link l) links) (mine r.tag)
+    (on_gone mine gone links r.ns r.link r.tag keys may h)) routes sound.on_links
 
 -- ---- the links that go with one of an attachment
 
 -- a link whose peer stands where only the attachment's do is the attachment's
 peer_owned : (att : Att) (found : Link) (links : List Link)
     → list_all (λ z. not (is_at found.ns found.name z) || is_own att z.tag) links ≡ true
-    → (m : Link) (o : Option LinkKey) → peer_fits links m o ≡ true → is_peer_at found.ns found.name o ≡ true → is_own att m.tag ≡ true
+    → (m : Link) (o : Option LinkKey) → peer_fits links m o ≡ true → is_peer_at found.ns found.name o ≡ true
+    → is_own att m.tag ≡ true
 peer_owned att found links owned m None h p = cc
 peer_owned att found links owned m (Some key) h p =
     from_one (peers_back m key) (λ z. not (is_at found.ns found.name z) || is_own att z.tag) (is_own att m.tag)
-    (λ x a w. let at = same_place key.ns key.name found.ns found.name (λ m n. is_at m n x) p in grind (arith, a, w, at, is_own-tag_eq att x.tag m.tag))
+    (λ x a w. let at = same_place key.ns key.name found.ns found.name (λ m n. is_at m n x) p in
+    grind (arith, a, w, at, is_own-tag_eq att x.tag m.tag))
     links (grind (arith, h)) owned
 
 pub owned_no_bridge : (ns : List ℕ) (k : LinkKind) → is_owned_kind ns k ≡ true → is_bridge k ≡ false
@@ -160,12 +181,15 @@ pub gone_owned : (att : Att) (host : Host) (found : Link) → IsSound host
 gone_owned att host found sound f =
     let owned : list_all (λ z. not (is_at found.ns found.name z) || is_own att z.tag) host.links ≡ true =
     same-found (λ a b. is_at b.ns b.name a) (λ l. is_own att l.tag) is_at-symm host.links found sound.links.keys f in
-    list_all-both (λ m. peer_fits host.links m m.peer) (λ z. not (is_at found.ns found.name z) || is_own att z.tag) (λ m. not (goes_with found.ns found.name m) || is_own att m.tag)
+    list_all-both (λ m. peer_fits host.links m m.peer) (λ z. not (is_at found.ns found.name z) || is_own att z.tag)
+    (λ m. not (goes_with found.ns found.name m) || is_own att m.tag)
     (λ m h w. grind (arith, w, h, peer_owned att found host.links owned m m.peer h)) host.links sound.links.peers owned
 
 pub gone_may_go : (att : Att) (host : Host) (found : Link) → IsSound host
     → find (λ l. is_own att l.tag) host.links ≡ Some found
     → list_all (λ m. not (goes_with found.ns found.name m) || may_go (is_own att) m) host.links ≡ true
 gone_may_go att host found sound f =
-    list_all-both (λ m. not (goes_with found.ns found.name m) || is_own att m.tag) (λ m. link_fits_tag m m.tag) (λ m. not (goes_with found.ns found.name m) || may_go (is_own att) m)
-    (λ m w h. grind (arith, w, own_no_bridge att m m.tag, h)) host.links (gone_owned att host found sound f) sound.links.tags
+    list_all-both (λ m. not (goes_with found.ns found.name m) || is_own att m.tag) (λ m. link_fits_tag m m.tag)
+    (λ m. not (goes_with found.ns found.name m) || may_go (is_own att) m)
+    (λ m w h. grind (arith, w, own_no_bridge att m m.tag, h)) host.links
+    (gone_owned att host found sound f) sound.links.tags

@@ -9,11 +9,14 @@ ghost use Rattle.ip_pool.specs.NextAddress.{is_candidate, is_taken, IsExhausted,
 ghost use Rattle.kernel_types.specs.Allowed.{IsAllowed};
 ghost use Rattle.kernel_types.specs.Apply.{apply};
 ghost use Rattle.kernel_types.specs.Apply.Calls.{goes_with, goes_with_ns, lease_next_of};
-ghost use Rattle.kernel_types.specs.Isolation.{deletes_for, ensures_shared, is_from_outside, KeepsPart, KeepsUnowned, names_att, RemovesOwn};
-ghost use Rattle.kernel_types.specs.Keys.{TellsKeys, addr_key, is_same_addr, is_same_route, is_same_setting, route_key, setting_key};
+ghost use Rattle.kernel_types.specs.Isolation.{deletes_for, ensures_shared, is_from_outside, KeepsPart, KeepsUnowned};
+ghost use Rattle.kernel_types.specs.Isolation.{names_att, RemovesOwn};
+ghost use Rattle.kernel_types.specs.Keys.{TellsKeys, addr_key, is_same_addr, is_same_route, is_same_setting, route_key};
+ghost use Rattle.kernel_types.specs.Keys.{setting_key};
 ghost use Rattle.kernel_types.specs.Opening.{opening_with, AreNamespaceNames, AreOutsideLinks};
 ghost use Rattle.kernel_types.specs.Replies.{is_fault, holds_text_or_list};
-ghost use Rattle.kernel_types.specs.Sound.{AreInPlaces, HasTagsOn, IsSound, is_in_ns_or_peer, is_link_or_peer, NoAddressTwice, NoNamespaceOwned};
+ghost use Rattle.kernel_types.specs.Sound.{AreInPlaces, HasTagsOn, IsSound, is_in_ns_or_peer, is_link_or_peer};
+ghost use Rattle.kernel_types.specs.Sound.{NoAddressTwice, NoNamespaceOwned};
 ghost use Rattle.kernel_types.specs.Touch.{Touches};
 ghost use Rattle.kernel_types.specs.Terms.{last_leased, leased_addresses};
 

@@ -6,7 +6,8 @@ ghost use Rattle.std.specs.Option.{option_copied};
 ghost use Rattle.kernel_types.specs.Apply.Calls.{goes_with, goes_with_ns, has_peer_in};
 ghost use Rattle.kernel_types.specs.Keys.{is_same_addr, is_same_route, is_same_setting};
 ghost use Rattle.kernel_types.specs.Replies.{needs_no_memory};
-ghost use Rattle.kernel_types.specs.Terms.{fits_master, is_at, is_bridge, is_host_ns, is_owned, is_peer_at, is_veth, is_of_pool, last_in};
+ghost use Rattle.kernel_types.specs.Terms.{fits_master, is_at, is_bridge, is_host_ns, is_owned, is_peer_at, is_veth};
+ghost use Rattle.kernel_types.specs.Terms.{is_of_pool, last_in};
 
 use crate::call::Call;
 use crate::object::{AddrObj, Last, Link, LinkKey, LinkKind, RouteObj, Setting, Tag};

@@ -30,7 +30,8 @@ macvlan-before conf att netns = record {
 macvlan-inner : (conf : MacvlanConf) (att : Att) (netns : List ℕ)
     → has_inner att netns (macvlan_link att netns conf.master conf.mode conf.mtu ∷ []) ≡ true
 macvlan-inner conf att netns =
-    let there = link-there netns att.ifname (Own att) (macvlan_link att netns conf.master conf.mode conf.mtu) refl refl refl in
+    let there =
+    link-there netns att.ifname (Own att) (macvlan_link att netns conf.master conf.mode conf.mtu) refl refl refl in
     grind (arith, there)
 
 -- ---- after them
@@ -43,15 +44,19 @@ macvlan-after conf att netns given =
     let p = fits ks links None att netns in
     let inner = macvlan-inner conf att netns in
     calls-after (macvlan_plugin conf) att netns given
-    (list_all-append p (map AddrAdd (addresses_on att netns given)) (map RouteAdd (routes_on att netns given (routes_of conf.ipam))) (fit-addresses ks links None att netns given refl inner)
+    (list_all-append p (map AddrAdd (addresses_on att netns given))
+    (map RouteAdd (routes_on att netns given (routes_of conf.ipam)))
+    (fit-addresses ks links None att netns given refl inner)
     (fit-routes ks links None att netns given (routes_of conf.ipam) refl inner))
 
 macvlan-adds : (conf : MacvlanConf) (att : Att) (netns : List ℕ) (given : List Given) (s : Share)
-    → share_after_calls s (macvlan_calls_after conf att netns given) ≡ share_plus s (added_after (macvlan_plugin conf) att netns given)
+    → share_after_calls s (macvlan_calls_after conf att netns given)
+    ≡ share_plus s (added_after (macvlan_plugin conf) att netns given)
 macvlan-adds conf att netns given s =
     let addresses = addresses_on att netns given in
     let routes = routes_on att netns given (routes_of conf.ipam) in
-    ap (λ calls. share_after_calls s (map AddrAdd addresses ++ calls)) (sym (append-nil (map RouteAdd routes))) ∙ share-laid_on s addresses routes [] [] (λ t. refl)
+    ap (λ calls. share_after_calls s (map AddrAdd addresses ++ calls)) (sym (append-nil (map RouteAdd routes)))
+    ∙ share-laid_on s addresses routes [] [] (λ t. refl)
     ∙ sym (share_plus-laid_on s addresses routes [])
 
 macvlan-few : (conf : MacvlanConf) (att : Att) (netns : List ℕ) (gs : List Given) (leases : ℕ) → length gs ≤ leases

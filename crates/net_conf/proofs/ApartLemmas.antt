@@ -22,7 +22,9 @@ meet a b c d p q r s = let fact : max c d ≤ min a b = omega arith in grind (ar
 
 -- a range that starts after the end of another has none of its addresses
 apart-after : (r s : Range) → r.end.bits < s.start.bits → is_apart r s ≡ true
-apart-after r s less = or_right (not (family_eq r.start.family s.start.family)) _ (below_all r.end.bits s.end.bits r.start.bits s.start.bits less)
+apart-after r s less =
+    or_right (not (family_eq r.start.family s.start.family)) _
+    (below_all r.end.bits s.end.bits r.start.bits s.start.bits less)
 
 same_family : (f g h : Family) → family_eq f h ≡ true → family_eq g h ≡ true → not (family_eq f g) ≡ false
 same_family f g h p q = grind (arith, nat_tests, p, q)
@@ -78,7 +80,8 @@ ascends-are_apart : (f : Family) (rs : List Range) → All (λ r. has_address_of
 ascends-are_apart f [] all order = refl
 ascends-are_apart f (r ∷ []) all order = refl
 ascends-are_apart f (r ∷ s ∷ rs) all order =
-    let first = first-apart f r s rs (all 0 r (omega arith)) (all 1 s (omega arith)) order (nat_lt r.end.bits s.start.bits) refl in
+    let first =
+    first-apart f r s rs (all 0 r (omega arith)) (all 1 s (omega arith)) order (nat_lt r.end.bits s.start.bits) refl in
     let more = ascends-are_apart f (s ∷ rs) (λ k d within. all (suc k) d (omega arith)) (tail_order r (s ∷ rs) order) in
     ap₂ (λ a b. a && b) (sym first) more
 
@@ -86,7 +89,8 @@ ascends-are_apart f (r ∷ s ∷ rs) all order =
 
 swapped-apart : (r s : Range) → is_apart r s ≡ is_apart s r
 swapped-apart r s =
-    ap₂ (λ a b. not a || b) (swap_eq (family_code r.start.family) (family_code s.start.family)) (ap₂ nat_lt (swap_min r.end.bits s.end.bits) (swap_max r.start.bits s.start.bits))
+    ap₂ (λ a b. not a || b) (swap_eq (family_code r.start.family) (family_code s.start.family))
+    (ap₂ nat_lt (swap_min r.end.bits s.end.bits) (swap_max r.start.bits s.start.bits))
   where
     swap_min : (a b : ℕ) → min a b ≡ min b a
     swap_min a b = omega arith
@@ -116,7 +120,9 @@ apart-other f r s p q =
       | inl alike ↦
           let none : s.end.bits < s.start.bits = grind (arith, nat_tests, alike, q) in
           swapped-apart r s ∙ apart-empty s r none
-      | inr other ↦ (let differ : not (family_eq r.start.family s.start.family) ≡ true = grind (arith, nat_tests, one.0, other) in rw differ refl)
+      | inr other ↦
+          (let differ : not (family_eq r.start.family s.start.family) ≡ true = grind (arith, nat_tests, one.0, other) in
+          rw differ refl)
     ]
 
 -- of neither family it has none at all
@@ -165,11 +171,14 @@ apart-by_family (r ∷ rs) =
     elim (cases_Bool (has_address_of V4 r)) [
       | inl four ↦
           let here = list_all-of_those (is_apart r) (has_address_of V4) rs (λ s other. apart-other V4 r s four other) in
-          rw (four, not_both r four) (ap₂ (λ a b. a && b) here later ∙ regroup_first (list_all (is_apart r) fours) (are_apart fours) (are_apart sixes))
+          rw (four, not_both r four) (ap₂ (λ a b. a && b) here later
+          ∙ regroup_first (list_all (is_apart r) fours) (are_apart fours) (are_apart sixes))
       | inr not_four ↦ elim (cases_Bool (has_address_of V6 r)) [
         | inl six ↦
-            let here = list_all-of_those (is_apart r) (has_address_of V6) rs (λ s other. apart-other V6 r s six other) in
-            rw (not_four, six) (ap₂ (λ a b. a && b) here later ∙ regroup_second (list_all (is_apart r) sixes) (are_apart fours) (are_apart sixes))
+            let here =
+            list_all-of_those (is_apart r) (has_address_of V6) rs (λ s other. apart-other V6 r s six other) in
+            rw (not_four, six) (ap₂ (λ a b. a && b) here later
+            ∙ regroup_second (list_all (is_apart r) sixes) (are_apart fours) (are_apart sixes))
         | inr not_six ↦
             let here = list_all-of_each (is_apart r) rs (λ s. apart-neither r s not_four not_six) in
             rw (not_four, not_six, here) later
@@ -184,9 +193,12 @@ AreApartAt rs = (i j : ℕ) (d : Range) → i < j → j < length rs → is_apart
 apart_at : (rs : List Range) → are_apart rs ≡ true → AreApartAt rs
 apart_at [] apart i j d up within = absurd (omega arith)
 apart_at (r ∷ rs) apart zero zero d up within = absurd (omega arith)
-apart_at (r ∷ rs) apart zero (suc j) d up within = AllPass-from_list_all (is_apart r) rs (and_parts (list_all (is_apart r) rs) (are_apart rs) apart).0 j d (omega arith)
+apart_at (r ∷ rs) apart zero (suc j) d up within =
+    AllPass-from_list_all (is_apart r) rs (and_parts (list_all (is_apart r) rs) (are_apart rs) apart).0 j d
+    (omega arith)
 apart_at (r ∷ rs) apart (suc i) zero d up within = absurd (omega arith)
-apart_at (r ∷ rs) apart (suc i) (suc j) d up within = apart_at rs (and_parts (list_all (is_apart r) rs) (are_apart rs) apart).1 i j d (omega arith) (omega arith)
+apart_at (r ∷ rs) apart (suc i) (suc j) d up within =
+    apart_at rs (and_parts (list_all (is_apart r) rs) (are_apart rs) apart).1 i j d (omega arith) (omega arith)
 
 apart_from_places : (rs : List Range) → AreApartAt rs → are_apart rs ≡ true
 apart_from_places [] each = refl
@@ -199,7 +211,9 @@ either_way : (rs : List Range) → AreApartAt rs → (i j : ℕ) (d : Range) →
 either_way rs each i j d p q differ =
     elim (cases_Bool (nat_lt i j)) [
       | inl up ↦ each i j d (grind (arith, nat_tests, up)) q
-      | inr not_up ↦ (let down : j < i = (let below : j ≤ i = grind (arith, nat_tests, not_up) in omega arith) in swapped-apart (get_or rs i d) (get_or rs j d) ∙ each j i d down p)
+      | inr not_up ↦
+          (let down : j < i = (let below : j ≤ i = grind (arith, nat_tests, not_up) in omega arith) in
+          swapped-apart (get_or rs i d) (get_or rs j d) ∙ each j i d down p)
     ]
 
 -- where a swap of a and b took the range at m from
@@ -222,25 +236,33 @@ apart-swap rs a b p q each i j d up within =
     ap₂ is_apart x.2 y.2 ∙ either_way rs each x.0 y.0 d (omega (arith, x.1)) (omega (arith, y.1)) differ
 
 apart-permutation : (xs ys : List Range) → IsPermutation xs ys → are_apart xs ≡ true → are_apart ys ≡ true
-apart-permutation xs ys moved apart = apart_from_places ys (IsPermutation-keeps xs AreApartAt (apart_at xs apart) apart-swap ys moved)
+apart-permutation xs ys moved apart =
+    apart_from_places ys (IsPermutation-keeps xs AreApartAt (apart_at xs apart) apart-swap ys moved)
 
 are_apart-permutation : (xs ys : List Range) → IsPermutation xs ys → are_apart xs ≡ are_apart ys
 are_apart-permutation xs ys moved =
-    both_ways (are_apart xs) (are_apart ys) (apart-permutation xs ys moved) (apart-permutation ys xs (IsPermutation-sym xs ys moved))
+    both_ways (are_apart xs) (are_apart ys) (apart-permutation xs ys moved)
+    (apart-permutation ys xs (IsPermutation-sym xs ys moved))
 
 ascends-of_family : (f : Family) (rs : List Range) → IsNonDecreasingBy (λ r. r.start.bits) rs
     → ascend_after None (filter (has_address_of f) rs) ≡ are_apart (filter (has_address_of f) rs)
 ascends-of_family f rs order =
-    ascends-are_apart f (filter (has_address_of f) rs) (filter_passes (has_address_of f) rs) (IsNonDecreasingBy-filter (λ r. r.start.bits) (has_address_of f) rs order)
+    ascends-are_apart f (filter (has_address_of f) rs) (filter_passes (has_address_of f) rs)
+    (IsNonDecreasingBy-filter (λ r. r.start.bits) (has_address_of f) rs order)
 
 -- Ranges that are put in order are apart exactly where they ascend in each family.
-module _ (xs ys : List Range) (moved : IsPermutation xs ys) (order : IsNonDecreasingBy (λ r. r.start.bits) ys) (four : Bool) (of_four : four ≡ ascend_after None (filter (has_address_of V4) ys)) where
+module _ (xs ys : List Range) (moved : IsPermutation xs ys) (order : IsNonDecreasingBy (λ r. r.start.bits) ys)
+    (four : Bool) (of_four : four ≡ ascend_after None (filter (has_address_of V4) ys)) where
   in_both : (six : Bool) → six ≡ ascend_after None (filter (has_address_of V6) ys) → (four && six) ≡ are_apart xs
   in_both six of_six =
-      ap₂ (λ a b. a && b) (of_four ∙ ascends-of_family V4 ys order) (of_six ∙ ascends-of_family V6 ys order) ∙ sym (apart-by_family ys) ∙ sym (are_apart-permutation xs ys moved)
+      ap₂ (λ a b. a && b) (of_four ∙ ascends-of_family V4 ys order) (of_six ∙ ascends-of_family V6 ys order)
+      ∙ sym (apart-by_family ys) ∙ sym (are_apart-permutation xs ys moved)
 
-  pub ascend-in_second : (six : Bool) → six ≡ ascend_after None (filter (has_address_of V6) ys) → four ≡ true → six ≡ are_apart xs
+  pub ascend-in_second : (six : Bool) → six ≡ ascend_after None (filter (has_address_of V6) ys) → four ≡ true
+      → six ≡ are_apart xs
   ascend-in_second six of_six is = sym (ap (λ b. b && six) is) ∙ in_both six of_six
 
   pub not_in_first : four ≡ false → four ≡ are_apart xs
-  not_in_first is = is ∙ sym (ap (λ b. b && ascend_after None (filter (has_address_of V6) ys)) is) ∙ in_both (ascend_after None (filter (has_address_of V6) ys)) refl
+  not_in_first is =
+      is ∙ sym (ap (λ b. b && ascend_after None (filter (has_address_of V6) ys)) is)
+      ∙ in_both (ascend_after None (filter (has_address_of V6) ys)) refl

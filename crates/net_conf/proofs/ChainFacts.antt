@@ -62,8 +62,10 @@ chain_of-each (item d ds) chain is =
     let first = goes (first_at d) _ chain is in
     let chained = goes (each_after later_at [] ds) _ chain first.rest in
     let rest = read_after [] ds chained.value chained.first in
-    subst (λ (c : PluginChain). each plugin_by_type_at (item d ds) ≡ Ok (plugins_in c.first c.chained)) (ok_same chained.rest)
-    (rw (first_by_itself d first.value first.first, rest.alone) (ap (λ (ps : List Chained). Ok (plugins_in first.value ps)) rest.all))
+    subst (λ (c : PluginChain). each plugin_by_type_at (item d ds) ≡ Ok (plugins_in c.first c.chained))
+    (ok_same chained.rest)
+    (rw (first_by_itself d first.value first.first, rest.alone)
+    (ap (λ (ps : List Chained). Ok (plugins_in first.value ps)) rest.all))
 
 then-ok : {A B E : Type 0} (r : Result A E) (next : A → Result B E) (a : A) (b : B) → r ≡ Ok a → next a ≡ Ok b
     → (r >>= next) ≡ Ok b
@@ -79,8 +81,10 @@ network_list_at-each d list is =
     let gc = goes (switch_at disable_gc_key d) _ list check.rest in
     let chain = goes (chain_at d) _ list gc.rest in
     let objects = goes (plugins_at d) chain_of chain.value chain.first in
-    subst (λ (l : NetList). (plugins_at d >>= each plugin_by_type_at) ≡ Ok (plugins_in l.first l.chained)) (ok_same chain.rest)
-    (then-ok (plugins_at d) (each plugin_by_type_at) objects.value (plugins_in chain.value.first chain.value.chained) objects.first
+    subst (λ (l : NetList). (plugins_at d >>= each plugin_by_type_at) ≡ Ok (plugins_in l.first l.chained))
+    (ok_same chain.rest)
+    (then-ok (plugins_at d) (each plugin_by_type_at) objects.value (plugins_in chain.value.first chain.value.chained)
+    objects.first
     (chain_of-each objects.value chain.value objects.rest))
 
 -- ---- by place
@@ -88,7 +92,8 @@ network_list_at-each d list is =
 -- what is read of each item is read of that in a place
 pub each-at : {A E : Type 0} (read : Data → Result A E) (ds : List Data) (xs : List A) (k : ℕ) (x : A)
     → each read (items_of ds) ≡ Ok xs → slice_get xs k ≡ Some x → read (slice_index_or ds k null) ≡ Ok x
-each-at {A = A} read [] xs k x is there = nothing_in k (subst (λ ys. slice_get ys k ≡ Some x) (sym (ok_same {x = []} {y = xs} is)) there)
+each-at {A = A} read [] xs k x is there =
+    nothing_in k (subst (λ ys. slice_get ys k ≡ Some x) (sym (ok_same {x = []} {y = xs} is)) there)
   where
     nothing_in : (k : ℕ) → slice_get [] k ≡ Some x → read (slice_index_or [] k null) ≡ Ok x
     nothing_in k is = cc
@@ -98,7 +103,10 @@ each-at {A = A} read (d ∷ ds) xs k x is there =
     in_place (λ ys i all at. each-at read ds ys i x all at) first.value rest.value k first.first rest.first
     (subst (λ ys. slice_get ys k ≡ Some x) (sym (ok_same rest.rest)) there)
   where
-    in_place : ((ys : List A) (i : ℕ) → each read (items_of ds) ≡ Ok ys → slice_get ys i ≡ Some x → read (slice_index_or ds i null) ≡ Ok x) → (y : A) (ys : List A) (k : ℕ) → read d ≡ Ok y → each read (items_of ds) ≡ Ok ys → slice_get (y ∷ ys) k ≡ Some x → read (slice_index_or (d ∷ ds) k null) ≡ Ok x
+    in_place : ((ys : List A) (i : ℕ) → each read (items_of ds) ≡ Ok ys → slice_get ys i ≡ Some x
+        → read (slice_index_or ds i null) ≡ Ok x)
+        → (y : A) (ys : List A) (k : ℕ) → read d ≡ Ok y → each read (items_of ds) ≡ Ok ys
+        → slice_get (y ∷ ys) k ≡ Some x → read (slice_index_or (d ∷ ds) k null) ≡ Ok x
     in_place later y ys zero one all at = let same : y ≡ x = cc in rw (← same) one
     in_place later y ys (suc k) one all at = later ys k all at
 
@@ -109,7 +117,8 @@ pub takes_mappings_at-asks : (d : Data) (b : Bool) → takes_mappings_at d ≡ O
 unfolding takes_mappings_at
 takes_mappings_at-asks d b is = asked (get (codes "capabilities") d) b is
   where
-    flagged : (o : Option Data) (b : Bool) → with_default (codes "capabilities") false Ok (field_of as_bool o) ≡ Ok b → is_true o ≡ b
+    flagged : (o : Option Data) (b : Bool) → with_default (codes "capabilities") false Ok (field_of as_bool o) ≡ Ok b
+        → is_true o ≡ b
     flagged None b is = ok_same is
     flagged (Some null) b is = ok_same is
     flagged (Some (boolean c)) b is = ok_same is
@@ -118,7 +127,8 @@ takes_mappings_at-asks d b is = asked (get (codes "capabilities") d) b is
     flagged (Some (array ds)) b is = cc
     flagged (Some (object ms)) b is = cc
 
-    asked : (o : Option Data) (b : Bool) → mappings_flag (field_of object_of o) ≡ Ok b → is_true (option_and_then (get (codes "portMappings")) o) ≡ b
+    asked : (o : Option Data) (b : Bool) → mappings_flag (field_of object_of o) ≡ Ok b
+        → is_true (option_and_then (get (codes "portMappings")) o) ≡ b
     asked None b is = ok_same is
     asked (Some null) b is = ok_same is
     asked (Some (boolean c)) b is = cc

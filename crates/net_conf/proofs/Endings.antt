@@ -17,7 +17,8 @@ each_tested test read P holds (item d ds) xs tests is =
     let both = and_parts (test d) (all_items test ds) tests in
     let one = goes _ _ _ is in
     let more = goes _ _ _ one.rest in
-    subst (All P) (ok_same more.rest) (All-cons P one.value more.value (holds d one.value both.0 one.first) (each_tested test read P holds ds more.value both.1 more.first))
+    subst (All P) (ok_same more.rest) (All-cons P one.value more.value (holds d one.value both.0 one.first)
+    (each_tested test read P holds ds more.value both.1 more.first))
 
 -- as many are read as there are items
 pub each_count : {A : Type 0} (read : Data → Result A ConfError) (ds : Items) (xs : List A) → each read ds ≡ Ok xs
@@ -26,7 +27,8 @@ each_count read no_items xs is = ap length (sym (ok_same {x = []} {y = xs} is))
 each_count read (item d ds) xs is =
     let one = goes (read d) _ xs is in
     let more = goes (each read ds) _ xs one.rest in
-    ap length (sym (ok_same {x = one.value ∷ more.value} {y = xs} more.rest)) ∙ ap suc (each_count read ds more.value more.first)
+    ap length (sym (ok_same {x = one.value ∷ more.value} {y = xs} more.rest))
+    ∙ ap suc (each_count read ds more.value more.first)
 
 -- what was found and passed the test
 pub passing-ok : {A : Type 0} (blamed : List ℕ) (test : A → Bool) (o : Option A) (x : A) → passing blamed test o ≡ Ok x

@@ -50,4 +50,5 @@ pub list_of-ok : (bytes : List ℕ) (list : NetList) → list_of bytes ≡ Ok li
 unfolding list_of
 list_of-ok bytes list is =
     let json = goes (read_or_refused (json_of bytes)) _ list is in
-    network_list_at-ok json.value list (KeysAscend-json_of bytes json.value (read-ok (json_of bytes) json.value json.first)) json.rest
+    network_list_at-ok json.value list
+    (KeysAscend-json_of bytes json.value (read-ok (json_of bytes) json.value json.first)) json.rest

@@ -36,7 +36,8 @@ mtu_at-ok : (d : Data) (n : ℕ) → mtu_at d ≡ Ok n → IsMtu n
 unfolding mtu_at
 mtu_at-ok d n is =
     let given = goes (given_mtu_at d) _ n is in
-    subst IsMtu (ok_same given.rest) (or_default IsMtu given.value default_mtu (given_mtu_at-ok d given.value given.first) refl)
+    subst IsMtu (ok_same given.rest)
+    (or_default IsMtu given.value default_mtu (given_mtu_at-ok d given.value given.first) refl)
 
 host_local_at-ok : (d : Data) (conf : HostLocalConf) → host_local_at d ≡ Ok conf → IsWellFormedHostLocal conf
 unfolding host_local_at
@@ -126,7 +127,9 @@ ptp_at-ok d conf is =
     let ipam = goes (ok_or addressing.value.ipam (refusal.Invalid (codes "ipam"))) _ conf addressing.rest in
     subst IsWellFormedPtp (ok_same ipam.rest) (record {
       mtu = mtu_at-ok d mtu.value mtu.first;
-      ipam = needed_ipam-ok addressing.value.ipam ipam.value (addressing_at-ok d addressing.value addressing.first) ipam.first;
+      ipam =
+          needed_ipam-ok addressing.value.ipam ipam.value (addressing_at-ok d addressing.value addressing.first)
+          ipam.first;
     })
 
 macvlan_at-ok : (d : Data) (conf : MacvlanConf) → macvlan_at d ≡ Ok conf → IsWellFormedMacvlan conf
@@ -144,9 +147,15 @@ macvlan_at-ok d conf is =
     })
 
 first_of-ok : (type : PluginType) (d : Data) (found : First) → first_of type d ≡ Ok found → IsWellFormedFirst found
-first_of-ok plugin.Bridge d found is = let conf = mapped _ (bridge_at d) found is in subst IsWellFormedFirst (ok_same conf.rest) (bridge_at-ok d conf.value conf.first)
-first_of-ok plugin.Ptp d found is = let conf = mapped _ (ptp_at d) found is in subst IsWellFormedFirst (ok_same conf.rest) (ptp_at-ok d conf.value conf.first)
-first_of-ok plugin.Macvlan d found is = let conf = mapped _ (macvlan_at d) found is in subst IsWellFormedFirst (ok_same conf.rest) (macvlan_at-ok d conf.value conf.first)
+first_of-ok plugin.Bridge d found is =
+    let conf = mapped _ (bridge_at d) found is in subst IsWellFormedFirst (ok_same conf.rest)
+    (bridge_at-ok d conf.value conf.first)
+first_of-ok plugin.Ptp d found is =
+    let conf = mapped _ (ptp_at d) found is in subst IsWellFormedFirst (ok_same conf.rest)
+    (ptp_at-ok d conf.value conf.first)
+first_of-ok plugin.Macvlan d found is =
+    let conf = mapped _ (macvlan_at d) found is in subst IsWellFormedFirst (ok_same conf.rest)
+    (macvlan_at-ok d conf.value conf.first)
 first_of-ok plugin.Portmap d found is = cc
 first_of-ok plugin.Firewall d found is = cc
 first_of-ok plugin.Tuning d found is = cc
@@ -170,17 +179,22 @@ later_of-type : (type : PluginType) (d : Data) (found : Chained) → later_of ty
 later_of-type plugin.Bridge d found is = cc
 later_of-type plugin.Ptp d found is = cc
 later_of-type plugin.Macvlan d found is = cc
-later_of-type plugin.Portmap d found is = let conf = mapped _ (portmap_at d) found is in ap type_of_chained (sym (ok_same conf.rest))
-later_of-type plugin.Firewall d found is = let conf = mapped _ (firewall_at d) found is in ap type_of_chained (sym (ok_same conf.rest))
-later_of-type plugin.Tuning d found is = let conf = mapped _ (tuning_at d) found is in ap type_of_chained (sym (ok_same conf.rest))
+later_of-type plugin.Portmap d found is =
+    let conf = mapped _ (portmap_at d) found is in ap type_of_chained (sym (ok_same conf.rest))
+later_of-type plugin.Firewall d found is =
+    let conf = mapped _ (firewall_at d) found is in ap type_of_chained (sym (ok_same conf.rest))
+later_of-type plugin.Tuning d found is =
+    let conf = mapped _ (tuning_at d) found is in ap type_of_chained (sym (ok_same conf.rest))
 
 later_of-ok : (type : PluginType) (d : Data) (found : Chained) → KeysAscend d → later_of type d ≡ Ok found
     → IsWellFormedChained found
 later_of-ok plugin.Bridge d found order is = cc
 later_of-ok plugin.Ptp d found order is = cc
 later_of-ok plugin.Macvlan d found order is = cc
-later_of-ok plugin.Portmap d found order is = let conf = mapped _ (portmap_at d) found is in subst IsWellFormedChained (ok_same conf.rest) tt
-later_of-ok plugin.Firewall d found order is = let conf = mapped _ (firewall_at d) found is in subst IsWellFormedChained (ok_same conf.rest) tt
+later_of-ok plugin.Portmap d found order is =
+    let conf = mapped _ (portmap_at d) found is in subst IsWellFormedChained (ok_same conf.rest) tt
+later_of-ok plugin.Firewall d found order is =
+    let conf = mapped _ (firewall_at d) found is in subst IsWellFormedChained (ok_same conf.rest) tt
 later_of-ok plugin.Tuning d found order is =
     let conf = mapped _ (tuning_at d) found is in
     subst IsWellFormedChained (ok_same conf.rest) (tuning_at-ok d conf.value order conf.first)
@@ -200,10 +214,12 @@ unfolding IsDistinct
 once_more [] next type is none once = (tt, tt)
 once_more (p ∷ before) next type is none once =
     let parts = or_parts (is_of_type type p) (list_any (is_of_type type) before) none in
-    let new : type_eq (type_of_chained p) (type_of_chained next) ≡ false = subst (λ t. type_eq (type_of_chained p) t ≡ false) (sym is) parts.0 in
+    let new : type_eq (type_of_chained p) (type_of_chained next) ≡ false =
+    subst (λ t. type_eq (type_of_chained p) t ≡ false) (sym is) parts.0 in
     (also before once.0 new, once_more before next type is parts.1 once.1)
   where
-    also : (ps : List Chained) → AllByRecursion (λ t. type_eq (type_of_chained p) t ≡ false) (map type_of_chained ps) → type_eq (type_of_chained p) (type_of_chained next) ≡ false
+    also : (ps : List Chained) → AllByRecursion (λ t. type_eq (type_of_chained p) t ≡ false) (map type_of_chained ps)
+        → type_eq (type_of_chained p) (type_of_chained next) ≡ false
         → AllByRecursion (λ t. type_eq (type_of_chained p) t ≡ false) (map type_of_chained (ps ++ next ∷ []))
     also [] all new = (new, tt)
     also (q ∷ ps) all new = (all.0, also ps all.1 new)
@@ -225,7 +241,8 @@ none_once = tt
 pub later_plugins-once : (ds : Items) (found : List Chained) → later_plugins ds ≡ Ok found → HaveTypesOnce found
 later_plugins-once no_items found is = subst HaveTypesOnce (ok_same is) none_once
 later_plugins-once (item d ds) found is =
-    each_after_keeps later_at (λ before _. HaveTypesOnce before) (λ before d ds next once read. later_at-once before d next once read) [] ds found none_once is
+    each_after_keeps later_at (λ before _. HaveTypesOnce before)
+    (λ before d ds next once read. later_at-once before d next once read) [] ds found none_once is
 
 -- the later plugins so far are well formed, and the keys of those to follow ascend
 abbrev AreLaterSoFar : List Chained → Items → Type 0
@@ -243,7 +260,8 @@ later_at-keeps before d ds next kept is =
 later_plugins-ok : (ds : Items) (found : List Chained) → EverywhereInItems HasAscendingKeys ds
     → later_plugins ds ≡ Ok found → All IsWellFormedChained found
 later_plugins-ok no_items found order is = subst (All IsWellFormedChained) (ok_same is) (All-nil IsWellFormedChained)
-later_plugins-ok (item d ds) found order is = (each_after_keeps later_at AreLaterSoFar later_at-keeps [] ds found (All-nil IsWellFormedChained, order.1) is).0
+later_plugins-ok (item d ds) found order is =
+    (each_after_keeps later_at AreLaterSoFar later_at-keeps [] ds found (All-nil IsWellFormedChained, order.1) is).0
 
 -- ---- all plugins
 
@@ -254,13 +272,16 @@ listed-ascends (Some null) ds order is = cc
 listed-ascends (Some (boolean b)) ds order is = cc
 listed-ascends (Some (number n)) ds order is = cc
 listed-ascends (Some (string s)) ds order is = cc
-listed-ascends (Some (array es)) ds order is = subst (EverywhereInItems HasAscendingKeys) (ok_same is) (order (array es) refl).1
+listed-ascends (Some (array es)) ds order is =
+    subst (EverywhereInItems HasAscendingKeys) (ok_same is) (order (array es) refl).1
 listed-ascends (Some (object ms)) ds order is = cc
 
 plugins_at-ascends : (d : Data) (ds : Items) → KeysAscend d → plugins_at d ≡ Ok ds
     → EverywhereInItems HasAscendingKeys ds
 unfolding plugins_at
-plugins_at-ascends d ds order is = listed-ascends (get (codes "plugins") d) ds (λ e there. get-everywhere HasAscendingKeys (codes "plugins") d e order there) is
+plugins_at-ascends d ds order is =
+    listed-ascends (get (codes "plugins") d) ds
+    (λ e there. get-everywhere HasAscendingKeys (codes "plugins") d e order there) is
 
 -- what the plugins of a list keep
 pub record IsChain (chain : PluginChain) : Type 0 where
@@ -276,15 +297,21 @@ chain_at-ok d chain order is =
     let others = goes (later_plugins plugins.value) _ chain one.rest in
     subst IsChain (ok_same others.rest) (record {
       first = first_plugin-ok plugins.value one.value one.first;
-      later = later_plugins-ok plugins.value others.value (plugins_at-ascends d plugins.value order plugins.first) others.first;
+      later =
+          later_plugins-ok plugins.value others.value (plugins_at-ascends d plugins.value order plugins.first)
+          others.first;
       types_once = later_plugins-once plugins.value others.value others.first;
     })
 
 -- ---- a plugin by itself
 
 plugin_at-ok : (first : Bool) (d : Data) (p : Plugin) → KeysAscend d → plugin_at first d ≡ Ok p → IsWellFormedPlugin p
-plugin_at-ok true d p order is = let conf = mapped _ (first_at d) p is in subst IsWellFormedPlugin (ok_same conf.rest) (first_at-ok d conf.value conf.first)
-plugin_at-ok false d p order is = let conf = mapped _ (chained_at d) p is in subst IsWellFormedPlugin (ok_same conf.rest) (chained_at-ok d conf.value order conf.first)
+plugin_at-ok true d p order is =
+    let conf = mapped _ (first_at d) p is in subst IsWellFormedPlugin (ok_same conf.rest)
+    (first_at-ok d conf.value conf.first)
+plugin_at-ok false d p order is =
+    let conf = mapped _ (chained_at d) p is in subst IsWellFormedPlugin (ok_same conf.rest)
+    (chained_at-ok d conf.value order conf.first)
 
 pub plugin_by_type_at-ok : (d : Data) (p : Plugin) → KeysAscend d → plugin_by_type_at d ≡ Ok p → IsWellFormedPlugin p
 unfolding plugin_by_type_at

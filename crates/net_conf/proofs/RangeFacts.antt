@@ -89,7 +89,8 @@ addr_or_at-ok : (key : List ℕ) (default : AddrValue) (test : AddrValue → Boo
 unfolding addr_or_at
 addr_or_at-ok key default test d a kept is =
     let given = goes (addr_if_at key key test d) _ a is in
-    subst (IsRead test) (ok_same given.rest) (or_default (IsRead test) given.value default (addr_if_at-ok key key test d given.value given.first) kept)
+    subst (IsRead test) (ok_same given.rest)
+    (or_default (IsRead test) given.value default (addr_if_at-ok key key test d given.value given.first) kept)
 
 in_order-ok : (start end : AddrValue) → in_order start end ≡ Ok tt → is_in_order start end ≡ true
 unfolding in_order
@@ -110,7 +111,8 @@ range_at-ok d r is =
     let last_is = contained_is_addr c (last_host c) kept.1 (last_host_inside c kept.0) in
     let start_kept = addr_or_at-ok _ _ (contains c) d start.value (first_is, first_host_inside c kept.0) start.first in
     let end_kept = addr_or_at-ok _ _ (contains c) d end.value (last_is, last_host_inside c kept.0) end.first in
-    let gateway_kept = addr_or_at-ok _ _ (is_address_of c.addr.family) d gateway.value (first_is, first_host_family c) gateway.first in
+    let gateway_kept =
+    addr_or_at-ok _ _ (is_address_of c.addr.family) d gateway.value (first_is, first_host_family c) gateway.first in
     subst IsWellFormedRange (ok_same gateway.rest) (record {
       is_cidr = kept.1;
       subnet = kept.0;
@@ -126,15 +128,19 @@ range_at-ok d r is =
 -- the parts of a range that are read have one family; the defaults are known by other names
 pub one_family : (d : Data) (c : CidrValue) (first last start end gateway : AddrValue) → first ≡ first_host c
     → last ≡ last_host c → subnet_at d ≡ Ok c
-    → addr_or_at (codes "rangeStart") first (contains c) d ≡ Ok start → addr_or_at (codes "rangeEnd") last (contains c) d ≡ Ok end
+    → addr_or_at (codes "rangeStart") first (contains c) d ≡ Ok start
+    → addr_or_at (codes "rangeEnd") last (contains c) d ≡ Ok end
     → addr_or_at (codes "gateway") first (is_address_of c.addr.family) d ≡ Ok gateway → IsOneFamily c start end gateway
 one_family d c first last start end gateway named_first named_last subnet_is start_is end_is gateway_is =
     let kept = subnet_at-ok d c subnet_is in
     let first_is = contained_is_addr c (first_host c) kept.1 (first_host_inside c kept.0) in
     let last_is = contained_is_addr c (last_host c) kept.1 (last_host_inside c kept.0) in
-    let first_start : IsRead (contains c) first = subst (IsRead (contains c)) (sym named_first) (first_is, first_host_inside c kept.0) in
-    let last_end : IsRead (contains c) last = subst (IsRead (contains c)) (sym named_last) (last_is, last_host_inside c kept.0) in
-    let first_gateway : IsRead (is_address_of c.addr.family) first = subst (IsRead (is_address_of c.addr.family)) (sym named_first) (first_is, first_host_family c) in
+    let first_start : IsRead (contains c) first =
+    subst (IsRead (contains c)) (sym named_first) (first_is, first_host_inside c kept.0) in
+    let last_end : IsRead (contains c) last =
+    subst (IsRead (contains c)) (sym named_last) (last_is, last_host_inside c kept.0) in
+    let first_gateway : IsRead (is_address_of c.addr.family) first =
+    subst (IsRead (is_address_of c.addr.family)) (sym named_first) (first_is, first_host_family c) in
     let start_kept = addr_or_at-ok _ first (contains c) d start first_start start_is in
     let end_kept = addr_or_at-ok _ last (contains c) d end last_end end_is in
     let gateway_kept = addr_or_at-ok _ first (is_address_of c.addr.family) d gateway first_gateway gateway_is in

@@ -25,7 +25,9 @@ pub record Says (c : CidrValue) : Type 0 where
 pub subnet_says : (c : CidrValue) → is_subnet c ≡ true → Says c
 unfolding network_of is_subnet
 subnet_says c is =
-    let says = tested (family_eq c.addr.family c.addr.family) c.addr.bits (network_bits c) c.prefix c.prefix (longest_subnet c.addr.family) is in
+    let says =
+    tested (family_eq c.addr.family c.addr.family) c.addr.bits (network_bits c) c.prefix c.prefix
+    (longest_subnet c.addr.family) is in
     record {
       own = ap (λ n. record { addr = record { family = c.addr.family; bits = n }; prefix = c.prefix }) (sym says.0);
       least = says.1;

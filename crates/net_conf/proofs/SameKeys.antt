@@ -39,7 +39,8 @@ all_supported-same : (rows : List Row) (d e : Data) → HaveSameKeys d e → Are
     → all_supported rows d ≡ all_supported rows e
 unfolding supported
 all_supported-same [] d e same own = refl
-all_supported-same (row ∷ rows) d e same own = rw (same.members row.0 own.0, all_supported-same rows d e same own.1) refl
+all_supported-same (row ∷ rows) d e same own =
+    rw (same.members row.0 own.0, all_supported-same rows d e same own.1) refl
 
 flag_at-same : (key : List ℕ) (default : Bool) (d e : Data) → HaveSameKeys d e → is_runtime_key key ≡ false
     → flag_at key default d ≡ flag_at key default e
@@ -75,11 +76,16 @@ bridge_name_at-same d e same = rw (same.members (codes "bridge") refl) refl
 
 gateway_role_at-same : (d e : Data) → HaveSameKeys d e → gateway_role_at d ≡ gateway_role_at e
 unfolding gateway_role_at
-gateway_role_at-same d e same = rw (flag_at-same (codes "isGateway") false d e same refl, flag_at-same (codes "isDefaultGateway") false d e same refl) refl
+gateway_role_at-same d e same =
+    rw
+    (flag_at-same (codes "isGateway") false d e same refl, flag_at-same (codes "isDefaultGateway") false d e same refl)
+    refl
 
 bridge_mode_at-same : (d e : Data) → HaveSameKeys d e → bridge_mode_at d ≡ bridge_mode_at e
 unfolding bridge_mode_at promisc_at
-bridge_mode_at-same d e same = rw (flag_at-same (codes "hairpinMode") false d e same refl, flag_at-same (codes "promiscMode") false d e same refl) refl
+bridge_mode_at-same d e same =
+    rw (flag_at-same (codes "hairpinMode") false d e same refl, flag_at-same (codes "promiscMode") false d e same refl)
+    refl
 
 bridge_at-same : (d e : Data) → HaveSameKeys d e → bridge_at d ≡ bridge_at e
 unfolding bridge_at
@@ -96,7 +102,8 @@ bridge_at-same d e same =
 
 ptp_at-same : (d e : Data) → HaveSameKeys d e → ptp_at d ≡ ptp_at e
 unfolding ptp_at
-ptp_at-same d e same = rw (flag_at-same (codes "ipMasq") false d e same refl, mtu_at-same d e same, addressing_at-same d e same) refl
+ptp_at-same d e same =
+    rw (flag_at-same (codes "ipMasq") false d e same refl, mtu_at-same d e same, addressing_at-same d e same) refl
 
 master_at-same : (d e : Data) → HaveSameKeys d e → master_at d ≡ master_at e
 unfolding master_at
@@ -109,7 +116,14 @@ mode_at-same d e same = rw (same.members (codes "mode") refl) refl
 macvlan_at-same : (d e : Data) → HaveSameKeys d e → macvlan_at d ≡ macvlan_at e
 unfolding macvlan_at
 macvlan_at-same d e same =
-    rw (all_supported-same macvlan_rows d e same (refl, tt), master_at-same d e same, mode_at-same d e same, mtu_at-same d e same, addressing_at-same d e same) refl
+    rw (
+      all_supported-same macvlan_rows d e same (refl, tt),
+      master_at-same d e same,
+      mode_at-same d e same,
+      mtu_at-same d e same,
+      addressing_at-same d e same,
+    )
+    refl
 
 -- ---- later plugins
 
@@ -120,7 +134,11 @@ takes_mappings_at-same d e same = rw (same.members (codes "capabilities") refl) 
 portmap_at-same : (d e : Data) → HaveSameKeys d e → portmap_at d ≡ portmap_at e
 unfolding portmap_at
 portmap_at-same d e same =
-    rw (all_supported-same portmap_rows d e same (refl, (refl, (refl, (refl, (refl, tt))))), takes_mappings_at-same d e same, flag_at-same (codes "snat") true d e same refl) refl
+    rw (
+      all_supported-same portmap_rows d e same (refl, (refl, (refl, (refl, (refl, tt))))),
+      takes_mappings_at-same d e same,
+      flag_at-same (codes "snat") true d e same refl,
+    ) refl
 
 firewall_at-same : (d e : Data) → HaveSameKeys d e → firewall_at d ≡ firewall_at e
 unfolding firewall_at
@@ -184,11 +202,15 @@ by_type-same read d e each same = rw (type_at-same d e same) (after (type_at e))
 
 first_at-same : (d e : Data) → HaveSameKeys d e → first_at d ≡ first_at e
 unfolding first_at
-first_at-same d e same = rw (object_or-same wrong_plugins d e same, by_type-same first_of d e (λ type. first_of-same type d e same) same) refl
+first_at-same d e same =
+    rw (object_or-same wrong_plugins d e same, by_type-same first_of d e (λ type. first_of-same type d e same) same)
+    refl
 
 chained_at-same : (d e : Data) → HaveSameKeys d e → chained_at d ≡ chained_at e
 unfolding chained_at
-chained_at-same d e same = rw (object_or-same wrong_plugins d e same, by_type-same later_of d e (λ type. later_of-same type d e same) same) refl
+chained_at-same d e same =
+    rw (object_or-same wrong_plugins d e same, by_type-same later_of d e (λ type. later_of-same type d e same) same)
+    refl
 
 pub plugin_at-same : (first : Bool) (d e : Data) → HaveSameKeys d e → plugin_at first d ≡ plugin_at first e
 plugin_at-same true d e same = rw (first_at-same d e same) refl
@@ -197,4 +219,5 @@ plugin_at-same false d e same = rw (chained_at-same d e same) refl
 pub plugin_by_type_at-same : (d e : Data) → HaveSameKeys d e → plugin_by_type_at d ≡ plugin_by_type_at e
 unfolding plugin_by_type_at
 plugin_by_type_at-same d e same =
-    by_type-same (λ type d. plugin_at (makes_interface type) d) d e (λ type. plugin_at-same (makes_interface type) d e same) same
+    by_type-same (λ type d. plugin_at (makes_interface type) d) d e
+    (λ type. plugin_at-same (makes_interface type) d e same) same

@@ -42,7 +42,8 @@ set_of-ok (array ds) set form is =
     let count = each_count range_at ds read.value read.first in
     let some = some_items ds form in
     let filled : 0 < length read.value = omega arith in
-    subst IsFilled (ok_same read.rest) (filled, each_all range_at IsWellFormedRange range_at-ok ds read.value read.first)
+    subst IsFilled (ok_same read.rest)
+    (filled, each_all range_at IsWellFormedRange range_at-ok ds read.value read.first)
 
 -- ---- ranges that are apart
 
@@ -56,7 +57,9 @@ all_sets (set ∷ sets) apart one filled =
     let families = and_parts (is_of_one_family set) (list_all is_of_one_family sets) one in
     let here = filled 0 set (omega arith) in
     let later : All IsFilled sets = λ k d h. filled (suc k) d (omega arith) in
-    All-cons IsWellFormedSet set sets (record { some = here.0; ranges = here.1; apart = first; one_family = families.0 }) (all_sets sets others families.1 later)
+    All-cons IsWellFormedSet set sets
+    (record { some = here.0; ranges = here.1; apart = first; one_family = families.0 })
+    (all_sets sets others families.1 later)
 
 -- ---- all sets
 
@@ -68,7 +71,8 @@ pub record AreWellFormedSets (sets : List RangeSet) : Type 0 where
 
 own_sets_of-ok : (own : Bool) (d : Data) (sets : List RangeSet) → own_sets_of own d ≡ Ok sets
     → (length sets ≡ one_if own) × All IsFilled sets
-own_sets_of-ok false d sets is = subst (λ (found : List RangeSet). (length found ≡ 0) × All IsFilled found) (ok_same is) (refl, All-nil IsFilled)
+own_sets_of-ok false d sets is =
+    subst (λ (found : List RangeSet). (length found ≡ 0) × All IsFilled found) (ok_same is) (refl, All-nil IsFilled)
 own_sets_of-ok true d sets is =
     let read = goes (range_at d) _ sets is in
     let r = read.value in
@@ -87,18 +91,30 @@ sets_at-ok d sets is =
     let own = goes (own_sets_of has_own d) _ sets form.rest in
     let found = goes (each_after (λ _ member. set_of member) own.value listed.value) _ sets own.rest in
     let tests = goes (separate found.value) _ sets found.rest in
-    let joined : with_prefix own.value (each set_of listed.value) ≡ Ok found.value = sym (each_after-prefix set_of own.value listed.value) ∙ found.first in
+    let joined : with_prefix own.value (each set_of listed.value) ≡ Ok found.value =
+    sym (each_after-prefix set_of own.value listed.value) ∙ found.first in
     let others = goes (each set_of listed.value) _ found.value joined in
     let all = ok_same {x = own.value ++ others.value} {y = found.value} others.rest in
-    let form_tests = and_parts (is_set_count (one_if has_own + items_len listed.value)) (all_items is_set listed.value) (passed _ tt form.value _ form.first).0 in
-    let separate_tests = and_parts (are_apart (ranges_of found.value)) (list_all is_of_one_family found.value) (passed _ tt tests.value _ tests.first).0 in
+    let form_tests =
+    and_parts (is_set_count (one_if has_own + items_len listed.value)) (all_items is_set listed.value)
+    (passed _ tt form.value _ form.first).0 in
+    let separate_tests =
+    and_parts (are_apart (ranges_of found.value)) (list_all is_of_one_family found.value)
+    (passed _ tt tests.value _ tests.first).0 in
     let own_filled = own_sets_of-ok has_own d own.value own.first in
     let other_count = each_count set_of listed.value others.value others.first in
-    let others_filled = each_tested is_set set_of IsFilled set_of-ok listed.value others.value form_tests.1 others.first in
-    let filled : All IsFilled found.value = subst (All IsFilled) all (All-append IsFilled own.value others.value own_filled.1 others_filled) in
-    let size : length found.value ≡ one_if has_own + items_len listed.value = sym (ap length all) ∙ (length-append own.value others.value ∙ sum_same own_filled.0 other_count) in
+    let others_filled =
+    each_tested is_set set_of IsFilled set_of-ok listed.value others.value form_tests.1 others.first in
+    let filled : All IsFilled found.value =
+    subst (All IsFilled) all (All-append IsFilled own.value others.value own_filled.1 others_filled) in
+    let size : length found.value ≡ one_if has_own + items_len listed.value =
+    sym (ap length all) ∙ (length-append own.value others.value ∙ sum_same own_filled.0 other_count) in
     subst AreWellFormedSets (ok_same tests.rest)
-    (record { count = ap is_set_count size ∙ form_tests.0; each_set = all_sets found.value separate_tests.0 separate_tests.1 filled; apart = separate_tests.0 })
+    (record {
+      count = ap is_set_count size ∙ form_tests.0;
+      each_set = all_sets found.value separate_tests.0 separate_tests.1 filled;
+      apart = separate_tests.0;
+    })
   where
     sum_same : {a b c d : ℕ} → a ≡ c → b ≡ d → a + b ≡ c + d
     sum_same p q = cc
@@ -128,7 +144,12 @@ route_at-ok d route is =
     let kept = destination_at-ok d dst.value dst.first in
     let hop = addr_if_at-ok _ _ (is_address_of dst.value.addr.family) d gw.value gw.first in
     subst IsWellFormedRoute (ok_same gw.rest)
-    (record { is_cidr = kept.0; no_host_bits = kept.1; hop_is_addr = IfSome_then gw.value hop (λ a kept. kept.0); hop_family = IfSome_then gw.value hop (λ a kept. family_eq-true a.family dst.value.addr.family kept.1) })
+    (record {
+      is_cidr = kept.0;
+      no_host_bits = kept.1;
+      hop_is_addr = IfSome_then gw.value hop (λ a kept. kept.0);
+      hop_family = IfSome_then gw.value hop (λ a kept. family_eq-true a.family dst.value.addr.family kept.1);
+    })
 
 read_routes_of-ok : (f : Field Items) (routes : List RouteEntry) → read_routes_of f ≡ Ok routes
     → All IsWellFormedRoute routes

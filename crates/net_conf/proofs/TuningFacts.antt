@@ -29,7 +29,8 @@ IsSettingOf key setting = (setting.key ≡ key) × IsNetworkSetting setting
 -- a test's outcome is one of two
 pub by_outcome : {A P : Type 0} (b : Bool) (x y : Result A ConfError) (z : Result A ConfError)
     → (if b then x else y) ≡ z → (b ≡ true → x ≡ z → P) → (b ≡ false → y ≡ z → P) → P
-by_outcome {A = A} {P = P} b x y z is first second = by_test (λ (r : Result A ConfError). r ≡ z → P) b x y first second is
+by_outcome {A = A} {P = P} b x y z is first second =
+    by_test (λ (r : Result A ConfError). r ≡ z → P) b x y first second is
 
 setting_or_refused-ok : (key value : List ℕ) (setting : Sysctl) → setting_or_refused key value ≡ Ok setting
     → IsSettingOf key setting
@@ -64,26 +65,31 @@ below_differs k l below = sym (is_eq-slice_cmp k l) ∙ ap is_eq below
 -- a key below all members differs from the key of each setting
 below_settings : (k : List ℕ) (ms : Members) (settings : List Sysctl) → IsBelow k (keys ms)
     → settings_of ms ≡ Ok settings → AllByRecursion (Differs k) (setting_keys settings)
-below_settings k no_members settings below is = subst (λ found. AllByRecursion (Differs k) (setting_keys found)) (ok_same is) tt
+below_settings k no_members settings below is =
+    subst (λ found. AllByRecursion (Differs k) (setting_keys found)) (ok_same is) tt
 below_settings k (member l d ms) settings below is =
     by_outcome (is_null d) _ _ _ is (λ null same. below_settings k ms settings below.1 same) (λ there same.
     let one = goes (read_setting_of l d) _ settings same in
     let more = goes (settings_of ms) _ settings one.rest in
     let key = (read_setting_of-ok l d one.value one.first).0 in
     let here : Differs k one.value.key = subst (Differs k) (sym key) (below_differs k l below.0) in
-    subst (λ found. AllByRecursion (Differs k) (setting_keys found)) (ok_same more.rest) (here, below_settings k ms more.value below.1 more.first))
+    subst (λ found. AllByRecursion (Differs k) (setting_keys found)) (ok_same more.rest)
+    (here, below_settings k ms more.value below.1 more.first))
 
 settings_of-ok : (ms : Members) (settings : List Sysctl) → AreAscending ms → settings_of ms ≡ Ok settings
     → AreSettings settings
 unfolding IsDistinct IsStrictlySortedBy
-settings_of-ok no_members settings order is = subst AreSettings (ok_same is) (record { network = All-nil IsNetworkSetting; once = tt })
+settings_of-ok no_members settings order is =
+    subst AreSettings (ok_same is) (record { network = All-nil IsNetworkSetting; once = tt })
 settings_of-ok (member k d ms) settings order is =
     by_outcome (is_null d) _ _ _ is (λ null same. settings_of-ok ms settings order.1 same) (λ there same.
     let one = goes (read_setting_of k d) _ settings same in
     let more = goes (settings_of ms) _ settings one.rest in
     let setting = read_setting_of-ok k d one.value one.first in
     let others = settings_of-ok ms more.value order.1 more.first in
-    let differs : AllByRecursion (Differs one.value.key) (setting_keys more.value) = subst (λ l. AllByRecursion (Differs l) (setting_keys more.value)) (sym setting.0) (below_settings k ms more.value order.0 more.first) in
+    let differs : AllByRecursion (Differs one.value.key) (setting_keys more.value) =
+    subst (λ l. AllByRecursion (Differs l) (setting_keys more.value)) (sym setting.0)
+    (below_settings k ms more.value order.0 more.first) in
     subst AreSettings (ok_same more.rest) (record {
       network = All-cons IsNetworkSetting one.value more.value setting.1 others.network;
       once = (differs, others.once);
@@ -102,7 +108,9 @@ sysctl_of-ok (Some (object ms)) settings order is = settings_of-ok ms settings (
 
 sysctl_at-ok : (d : Data) (settings : List Sysctl) → KeysAscend d → sysctl_at d ≡ Ok settings → AreSettings settings
 unfolding sysctl_at
-sysctl_at-ok d settings order is = sysctl_of-ok (member_at (codes "sysctl") d) settings (λ e there. get-everywhere HasAscendingKeys (codes "sysctl") d e order (member_at-found (get (codes "sysctl") d) e there)) is
+sysctl_at-ok d settings order is =
+    sysctl_of-ok (member_at (codes "sysctl") d) settings (λ e there.
+    get-everywhere HasAscendingKeys (codes "sysctl") d e order (member_at-found (get (codes "sysctl") d) e there)) is
 
 -- ---- numbers
 
@@ -146,7 +154,8 @@ queue_length_of-ok (Here n) found fits is = subst (λ o. IfSome o HasWord) (ok_s
 
 queue_length_at-ok : (d : Data) (found : Option ℕ) → queue_length_at d ≡ Ok found → IfSome found HasWord
 unfolding queue_length_at
-queue_length_at-ok d found is = queue_length_of-ok (u32_field (codes "txQLen") d) found (u32_of-fits (get (codes "txQLen") d)) is
+queue_length_at-ok d found is =
+    queue_length_of-ok (u32_field (codes "txQLen") d) found (u32_of-fits (get (codes "txQLen") d)) is
 
 pub tuning_at-ok : (d : Data) (conf : TuningConf) → KeysAscend d → tuning_at d ≡ Ok conf → IsWellFormedTuning conf
 unfolding tuning_at

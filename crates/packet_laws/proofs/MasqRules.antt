@@ -1,4 +1,5 @@
--- What the rules of Masq of one attachment say of a packet: the first of its addresses that the packet comes from decides.
+-- What the rules of Masq of one attachment say of a packet: the first of its addresses that the packet comes from
+-- decides.
 use Rattle.packet_laws.proofs.Names.{◌≡◌, Bool, true, false, not, List, [], ◌∷◌, Option, Some, refl, sym, ◌∙◌, ap, ap₂}
 use Rattle.packet_laws.proofs.Names.{and_parts, option_map_or, ◌&&◌, find, flat_map, if◌then◌else◌, contains, Addr}
 use Rattle.packet_laws.proofs.Names.{addr_eq, rule_eq, Given, Att, Rule, matches_in, IsPacket, Packet, masquerade_of}

@@ -1,5 +1,5 @@
--- A settled host: of each attachment it has nothing, or all that its cached result wants. What the rules mean for packets
--- follows from that alone.
+-- A settled host: of each attachment it has nothing, or all that its cached result wants. What the rules mean for
+-- packets follows from that alone.
 use Rattle.packet_laws.proofs.Names.{◌≡◌, Bool, true, false, List, [], ◌∷◌, Some, refl, inl, inr, arith, none-some}
 use Rattle.packet_laws.proofs.Names.{same_Some, list_any, option_map, find, if◌then◌else◌, IsAmong, Cached, PortMapping}
 use Rattle.packet_laws.proofs.Names.{takes_mappings, addresses_of_result, AreCandidates, cached_in, is_own, Att}

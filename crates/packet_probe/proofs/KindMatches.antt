@@ -49,7 +49,8 @@ by_network true true true true d rest = refl
 
 -- what the kind tests first, and then the values
 by_kind : (ch f g l w e s d q u : Bool)
-    → (ch && ((f && s) && (((g && w) && d) && (l && (u && (q && e)))))) ≡ ((ch && ((f && (g && l)) && (w && e))) && (s && (d && (q && u))))
+    → (ch && ((f && s) && (((g && w) && d) && (l && (u && (q && e))))))
+    ≡ ((ch && ((f && (g && l)) && (w && e))) && (s && (d && (q && u))))
 by_kind false f g l w e s d q u = refl
 by_kind true false g l w e s d q u = refl
 by_kind true true g l w e s d q u = within g l w e s d q u
@@ -60,9 +61,11 @@ by_kind true true g l w e s d q u = within g l w e s d q u
         turned : (u && (q && true)) ≡ (q && u)
         turned = ap (λ (b : Bool). u && b) (and_true q) ∙ and_comm u q
     last false s d q u =
-        and_right s (d && (u && (q && false))) (and_right d (u && (q && false)) (and_right u (q && false) (and_right q false refl)))
+        and_right s (d && (u && (q && false)))
+        (and_right d (u && (q && false)) (and_right u (q && false) (and_right q false refl)))
 
-    within : (g l w e s d q u : Bool) → (s && (((g && w) && d) && (l && (u && (q && e))))) ≡ (((g && l) && (w && e)) && (s && (d && (q && u))))
+    within : (g l w e s d q u : Bool)
+        → (s && (((g && w) && d) && (l && (u && (q && e))))) ≡ (((g && l) && (w && e)) && (s && (d && (q && u))))
     within false l w e s d q u = and_right s false refl
     within true false false e s d q u = and_right s false refl
     within true true false e s d q u = and_right s false refl
@@ -77,7 +80,9 @@ alike false u v same = refl
 
 -- a network that the packet must come from
 src-part : (network : Option Cidr) (a : Addr) (f : Family) → a.family ≡ f
-    → (asks (is_of_family f) network && asks (is_from a) network) ≡ (asks (λ (at : Prefix). at.family == family_code f) (prefix_of network) && bits_of network == bits_at (prefix_of network) a)
+    → (asks (is_of_family f) network && asks (is_from a) network)
+    ≡ (asks (λ (at : Prefix). at.family == family_code f) (prefix_of network)
+    && bits_of network == bits_at (prefix_of network) a)
 src-part None a f same = refl
 src-part (Some c) a f same =
     alike (family_eq c.addr.family f) (contains c a) (network_bits c == first_bits a c.prefix)
@@ -86,13 +91,15 @@ src-part (Some c) a f same =
 -- a network that it must go to, or must not go to
 dst-part : (turned : Bool) (network : Option Cidr) (a : Addr)
     → (asks (is_of_family a.family) network && asks (is_to turned a) network)
-    ≡ ((asks (λ (at : Prefix). at.family == family_code a.family) (prefix_of (if turned then None else network)) && asks (is_past a) (network_in_numbers (if turned then network else None)))
+    ≡ ((asks (λ (at : Prefix). at.family == family_code a.family) (prefix_of (if turned then None else network))
+    && asks (is_past a) (network_in_numbers (if turned then network else None)))
     && bits_of (if turned then None else network) == bits_at (prefix_of (if turned then None else network)) a)
 dst-part false None a = refl
 dst-part false (Some c) a =
     alike (family_eq c.addr.family a.family) (contains c a) (network_bits c == first_bits a c.prefix)
     (λ one. contains-first_bits c a (family_eq-true c.addr.family a.family one))
-    ∙ ap (λ (b : Bool). b && network_bits c == first_bits a c.prefix) (sym (and_true (family_eq c.addr.family a.family)))
+    ∙ ap (λ (b : Bool). b && network_bits c == first_bits a c.prefix)
+    (sym (and_true (family_eq c.addr.family a.family)))
 dst-part true None a = refl
 dst-part true (Some c) a =
     alike (family_eq c.addr.family a.family) (not (contains c a)) (not (network_bits c == first_bits a c.prefix))
@@ -108,7 +115,8 @@ target-part f targets.Masquerade = refl
 target-part f (targets.Dnat addr port) = refl
 
 protocol-part : (q : Proto) (protocol : Option Proto)
-    → asks (proto_eq q) protocol ≡ (option_map_or proto_code protocol 0 == (if is_some protocol then proto_code q else 0))
+    → asks (proto_eq q) protocol
+    ≡ (option_map_or proto_code protocol 0 == (if is_some protocol then proto_code q else 0))
 protocol-part q None = refl
 protocol-part q (Some r) = nat_eq_equiv.symm (proto_code q) (proto_code r)
 
@@ -130,8 +138,15 @@ matches_in-kind chain p r same =
     let led = target-part family r.target in
     let protocol = protocol-part p.protocol r.protocol in
     let port = port-part p.dport r.dport in
-    ap (λ (b : Bool). ch && b) (by_network (asks (is_of_family family) r.src) (asks (is_of_family family) r.dst) (leads_into family r.target) (asks (is_from p.src) r.src) (asks (is_to r.not_dst p.dst) r.dst) (asks (proto_eq p.protocol) r.protocol && (asks (λ (m : ℕ). p.dport == m) r.dport && stands)))
+    ap (λ (b : Bool). ch && b) (by_network (asks (is_of_family family) r.src) (asks (is_of_family family) r.dst)
+    (leads_into family r.target) (asks (is_from p.src) r.src) (asks (is_to r.not_dst p.dst) r.dst)
+    (asks (proto_eq p.protocol) r.protocol && (asks (λ (m : ℕ). p.dport == m) r.dport && stands)))
     ∙ (λ i. ch && (src i && (dst i && (led i && (protocol i && (port i && stands))))))
-    ∙ by_kind ch (asks (λ (at : Prefix). at.family == family_code family) (prefix_of r.src)) (asks (λ (at : Prefix). at.family == family_code family) (prefix_of (inside r))) (asks (λ (led : ℕ). led == family_code family) (target_family r.target)) (asks (is_past p.dst) (network_in_numbers (outside r))) stands
-    (bits_of r.src == bits_at (prefix_of r.src) p.src) (bits_of (inside r) == bits_at (prefix_of (inside r)) p.dst) (unwrap_or r.dport 0 == (if is_some r.dport then p.dport else 0)) (option_map_or proto_code r.protocol 0 == (if is_some r.protocol then proto_code p.protocol else 0))
+    ∙ by_kind ch (asks (λ (at : Prefix). at.family == family_code family) (prefix_of r.src))
+    (asks (λ (at : Prefix). at.family == family_code family) (prefix_of (inside r)))
+    (asks (λ (led : ℕ). led == family_code family) (target_family r.target))
+    (asks (is_past p.dst) (network_in_numbers (outside r))) stands
+    (bits_of r.src == bits_at (prefix_of r.src) p.src) (bits_of (inside r) == bits_at (prefix_of (inside r)) p.dst)
+    (unwrap_or r.dport 0 == (if is_some r.dport then p.dport else 0))
+    (option_map_or proto_code r.protocol 0 == (if is_some r.protocol then proto_code p.protocol else 0))
     ∙ ap (λ (b : Bool). admits chain (kind_of r) p && b) (values-tied (values_of r) (values_at (kind_of r) p))

@@ -104,10 +104,12 @@ option-itself R itself None = refl
 option-itself R itself (Some k) = itself k
 
 prefix-itself : (k : Prefix) → prefix_cmp k k ≡ Equal
-prefix-itself k = then-itself (nat_cmp k.family k.family) (nat_cmp k.length k.length) (nat-itself k.family) (nat-itself k.length)
+prefix-itself k =
+    then-itself (nat_cmp k.family k.family) (nat_cmp k.length k.length) (nat-itself k.family) (nat-itself k.length)
 
 network-itself : (k : Network) → network_cmp k k ≡ Equal
-network-itself k = then-itself (nat_cmp k.bits k.bits) (prefix_cmp k.prefix k.prefix) (nat-itself k.bits) (prefix-itself k.prefix)
+network-itself k =
+    then-itself (nat_cmp k.bits k.bits) (prefix_cmp k.prefix k.prefix) (nat-itself k.bits) (prefix-itself k.prefix)
 
 pub kind-itself : (k : Kind) → kind_cmp k k ≡ Equal
 kind-itself k =
@@ -124,6 +126,9 @@ kind-itself k =
 pub values-tied : (x y : Values)
     → (x.src == y.src && (x.dst == y.dst && (x.dport == y.dport && x.protocol == y.protocol))) ≡ is_eq (values_cmp x y)
 values-tied x y =
-    both_tied (x.src == y.src) (x.dst == y.dst && (x.dport == y.dport && x.protocol == y.protocol)) (nat_cmp x.src y.src) _ (unsigned_ties x.src y.src)
-    (both_tied (x.dst == y.dst) (x.dport == y.dport && x.protocol == y.protocol) (nat_cmp x.dst y.dst) _ (unsigned_ties x.dst y.dst)
-    (both_tied (x.dport == y.dport) (x.protocol == y.protocol) (nat_cmp x.dport y.dport) (nat_cmp x.protocol y.protocol) (unsigned_ties x.dport y.dport) (unsigned_ties x.protocol y.protocol)))
+    both_tied (x.src == y.src) (x.dst == y.dst && (x.dport == y.dport && x.protocol == y.protocol))
+    (nat_cmp x.src y.src) _ (unsigned_ties x.src y.src)
+    (both_tied (x.dst == y.dst) (x.dport == y.dport && x.protocol == y.protocol) (nat_cmp x.dst y.dst) _
+    (unsigned_ties x.dst y.dst)
+    (both_tied (x.dport == y.dport) (x.protocol == y.protocol) (nat_cmp x.dport y.dport) (nat_cmp x.protocol y.protocol)
+    (unsigned_ties x.dport y.dport) (unsigned_ties x.protocol y.protocol)))

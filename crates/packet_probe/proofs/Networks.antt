@@ -42,7 +42,9 @@ inside-start : (c : Cidr) (a : Addr) → c.addr.family ≡ a.family → contains
     → network_bits c ≡ first_bits a c.prefix
 unfolding contains
 inside-start c a same inside =
-    let row : a.bits / network_size c ≡ c.addr.bits / network_size c = eqb-true (a.bits / network_size c) (c.addr.bits / network_size c) (and_parts (family_eq c.addr.family a.family) (a.bits / network_size c == c.addr.bits / network_size c) inside).1 in
+    let row : a.bits / network_size c ≡ c.addr.bits / network_size c =
+    eqb-true (a.bits / network_size c) (c.addr.bits / network_size c)
+    (and_parts (family_eq c.addr.family a.family) (a.bits / network_size c == c.addr.bits / network_size c) inside).1 in
     same_start c.addr.bits a.bits (network_size c) (pow_pos (longest_prefix c.addr.family - c.prefix)) (sym row)
     ∙ ap (λ (s : ℕ). a.bits - a.bits % s) (size-same c a same)
 
@@ -50,9 +52,13 @@ start-inside : (c : Cidr) (a : Addr) → c.addr.family ≡ a.family → network_
     → contains c a ≡ true
 unfolding network_of last_of
 start-inside c a same starts =
-    let start : network_bits c ≡ a.bits - a.bits % network_size c = starts ∙ ap (λ (s : ℕ). a.bits - a.bits % s) (sym (size-same c a same)) in
-    (contains_between c a).1
-    (same, above_start (network_bits c) a.bits (network_size c) start, below_end (network_bits c) a.bits (network_size c) (pow_pos (longest_prefix c.addr.family - c.prefix)) start)
+    let start : network_bits c ≡ a.bits - a.bits % network_size c =
+    starts ∙ ap (λ (s : ℕ). a.bits - a.bits % s) (sym (size-same c a same)) in
+    (contains_between c a).1 (
+      same,
+      above_start (network_bits c) a.bits (network_size c) start,
+      below_end (network_bits c) a.bits (network_size c) (pow_pos (longest_prefix c.addr.family - c.prefix)) start,
+    )
 
 -- the address is in the network where its own, at this prefix, begins where the network does
 pub contains-first_bits : (c : Cidr) (a : Addr) → c.addr.family ≡ a.family

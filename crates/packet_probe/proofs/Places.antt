@@ -26,7 +26,9 @@ either-step false false m n k least = omega arith
 pub place-either : {X : Type 0} (p q : X → Bool) (xs : List X)
     → position_or_len (λ x. p x || q x) xs ≡ min (position_or_len p xs) (position_or_len q xs)
 place-either p q [] = refl
-place-either p q (x ∷ xs) = either-step (p x) (q x) (position_or_len p xs) (position_or_len q xs) (position_or_len (λ y. p y || q y) xs) (place-either p q xs)
+place-either p q (x ∷ xs) =
+    either-step (p x) (q x) (position_or_len p xs) (position_or_len q xs) (position_or_len (λ y. p y || q y) xs)
+    (place-either p q xs)
 
 pub place-none : {X : Type 0} (xs : List X) → position_or_len (λ (x : X). false) xs ≡ length xs
 place-none [] = refl
@@ -52,7 +54,8 @@ unwrapped false n l is within = let past : l ≤ n = ltb-false n l is in omega a
 
 pub unwrap_or-position : {X : Type 0} (p : X → Bool) (xs : List X)
     → unwrap_or (position p xs) (length xs) ≡ position_or_len p xs
-unwrap_or-position p xs = unwrapped (nat_lt (position_or_len p xs) (length xs)) (position_or_len p xs) (length xs) refl (place-bound p xs)
+unwrap_or-position p xs =
+    unwrapped (nat_lt (position_or_len p xs) (length xs)) (position_or_len p xs) (length xs) refl (place-bound p xs)
 
 push-step : (b : Bool) (i : ℕ) (more o w : Option ℕ) → more ≡ (if is_some o then o else w)
     → cond b (Some i) more ≡ (if is_some (cond b (Some i) o) then cond b (Some i) o else w)
@@ -60,21 +63,26 @@ push-step true i more o w is = refl
 push-step false i more o w is = is
 
 from-push : {X : Type 0} (p : X → Bool) (i : ℕ) (xs : List X) (y : X)
-    → position_from p i (xs ++ y ∷ []) ≡ (if is_some (position_from p i xs) then position_from p i xs else if p y then Some (i + length xs) else None)
+    → position_from p i (xs ++ y ∷ [])
+    ≡ (if is_some (position_from p i xs) then position_from p i xs else if p y then Some (i + length xs) else None)
 from-push p i [] y = let start : i ≡ i + 0 = omega arith in ap (λ (k : ℕ). if p y then Some k else None) start
 from-push p i (x ∷ xs) y =
     let on : (i + 1) + length xs ≡ i + suc (length xs) = omega arith in
-    push-step (p x) i (position_from p (i + 1) (xs ++ y ∷ [])) (position_from p (i + 1) xs) (if p y then Some (i + suc (length xs)) else None)
+    push-step (p x) i (position_from p (i + 1) (xs ++ y ∷ [])) (position_from p (i + 1) xs)
+    (if p y then Some (i + suc (length xs)) else None)
     (from-push p (i + 1) xs y
-    ∙ ap (λ (k : ℕ). if is_some (position_from p (i + 1) xs) then position_from p (i + 1) xs else if p y then Some k else None) on)
+    ∙ ap (λ (k : ℕ).
+    if is_some (position_from p (i + 1) xs) then position_from p (i + 1) xs else if p y then Some k else None) on)
 
 -- one more at the end is the first where none passed
 pub position-push : {X : Type 0} (p : X → Bool) (xs : List X) (y : X)
-    → position p (xs ++ y ∷ []) ≡ (if is_some (position p xs) then position p xs else if p y then Some (length xs) else None)
+    → position p (xs ++ y ∷ [])
+    ≡ (if is_some (position p xs) then position p xs else if p y then Some (length xs) else None)
 position-push p xs y =
     let start : 0 + length xs ≡ length xs = omega arith in
     position_from-zero p (xs ++ y ∷ []) ∙ from-push p 0 xs y
-    ∙ ap₂ (λ (o : Option ℕ) (k : ℕ). if is_some o then o else if p y then Some k else None) (sym (position_from-zero p xs)) start
+    ∙ ap₂ (λ (o : Option ℕ) (k : ℕ). if is_some o then o else if p y then Some k else None)
+    (sym (position_from-zero p xs)) start
 
 -- ---- the least of several places
 

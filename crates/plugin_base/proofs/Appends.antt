@@ -21,12 +21,14 @@ share-applied : (att : Att) (host : Host) (calls : List Call) → list_all (is_p
 share-applied att host [] own done = refl
 share-applied att host (c ∷ cs) own done =
     let both = and_parts (is_plugin_call_of att c) (list_all (is_plugin_call_of att) cs) own in
-    share-applied att (apply host c).0 cs both.1 done.1 ∙ ap (λ s. share_after_calls s cs) (share-own att host c both.0 done.0)
+    share-applied att (apply host c).0 cs both.1 done.1
+    ∙ ap (λ s. share_after_calls s cs) (share-own att host c both.0 done.0)
 
 -- calls of the attachment that add this share to every share append it in every host
 pub appends-share : (att : Att) (calls : List Call) (share : Share) → list_all (is_plugin_call_of att) calls ≡ true
     → ((s : Share) → share_after_calls s calls ≡ share_plus s share) → AppendsShare att calls share
-appends-share att calls share own adds = λ host sound done. share-applied att host calls own done ∙ adds (share_of att host)
+appends-share att calls share own adds =
+    λ host sound done. share-applied att host calls own done ∙ adds (share_of att host)
 
 -- ---- rules
 
@@ -42,16 +44,20 @@ own-masquerades ip_masq att given =
 
 pub firsts_append : FirstsAppendTheirShares
 firsts_append p laws att netns given = (
-  appends-share att (p.calls_before att netns) (added_before p att netns) (laws.before att netns).own (laws.adds_before att netns),
-  appends-share att (p.calls_after att netns given) (added_after p att netns given) (laws.after att netns given).own (laws.adds_after att netns given),
+  appends-share att (p.calls_before att netns) (added_before p att netns) (laws.before att netns).own
+      (laws.adds_before att netns),
+  appends-share att (p.calls_after att netns given) (added_after p att netns given) (laws.after att netns given).own
+      (laws.adds_after att netns given),
 )
 
 pub chained_change : ChainedChangeTheirShares
 chained_change p laws att netns mappings ips host sound done =
-    share-applied att host (p.calls att netns mappings ips) (laws.calls att netns mappings ips).own done ∙ laws.adds att netns mappings ips (share_of att host)
+    share-applied att host (p.calls att netns mappings ips) (laws.calls att netns mappings ips).own done
+    ∙ laws.adds att netns mappings ips (share_of att host)
 
 -- addresses, routes, calls that add nothing, and rules
-pub share-laid_on : (s : Share) (addresses : List AddrObj) (routes : List RouteObj) (shared : List Call) (rules : List Rule)
+pub share-laid_on : (s : Share) (addresses : List AddrObj) (routes : List RouteObj) (shared : List Call)
+    (rules : List Rule)
     → ((t : Share) → share_after_calls t shared ≡ t)
     → share_after_calls s (map AddrAdd addresses ++ (map RouteAdd routes ++ (shared ++ map RuleAppend rules)))
     ≡ record s { addresses = s.addresses ++ addresses; routes = s.routes ++ routes; rules = s.rules ++ rules }
@@ -59,6 +65,8 @@ share-laid_on s addresses routes shared rules adds_none =
     let with_as : Share = record s { addresses = s.addresses ++ addresses } in
     let with_rs : Share = record with_as { routes = s.routes ++ routes } in
     let with_all : Share = record with_rs { rules = s.rules ++ rules } in
-    share_after_calls-then s with_as with_all (map AddrAdd addresses) (map RouteAdd routes ++ (shared ++ map RuleAppend rules)) (share_after_calls-addresses s addresses)
-    (share_after_calls-then with_as with_rs with_all (map RouteAdd routes) (shared ++ map RuleAppend rules) (share_after_calls-routes with_as routes)
+    share_after_calls-then s with_as with_all (map AddrAdd addresses)
+    (map RouteAdd routes ++ (shared ++ map RuleAppend rules)) (share_after_calls-addresses s addresses)
+    (share_after_calls-then with_as with_rs with_all (map RouteAdd routes) (shared ++ map RuleAppend rules)
+    (share_after_calls-routes with_as routes)
     (share_after_calls-shared_rules with_rs shared rules adds_none))

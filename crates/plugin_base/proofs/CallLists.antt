@@ -16,7 +16,8 @@ share_after_calls-append s xs ys = fold-append share_after_call s xs ys
 -- what the first calls make of it, and then the others
 pub share_after_calls-then : (s t u : Share) (xs ys : List Call) → share_after_calls s xs ≡ t
     → share_after_calls t ys ≡ u → share_after_calls s (xs ++ ys) ≡ u
-share_after_calls-then s t u xs ys first rest = share_after_calls-append s xs ys ∙ ap (λ v. share_after_calls v ys) first ∙ rest
+share_after_calls-then s t u xs ys first rest =
+    share_after_calls-append s xs ys ∙ ap (λ v. share_after_calls v ys) first ∙ rest
 
 -- calls that each put their object at the end of one list put all there
 share_after_calls-each : {X : Type 0} (call_for : X → Call) (with_list : List X → Share)
@@ -24,23 +25,28 @@ share_after_calls-each : {X : Type 0} (call_for : X → Call) (with_list : List 
     → (old xs : List X) → share_after_calls (with_list old) (map call_for xs) ≡ with_list (old ++ xs)
 share_after_calls-each call_for with_list w old [] = ap with_list (sym (append-nil old))
 share_after_calls-each call_for with_list w old (x ∷ xs) =
-    ap (λ t. share_after_calls t (map call_for xs)) (w old x) ∙ share_after_calls-each call_for with_list w (old ++ x ∷ []) xs ∙ ap with_list (append_assoc old (x ∷ []) xs)
+    ap (λ t. share_after_calls t (map call_for xs)) (w old x)
+    ∙ share_after_calls-each call_for with_list w (old ++ x ∷ []) xs ∙ ap with_list (append_assoc old (x ∷ []) xs)
 
 pub share_after_calls-addresses : (s : Share) (xs : List AddrObj)
     → share_after_calls s (map AddrAdd xs) ≡ record s { addresses = s.addresses ++ xs }
-share_after_calls-addresses s xs = share_after_calls-each AddrAdd (λ l. record s { addresses = l }) (λ old x. refl) s.addresses xs
+share_after_calls-addresses s xs =
+    share_after_calls-each AddrAdd (λ l. record s { addresses = l }) (λ old x. refl) s.addresses xs
 
 pub share_after_calls-routes : (s : Share) (xs : List RouteObj)
     → share_after_calls s (map RouteAdd xs) ≡ record s { routes = s.routes ++ xs }
-share_after_calls-routes s xs = share_after_calls-each RouteAdd (λ l. record s { routes = l }) (λ old x. refl) s.routes xs
+share_after_calls-routes s xs =
+    share_after_calls-each RouteAdd (λ l. record s { routes = l }) (λ old x. refl) s.routes xs
 
 pub share_after_calls-rules : (s : Share) (xs : List Rule)
     → share_after_calls s (map RuleAppend xs) ≡ record s { rules = s.rules ++ xs }
-share_after_calls-rules s xs = share_after_calls-each RuleAppend (λ l. record s { rules = l }) (λ old x. refl) s.rules xs
+share_after_calls-rules s xs =
+    share_after_calls-each RuleAppend (λ l. record s { rules = l }) (λ old x. refl) s.rules xs
 
 pub share_after_calls-settings : (s : Share) (xs : List Setting)
     → share_after_calls s (map SettingSet xs) ≡ record s { settings = s.settings ++ xs }
-share_after_calls-settings s xs = share_after_calls-each SettingSet (λ l. record s { settings = l }) (λ old x. refl) s.settings xs
+share_after_calls-settings s xs =
+    share_after_calls-each SettingSet (λ l. record s { settings = l }) (λ old x. refl) s.settings xs
 
 pub share_after_calls-if : (s : Share) (b : Bool) (xs : List Call) → share_after_calls s xs ≡ s
     → share_after_calls s (if b then xs else []) ≡ s
@@ -58,14 +64,26 @@ pub share_after_calls-shared_rules : (s : Share) (shared : List Call) (rules : L
     → ((t : Share) → share_after_calls t shared ≡ t)
     → share_after_calls s (shared ++ map RuleAppend rules) ≡ record s { rules = s.rules ++ rules }
 share_after_calls-shared_rules s shared rules adds_none =
-    share_after_calls-then s s (record s { rules = s.rules ++ rules }) shared (map RuleAppend rules) (adds_none s) (share_after_calls-rules s rules)
+    share_after_calls-then s s (record s { rules = s.rules ++ rules }) shared (map RuleAppend rules) (adds_none s)
+    (share_after_calls-rules s rules)
 
 -- ---- shares
 
 pub share_plus-laid_on : (s : Share) (addresses : List AddrObj) (routes : List RouteObj) (rules : List Rule)
-    → share_plus s (record no_objects { addresses = addresses; routes = routes; rules = rules }) ≡ record s { addresses = s.addresses ++ addresses; routes = s.routes ++ routes; rules = s.rules ++ rules }
-share_plus-laid_on s addresses routes rules = rw (append-nil s.links, append-nil s.settings, append-nil s.leases, append-nil s.cached) refl
+    → share_plus s (record no_objects { addresses = addresses; routes = routes; rules = rules })
+    ≡ record s { addresses = s.addresses ++ addresses; routes = s.routes ++ routes; rules = s.rules ++ rules }
+share_plus-laid_on s addresses routes rules =
+    rw (append-nil s.links, append-nil s.settings, append-nil s.leases, append-nil s.cached) refl
 
 pub share_plus-links : (s : Share) (links : List Link)
     → share_plus s (record no_objects { links = links }) ≡ record s { links = s.links ++ links }
-share_plus-links s links = rw (append-nil s.addresses, append-nil s.routes, append-nil s.rules, append-nil s.settings, append-nil s.leases, append-nil s.cached) refl
+share_plus-links s links =
+    rw (
+      append-nil s.addresses,
+      append-nil s.routes,
+      append-nil s.rules,
+      append-nil s.settings,
+      append-nil s.leases,
+      append-nil s.cached,
+    )
+    refl

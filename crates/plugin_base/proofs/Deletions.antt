@@ -31,7 +31,8 @@ gone-none p xs h = let none = same_gone (list_any p xs) false h in (without_firs
 
 pub gone-links : (att : Att) (host : Host) (o : Option Link) → find (λ l. is_own att l.tag) host.links ≡ o
     → (without_link host o).1 ≡ Gone false → ((without_link host o).0 ≡ host) × ((share_of att host).links ≡ [])
-gone-links att host None is h = (refl, filter-none (λ l. is_own att l.tag) host.links (list_any-find_none (λ l. is_own att l.tag) host.links is))
+gone-links att host None is h =
+    (refl, filter-none (λ l. is_own att l.tag) host.links (list_any-find_none (λ l. is_own att l.tag) host.links is))
 gone-links att host (Some link) is h = absurd (true≢false (same_gone true false h))
 
 -- ---- where there is no link of the attachment, no_objects lies on one
@@ -50,20 +51,27 @@ unowned : (att : Att) (links : List Link) (ns name : List ℕ) (tag : Tag)
     → list_any (λ l. is_own att l.tag) links ≡ false
     → (is_own att tag ≡ true → list_any (is_link_of ns name (Own att)) links ≡ true) → is_own att tag ≡ false
 unowned att links ns name tag none lies =
-    by_bool (is_own att tag) (λ own. absurd (both_ways (list_any (is_link_of ns name (Own att)) links) (none_weaker att ns name links none) (lies own))) (λ f. f)
+    by_bool (is_own att tag)
+    (λ own.
+    absurd (both_ways (list_any (is_link_of ns name (Own att)) links) (none_weaker att ns name links none) (lies own)))
+    (λ f. f)
 
 addr_lies : (att : Att) (links : List Link) (a : AddrObj) → list_any (λ l. is_own att l.tag) links ≡ false
     → address_fits_tag links a a.tag ≡ true → is_own att a.tag ≡ false
-addr_lies att links a none lies = unowned att links a.ns a.link a.tag none (λ own. rw (is_own-one att a.tag own) at lies)
+addr_lies att links a none lies =
+    unowned att links a.ns a.link a.tag none (λ own. rw (is_own-one att a.tag own) at lies)
 
 route_lies : (att : Att) (links : List Link) (r : RouteObj) → list_any (λ l. is_own att l.tag) links ≡ false
     → list_any (is_link_of r.ns r.link r.tag) links ≡ true → is_own att r.tag ≡ false
-route_lies att links r none lies = unowned att links r.ns r.link r.tag none (λ own. rw (is_own-one att r.tag own) at lies)
+route_lies att links r none lies =
+    unowned att links r.ns r.link r.tag none (λ own. rw (is_own-one att r.tag own) at lies)
 
 pub no-links : (att : Att) (host : Host) → IsSound host → (share_of att host).links ≡ []
     → ((share_of att host).addresses ≡ []) × ((share_of att host).routes ≡ [])
 no-links att host sound none =
     let no = empty_none (λ l. is_own att l.tag) host.links none in (
-      filter_never (λ a. is_own att a.tag) (λ a. address_fits_tag host.links a a.tag) (λ a lies. addr_lies att host.links a no lies) host.addresses sound.addresses.on_links,
-      filter_never (λ r. is_own att r.tag) (λ r. list_any (is_link_of r.ns r.link r.tag) host.links) (λ r lies. route_lies att host.links r no lies) host.routes sound.routes.on_links,
+      filter_never (λ a. is_own att a.tag) (λ a. address_fits_tag host.links a a.tag)
+          (λ a lies. addr_lies att host.links a no lies) host.addresses sound.addresses.on_links,
+      filter_never (λ r. is_own att r.tag) (λ r. list_any (is_link_of r.ns r.link r.tag) host.links)
+          (λ r lies. route_lies att host.links r no lies) host.routes sound.routes.on_links,
     )

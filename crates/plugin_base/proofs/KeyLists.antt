@@ -3,7 +3,8 @@ use Rattle.std.proofs.Common.{◌≡◌, Bool, true, false, List, [], ◌∷◌,
 use Rattle.std.proofs.lemmas.{Bool.and_parts, List.Elements.filter-append}
 use Rattle.std.specs.{List.{list_any, list_all}, Prelude.{filter, flat_map, if◌then◌else◌}}
 pub use Rattle.cni_addr.proofs.Lists.{filter-push_dropped, list_all-append}
-pub use Rattle.cni_addr.proofs.KeyLists.{distinct-each_key_once, length-each_key_once, list_all-each_key_once, list_any-each_key_once}
+pub use Rattle.cni_addr.proofs.KeyLists.{distinct-each_key_once, length-each_key_once, list_all-each_key_once}
+pub use Rattle.cni_addr.proofs.KeyLists.{list_any-each_key_once}
 
 pub filter-push_kept : {X : Type 0} (p : X → Bool) (xs : List X) (y : X) → p y ≡ true
     → filter p (xs ++ y ∷ []) ≡ filter p xs ++ y ∷ []

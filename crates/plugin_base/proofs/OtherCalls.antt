@@ -12,7 +12,8 @@ use Rattle.plugin_base.specs.{Calls.{is_beside_plugins, is_plugin_call_of, is_ca
 
 -- the same objects of the attachment are the same share
 pub share-KeepsPart : (att : Att) (old new : Host) → KeepsPart att old new → share_of att new ≡ share_of att old
-share-KeepsPart att old new keeps = rw (keeps.links, keeps.addresses, keeps.routes, keeps.rules, keeps.settings, keeps.leases, keeps.cached) refl
+share-KeepsPart att old new keeps =
+    rw (keeps.links, keeps.addresses, keeps.routes, keeps.rules, keeps.settings, keeps.leases, keeps.cached) refl
 
 -- a call of this attachment names no other, and it doesn't come from outside
 pub record IsApart (other : Att) (call : Call) : Type 0 where
@@ -28,14 +29,24 @@ call-apart att other (Begin a netns) differ is = record { inside = refl; unnamed
 call-apart att other (BridgeEnsure name mtu promisc) differ is = record { inside = refl; unnamed = refl }
 call-apart att other (GatewayEnsure bridge cidr) differ is = record { inside = refl; unnamed = refl }
 call-apart att other (ForwardEnsure family) differ is = record { inside = refl; unnamed = refl }
-call-apart att other (VethAdd h i) differ is = record { inside = refl; unnamed = ap (λ b. b && is_own other i.tag) (own_apart att other differ h.tag (and_parts (is_own att h.tag) (is_own att i.tag) is).0) }
-call-apart att other (MacvlanAdd link) differ is = record { inside = refl; unnamed = own_apart att other differ link.tag is }
-call-apart att other (LinkSet a key mac mtu tx_qlen promisc allmulti) differ is = record { inside = refl; unnamed = apart_att att other a differ is }
+call-apart att other (VethAdd h i) differ is = record {
+  inside = refl;
+  unnamed = ap (λ b. b && is_own other i.tag)
+      (own_apart att other differ h.tag (and_parts (is_own att h.tag) (is_own att i.tag) is).0);
+}
+call-apart att other (MacvlanAdd link) differ is =
+    record { inside = refl; unnamed = own_apart att other differ link.tag is }
+call-apart att other (LinkSet a key mac mtu tx_qlen promisc allmulti) differ is =
+    record { inside = refl; unnamed = apart_att att other a differ is }
 call-apart att other (AddrAdd obj) differ is = record { inside = refl; unnamed = own_apart att other differ obj.tag is }
-call-apart att other (RouteAdd obj) differ is = record { inside = refl; unnamed = own_apart att other differ obj.tag is }
-call-apart att other (RuleAppend rule) differ is = record { inside = refl; unnamed = own_apart att other differ rule.tag is }
-call-apart att other (SettingSet setting) differ is = record { inside = refl; unnamed = own_apart att other differ setting.tag is }
-call-apart att other (LeaseNext a number set) differ is = record { inside = refl; unnamed = apart_att att other a differ is }
+call-apart att other (RouteAdd obj) differ is =
+    record { inside = refl; unnamed = own_apart att other differ obj.tag is }
+call-apart att other (RuleAppend rule) differ is =
+    record { inside = refl; unnamed = own_apart att other differ rule.tag is }
+call-apart att other (SettingSet setting) differ is =
+    record { inside = refl; unnamed = own_apart att other differ setting.tag is }
+call-apart att other (LeaseNext a number set) differ is =
+    record { inside = refl; unnamed = apart_att att other a differ is }
 call-apart att other (CachePut a cached) differ is = record { inside = refl; unnamed = apart_att att other a differ is }
 call-apart att other (LinkDel a) differ is = record { inside = refl; unnamed = apart_att att other a differ is }
 call-apart att other (RuleDel a) differ is = record { inside = refl; unnamed = apart_att att other a differ is }
@@ -50,7 +61,8 @@ pub share-other : (att other : Att) (host : Host) (call : Call) → att_eq att o
     → IsAllowed host call → is_call_of att call ≡ true → share_of other (apply host call).0 ≡ share_of other host
 share-other att other host call differ sound allowed is =
     let apart = call-apart att other call differ is in
-    share-KeepsPart other host (apply host call).0 (KeepsPart-Touches call other host (apply host call).0 allowed apart.inside apart.unnamed (Touches-apply host call sound allowed))
+    share-KeepsPart other host (apply host call).0 (KeepsPart-Touches call other host
+    (apply host call).0 allowed apart.inside apart.unnamed (Touches-apply host call sound allowed))
 
 -- a plugin's call is one of the attachment
 pub call-plugin : (att : Att) (call : Call) → is_plugin_call_of att call ≡ true → is_call_of att call ≡ true

@@ -29,7 +29,8 @@ use Rattle.plugin_base.proofs.KeyLists.{list_all-every, list_all-if, list_all-ma
 -- by the kinds, the links and the bridge of its plugin
 abbrev pub fits : List Kind → List Link → Option (List ℕ) → Att → List ℕ → Call → Bool
 fits ks links bridge att netns call =
-    is_plugin_call_of att call && (is_later_call netns call && (is_of_kinds ks call && (stands_on links bridge call && not (changes_links call))))
+    is_plugin_call_of att call
+    && (is_later_call netns call && (is_of_kinds ks call && (stands_on links bridge call && not (changes_links call))))
 
 five : (a b c d e : Bool) → (a && (b && (c && (d && e)))) ≡ true
     → (a ≡ true) × ((b ≡ true) × ((c ≡ true) × ((d ≡ true) × (e ≡ true))))
@@ -41,8 +42,12 @@ five a b c d e h =
 
 parts : (ks : List Kind) (links : List Link) (bridge : Option (List ℕ)) (att : Att) (netns : List ℕ) (call : Call)
     → fits ks links bridge att netns call ≡ true
-    → (is_plugin_call_of att call ≡ true) × ((is_later_call netns call ≡ true) × ((is_of_kinds ks call ≡ true) × ((stands_on links bridge call ≡ true) × (not (changes_links call) ≡ true))))
-parts ks links bridge att netns call h = five (is_plugin_call_of att call) (is_later_call netns call) (is_of_kinds ks call) (stands_on links bridge call) (not (changes_links call)) h
+    → (is_plugin_call_of att call ≡ true)
+    × ((is_later_call netns call ≡ true)
+    × ((is_of_kinds ks call ≡ true) × ((stands_on links bridge call ≡ true) × (not (changes_links call) ≡ true))))
+parts ks links bridge att netns call h =
+    five (is_plugin_call_of att call) (is_later_call netns call) (is_of_kinds ks call) (stands_on links bridge call)
+    (not (changes_links call)) h
 
 pub calls-after : (p : FirstPlugin) (att : Att) (netns : List ℕ) (given : List Given)
     → list_all (fits p.kinds (p.links att netns) p.bridge att netns) (p.calls_after att netns given) ≡ true
@@ -56,18 +61,24 @@ calls-after p att netns given h =
       own = list_all-weaker all (is_plugin_call_of att) (λ c t. (parts ks links p.bridge att netns c t).0) calls h;
       later = list_all-weaker all (is_later_call netns) (λ c t. (parts ks links p.bridge att netns c t).1.0) calls h;
       of_kinds = list_all-weaker all (is_of_kinds ks) (λ c t. (parts ks links p.bridge att netns c t).1.1.0) calls h;
-      stand = list_all-weaker all (stands_on links p.bridge) (λ c t. (parts ks links p.bridge att netns c t).1.1.1.0) calls h;
-      set_none = none-by all changes_links (λ c t. not-true (changes_links c) (parts ks links p.bridge att netns c t).1.1.1.1) calls h;
+      stand =
+          list_all-weaker all (stands_on links p.bridge) (λ c t. (parts ks links p.bridge att netns c t).1.1.1.0) calls
+          h;
+      set_none =
+          none-by all changes_links (λ c t. not-true (changes_links c) (parts ks links p.bridge att netns c t).1.1.1.1)
+          calls h;
     }
 
 -- ---- one call
 
-pub fits-address : (ks : List Kind) (links : List Link) (bridge : Option (List ℕ)) (att : Att) (netns : List ℕ) (key : LinkKey)
+pub fits-address : (ks : List Kind) (links : List Link) (bridge : Option (List ℕ)) (att : Att) (netns : List ℕ)
+    (key : LinkKey)
     → has_kind kinds.Links ks ≡ true → list_any (is_link_of key.ns key.name (Own att)) links ≡ true
     → (cidr : Cidr) → fits ks links bridge att netns (AddrAdd (address_at att key cidr)) ≡ true
 fits-address ks links bridge att netns key kind there cidr = grind (arith, att_eq-refl att, kind, there)
 
-pub fits-route : (ks : List Kind) (links : List Link) (bridge : Option (List ℕ)) (att : Att) (netns : List ℕ) (key : LinkKey)
+pub fits-route : (ks : List Kind) (links : List Link) (bridge : Option (List ℕ)) (att : Att) (netns : List ℕ)
+    (key : LinkKey)
     → has_kind kinds.Links ks ≡ true → list_any (is_link_of key.ns key.name (Own att)) links ≡ true
     → (dst : Cidr) (gw : Option Addr) → fits ks links bridge att netns (RouteAdd (route_at att key dst gw)) ≡ true
 fits-route ks links bridge att netns key kind there dst gw = grind (arith, att_eq-refl att, kind, there)
@@ -88,35 +99,48 @@ fits-gateway ks links bridge att netns name is cidr = grind (arith, is)
 pub passes-once : {X Y : Type 0} (p : Call → Bool) (call : Y → Call) (same : Y → Y → Bool) (f : X → Y)
     → ((x : X) → p (call (f x)) ≡ true) → (xs : List X) → list_all p (map call (each_key_once same (map f xs))) ≡ true
 passes-once p call same f w xs =
-    list_all-mapped p call (λ y. p (call y)) (λ y h. h) (each_key_once same (map f xs)) (list_all-each_key_once (λ y. p (call y)) same (map f xs) (list_all-every (λ y. p (call y)) f w xs))
+    list_all-mapped p call (λ y. p (call y)) (λ y h. h) (each_key_once same (map f xs))
+    (list_all-each_key_once (λ y. p (call y)) same (map f xs) (list_all-every (λ y. p (call y)) f w xs))
 
-pub fit-addresses : (ks : List Kind) (links : List Link) (bridge : Option (List ℕ)) (att : Att) (netns : List ℕ) (given : List Given)
+pub fit-addresses : (ks : List Kind) (links : List Link) (bridge : Option (List ℕ)) (att : Att) (netns : List ℕ)
+    (given : List Given)
     → has_kind kinds.Links ks ≡ true → has_inner att netns links ≡ true
     → list_all (fits ks links bridge att netns) (map AddrAdd (addresses_on att netns given)) ≡ true
 fit-addresses ks links bridge att netns given kind there =
-    passes-once (fits ks links bridge att netns) AddrAdd is_same_addr (address_on att netns) (λ g. fits-address ks links bridge att netns (inner_key att netns) kind there g.address) given
+    passes-once (fits ks links bridge att netns) AddrAdd is_same_addr (address_on att netns)
+    (λ g. fits-address ks links bridge att netns (inner_key att netns) kind there g.address) given
 
-pub fit-routes : (ks : List Kind) (links : List Link) (bridge : Option (List ℕ)) (att : Att) (netns : List ℕ) (given : List Given) (entries : List RouteEntry)
+pub fit-routes : (ks : List Kind) (links : List Link) (bridge : Option (List ℕ)) (att : Att) (netns : List ℕ)
+    (given : List Given) (entries : List RouteEntry)
     → has_kind kinds.Links ks ≡ true → has_inner att netns links ≡ true
     → list_all (fits ks links bridge att netns) (map RouteAdd (routes_on att netns given entries)) ≡ true
 fit-routes ks links bridge att netns given entries kind there =
-    passes-once (fits ks links bridge att netns) RouteAdd is_same_route (route_on att netns given) (λ r. fits-route ks links bridge att netns (inner_key att netns) kind there r.dst (gateway_for given r)) entries
+    passes-once (fits ks links bridge att netns) RouteAdd is_same_route (route_on att netns given)
+    (λ r. fits-route ks links bridge att netns (inner_key att netns) kind there r.dst (gateway_for given r)) entries
 
-pub fit-forward : (ks : List Kind) (links : List Link) (bridge : Option (List ℕ)) (att : Att) (netns : List ℕ) (given : List Given)
+pub fit-forward : (ks : List Kind) (links : List Link) (bridge : Option (List ℕ)) (att : Att) (netns : List ℕ)
+    (given : List Given)
     → list_all (fits ks links bridge att netns) (forward_calls given) ≡ true
 fit-forward ks links bridge att netns given =
     let p = fits ks links bridge att netns in
-    list_all-append p (forward_for V4 given) (forward_for V6 given) (list_all-if p (has_family V4 given) (ForwardEnsure V4 ∷ []) refl) (list_all-if p (has_family V6 given) (ForwardEnsure V6 ∷ []) refl)
+    list_all-append p (forward_for V4 given) (forward_for V6 given)
+    (list_all-if p (has_family V4 given) (ForwardEnsure V4 ∷ []) refl)
+    (list_all-if p (has_family V6 given) (ForwardEnsure V6 ∷ []) refl)
 
-fit-rules : (ks : List Kind) (links : List Link) (bridge : Option (List ℕ)) (att : Att) (netns : List ℕ) (rules : List Rule)
+fit-rules : (ks : List Kind) (links : List Link) (bridge : Option (List ℕ)) (att : Att) (netns : List ℕ)
+    (rules : List Rule)
     → has_kind kinds.Rules ks ≡ true → list_all (λ x. is_own att x.tag) rules ≡ true
     → list_all (fits ks links bridge att netns) (map RuleAppend rules) ≡ true
-fit-rules ks links bridge att netns rules kind own = list_all-mapped (fits ks links bridge att netns) RuleAppend (λ x. is_own att x.tag) (fits-rule ks links bridge att netns kind) rules own
+fit-rules ks links bridge att netns rules kind own =
+    list_all-mapped (fits ks links bridge att netns) RuleAppend (λ x. is_own att x.tag)
+    (fits-rule ks links bridge att netns kind) rules own
 
-pub fit-masquerades : (ks : List Kind) (links : List Link) (bridge : Option (List ℕ)) (att : Att) (netns : List ℕ) (given : List Given) (ip_masq : Bool)
+pub fit-masquerades : (ks : List Kind) (links : List Link) (bridge : Option (List ℕ)) (att : Att) (netns : List ℕ)
+    (given : List Given) (ip_masq : Bool)
     → (ip_masq ≡ true → has_kind kinds.Rules ks ≡ true)
     → list_all (fits ks links bridge att netns) (map RuleAppend (masquerade_rules ip_masq att given)) ≡ true
-fit-masquerades ks links bridge att netns given true kind = fit-rules ks links bridge att netns (masquerade_rules true att given) (kind refl) (own-masquerades true att given)
+fit-masquerades ks links bridge att netns given true kind =
+    fit-rules ks links bridge att netns (masquerade_rules true att given) (kind refl) (own-masquerades true att given)
 fit-masquerades ks links bridge att netns given false kind = refl
 
 -- ---- a chained plugin
@@ -140,18 +164,26 @@ none-every f w [] = refl
 none-every f w (x ∷ xs) = grind (arith, w x, none-every f w xs)
 
 -- one that appends rules alone
-pub rule-calls : (p : ChainedPlugin) (att : Att) (netns : List ℕ) (mappings : List PortMapping) (ips : List IpEntry) (rules : List Rule)
+pub rule-calls : (p : ChainedPlugin) (att : Att) (netns : List ℕ) (mappings : List PortMapping) (ips : List IpEntry)
+    (rules : List Rule)
     → p.calls att netns mappings ips ≡ map RuleAppend rules → has_kind kinds.Rules p.kinds ≡ true
     → list_all (λ x. is_own att x.tag) rules ≡ true → AreChainedCalls p att netns mappings ips
 rule-calls p att netns mappings ips rules is kind own =
-    let passes : (q : Call → Bool) → list_all q (map RuleAppend rules) ≡ true → list_all q (p.calls att netns mappings ips) ≡ true = λ q h. subst (λ calls. list_all q calls ≡ true) (sym is) h in
+    let passes : (q : Call → Bool) → list_all q (map RuleAppend rules) ≡ true
+    → list_all q (p.calls att netns mappings ips) ≡ true = λ q h. subst (λ calls. list_all q calls ≡ true) (sym is) h in
     let none : list_any changes_links (map RuleAppend rules) ≡ false = none-every RuleAppend (λ r. refl) rules in
     record {
-      own = passes (is_plugin_call_of att) (list_all-mapped (is_plugin_call_of att) RuleAppend (λ x. is_own att x.tag) (λ x o. o) rules own);
+      own =
+          passes (is_plugin_call_of att)
+          (list_all-mapped (is_plugin_call_of att) RuleAppend (λ x. is_own att x.tag) (λ x o. o) rules own);
       later = passes (is_later_call netns) (list_all-every (is_later_call netns) RuleAppend (λ r. refl) rules);
       of_kinds = passes (is_of_kinds p.kinds) (list_all-every (is_of_kinds p.kinds) RuleAppend (λ r. kind) rules);
-      stand = λ links there. passes (stands_on links None) (list_all-every (stands_on links None) RuleAppend (λ r. refl) rules);
-      set_once = subst (λ calls. set_links_once p.sets_links calls ≡ true) (sym is) (set-never p.sets_links (map RuleAppend rules) none);
+      stand =
+          λ links there.
+          passes (stands_on links None) (list_all-every (stands_on links None) RuleAppend (λ r. refl) rules);
+      set_once =
+          subst (λ calls. set_links_once p.sets_links calls ≡ true) (sym is)
+          (set-never p.sets_links (map RuleAppend rules) none);
     }
 
 -- ---- links
@@ -164,7 +196,9 @@ link-there ns name tag l a b t =
 -- the attachment has a link at a place where a link there has its tag
 pub own-at : (att : Att) (ns name : List ℕ) (links : List Link) → list_any (is_link_of ns name (Own att)) links ≡ true
     → list_any (is_own_at att (record { ns = ns; name = name })) links ≡ true
-own-at att ns name links h = list_any-weaker (is_link_of ns name (Own att)) (is_own_at att (record { ns = ns; name = name })) (λ l t. let e = tag_eq-own att l.tag in grind (arith, t, e)) links h
+own-at att ns name links h =
+    list_any-weaker (is_link_of ns name (Own att)) (is_own_at att (record { ns = ns; name = name }))
+    (λ l t. let e = tag_eq-own att l.tag in grind (arith, t, e)) links h
 
 -- ---- what follows: before the leases
 
@@ -189,7 +223,8 @@ one-as_many : (netns : List ℕ) (s : Share) (call : Call) → is_later_call net
     → length (share_after_call s call).links ≡ length s.links
 one-as_many netns s (VethAdd host_end inner_end) h = cc
 one-as_many netns s (MacvlanAdd link) h = cc
-one-as_many netns s (LinkSet att key mac mtu tx_qlen promisc allmulti) h = length-map s.links (set_link att key mac mtu tx_qlen promisc allmulti)
+one-as_many netns s (LinkSet att key mac mtu tx_qlen promisc allmulti) h =
+    length-map s.links (set_link att key mac mtu tx_qlen promisc allmulti)
 one-as_many netns s _ h = refl
 
 -- they leave the number of links

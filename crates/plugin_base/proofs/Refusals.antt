@@ -40,25 +40,33 @@ same-there false reply host next = λ no. absurd (no refl)
 -- a plugin's call that was not done leaves the host
 pub refused-same : (att : Att) (host : Host) (call : Call) → is_plugin_call_of att call ≡ true
     → Same host (apply host call)
-refused-same att host (BridgeEnsure name mtu promisc) is = same-bridge_or_new host (find (is_host_link name) host.links) (new_bridge name mtu promisc)
+refused-same att host (BridgeEnsure name mtu promisc) is =
+    same-bridge_or_new host (find (is_host_link name) host.links) (new_bridge name mtu promisc)
 refused-same att host (GatewayEnsure bridge cidr) is =
-    same-if (has_host_bridge host bridge) host _ _ (same-there (list_any (is_same_addr (new_gateway bridge cidr)) host.addresses) Done host _)
-refused-same att host (ForwardEnsure family) is = same-there (list_any (is_same_setting (new_forward family)) host.settings) Done host _
+    same-if (has_host_bridge host bridge) host _ _
+    (same-there (list_any (is_same_addr (new_gateway bridge cidr)) host.addresses) Done host _)
+refused-same att host (ForwardEnsure family) is =
+    same-there (list_any (is_same_setting (new_forward family)) host.settings) Done host _
 refused-same att host (VethAdd h i) is =
     same-if (has_named_ns host i.ns) host _ _
     (same-if (master_is_bridge_or_none host h.master) host _ _
     (same-appended (option_map (λ l. l.tag) (option_or (link_at host i.ns i.name) (link_at host h.ns h.name))) host _))
 refused-same att host (MacvlanAdd link) is =
     same-if (has_named_ns host link.ns) host _ _
-    (same-if (has_master host link.master) host _ _ (same-appended (option_map (λ l. l.tag) (link_at host link.ns link.name)) host _))
-refused-same att host (LinkSet own key mac mtu tx_qlen promisc allmulti) is = same-if (list_any (is_own_at own key) host.links) host _ _ (λ no. absurd (no refl))
+    (same-if (has_master host link.master) host _ _
+    (same-appended (option_map (λ l. l.tag) (link_at host link.ns link.name)) host _))
+refused-same att host (LinkSet own key mac mtu tx_qlen promisc allmulti) is =
+    same-if (list_any (is_own_at own key) host.links) host _ _ (λ no. absurd (no refl))
 refused-same att host (AddrAdd obj) is =
-    same-if (has_link_of host obj.ns obj.link obj.tag) host _ _ (same-appended (option_map (λ a. a.tag) (find (is_same_addr obj) host.addresses)) host _)
+    same-if (has_link_of host obj.ns obj.link obj.tag) host _ _
+    (same-appended (option_map (λ a. a.tag) (find (is_same_addr obj) host.addresses)) host _)
 refused-same att host (RouteAdd obj) is =
-    same-if (has_link_of host obj.ns obj.link obj.tag) host _ _ (same-appended (option_map (λ r. r.tag) (find (is_same_route obj) host.routes)) host _)
+    same-if (has_link_of host obj.ns obj.link obj.tag) host _ _
+    (same-appended (option_map (λ r. r.tag) (find (is_same_route obj) host.routes)) host _)
 refused-same att host (RuleAppend rule) is = same-there (list_any (λ r. rule_eq r rule) host.rules) _ host _
 refused-same att host (SettingSet s) is =
-    same-if (has_named_ns host s.ns) host _ _ (same-appended (option_map (λ x. x.tag) (find (is_same_setting s) host.settings)) host _)
+    same-if (has_named_ns host s.ns) host _ _
+    (same-appended (option_map (λ x. x.tag) (find (is_same_setting s) host.settings)) host _)
 refused-same att host (CachePut own cached) is = same-there (list_any (λ c. is_own own c.tag) host.cached) _ host _
 refused-same att host _ is = cc
 
@@ -69,4 +77,6 @@ same-lease_taken host att number (Some a) h = absurd (h a refl)
 
 pub refused-lease : (host : Host) (att : Att) (number : ℕ) (set : RangeSet)
     → ((a : Addr) → (lease_next_of host att number set).1 ≡ Leased a → ⊥) → (lease_next_of host att number set).0 ≡ host
-refused-lease host att number set h = same-lease_taken host att number (pick_of set (last_leased host att.network number) (leased_addresses host att.network)) h
+refused-lease host att number set h =
+    same-lease_taken host att number
+    (pick_of set (last_leased host att.network number) (leased_addresses host att.network)) h

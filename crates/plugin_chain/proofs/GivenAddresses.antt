@@ -16,6 +16,9 @@ given-addresses [] = refl
 given-addresses (g ∷ gs) = ap (λ l. g.address ∷ l) (given-addresses gs)
 
 -- the result of the first plugin has the given addresses
-pub first-addresses : (first : First) (att : Att) (netns : List ℕ) (ipam : Option HostLocalConf) (given : List Given) (version : Version)
-    → map (λ ip. ip.address) (first_result first att netns (ipam_result_of ipam given version)).ips ≡ map (λ g. g.address) given
-first-addresses first att netns ipam given version = (first_laws first).keeps_addresses att netns (ipam_result_of ipam given version) ∙ given-addresses given
+pub first-addresses : (first : First) (att : Att) (netns : List ℕ) (ipam : Option HostLocalConf) (given : List Given)
+    (version : Version)
+    → map (λ ip. ip.address) (first_result first att netns (ipam_result_of ipam given version)).ips
+    ≡ map (λ g. g.address) given
+first-addresses first att netns ipam given version =
+    (first_laws first).keeps_addresses att netns (ipam_result_of ipam given version) ∙ given-addresses given

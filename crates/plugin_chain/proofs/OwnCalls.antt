@@ -18,5 +18,7 @@ own-before first att netns = ((first_laws first).before att netns).own
 pub own-back : (list : NetList) (att : Att) (netns : List ℕ) (mappings : List PortMapping) (addrs : List Addr)
     → list_all (is_plugin_call_of att) (back_calls list att netns mappings addrs) ≡ true
 own-back list att netns mappings addrs =
-    passes-back (is_plugin_call_of att) list att netns mappings addrs (λ given. ((first_laws list.first).after att netns given).own)
-    (each_of (PassesChained (is_plugin_call_of att) att netns mappings) list.chained (λ c ips. ((chained_laws c).calls att netns mappings ips).own)) (λ cached. att_eq-refl att)
+    passes-back (is_plugin_call_of att) list att netns mappings addrs
+    (λ given. ((first_laws list.first).after att netns given).own)
+    (each_of (PassesChained (is_plugin_call_of att) att netns mappings) list.chained
+    (λ c ips. ((chained_laws c).calls att netns mappings ips).own)) (λ cached. att_eq-refl att)

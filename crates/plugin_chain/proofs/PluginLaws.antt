@@ -39,4 +39,5 @@ setter-type (Tuning conf) sets = refl
 
 pub one_setter : (c d : Chained) → sets_links c ≡ true → sets_links d ≡ true
     → type_eq (type_of_chained c) (type_of_chained d) ≡ true
-one_setter c d at_c at_d = ap (λ t. type_eq t (type_of_chained d)) (setter-type c at_c) ∙ ap (type_eq types.Tuning) (setter-type d at_d)
+one_setter c d at_c at_d =
+    ap (λ t. type_eq t (type_of_chained d)) (setter-type c at_c) ∙ ap (type_eq types.Tuning) (setter-type d at_d)

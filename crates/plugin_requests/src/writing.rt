@@ -9,7 +9,8 @@ ghost use Rattle.serde_json.specs.Written.{has_float};
 ghost use Rattle.cni_json.specs.Members.{list_data, members_of, put_if};
 ghost use Rattle.cni_result.specs.Results.{result_data};
 ghost use Rattle.plugin_requests.specs.Raw.{IsPluginObject};
-ghost use Rattle.plugin_requests.specs.Request.{mappings_for, own_members, request_data, request_members, runtime_members, valid_data, valid_key};
+ghost use Rattle.plugin_requests.specs.Request.{mappings_for, own_members, request_data, request_members};
+ghost use Rattle.plugin_requests.specs.Request.{runtime_members, valid_data, valid_key};
 
 use cni_addr::NoMemory;
 use cni_json::{JsonObject, Value, members_where};

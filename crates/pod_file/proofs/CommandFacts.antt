@@ -64,7 +64,8 @@ faults_of-ok : (place : Place) (f : Field Items) (faults : List ℕ)
     → list_or (wrong_key place (codes "faults")) (fault_at place) f ≡ Ok faults → All IsCallNumber faults
 faults_of-ok place Absent faults is = subst (All IsCallNumber) (ok_same is) (All-nil IsCallNumber)
 faults_of-ok place WrongKind faults is = cc
-faults_of-ok place (Here ds) faults is = each_all (fault_at place) IsCallNumber (λ d n read. fault_of-ok place (u32_of d) n read) ds faults is
+faults_of-ok place (Here ds) faults is =
+    each_all (fault_at place) IsCallNumber (λ d n read. fault_of-ok place (u32_of d) n read) ds faults is
 
 pub faults_at-ok : (place : Place) (d : Data) (faults : List ℕ) → faults_at place d ≡ Ok faults
     → All IsCallNumber faults
@@ -100,7 +101,9 @@ round_at-ok round null commands is = cc
 round_at-ok round (boolean b) commands is = cc
 round_at-ok round (number n) commands is = cc
 round_at-ok round (string s) commands is = cc
-round_at-ok round (array ds) commands is = each_from_all (command_in round) IsWellFormedCommand (λ place d command read. command_at-ok (InRound round place) d command read) 0 ds commands is
+round_at-ok round (array ds) commands is =
+    each_from_all (command_in round) IsWellFormedCommand
+    (λ place d command read. command_at-ok (InRound round place) d command read) 0 ds commands is
 round_at-ok round (object ms) commands is = cc
 
 rounds_of-ok : (f : Field Items) (rounds : List (List Command)) → rounds_of f ≡ Ok rounds → All AreCommands rounds
@@ -146,14 +149,17 @@ pub one_alone : (commands : List Command) → is_alone commands ≡ true → lis
     → length commands ≡ 1
 one_alone [] alone some = cc
 one_alone (c ∷ cs) alone some =
-    let short : suc (length cs) ≤ 1 = grind (arith, nat_tests, short_by (nat_le (suc (length cs)) 1) (list_any is_exclusive (c ∷ cs)) alone some) in
+    let short : suc (length cs) ≤ 1 =
+    grind (arith, nat_tests, short_by (nat_le (suc (length cs)) 1) (list_any is_exclusive (c ∷ cs)) alone some) in
     omega arith
 
 pub round_numbered-ok : (first : ℕ) (commands : List Command) → AreCommands commands → is_alone commands ≡ true
     → IsWellFormedRound (round_numbered first commands)
 round_numbered-ok first commands good alone = record {
   each = commands-round_numbered first commands good;
-  alone = ap₂ (λ n some. nat_le n 1 || not some) (length-round_numbered first commands) (exclusive-round_numbered first commands) ∙ alone;
+  alone =
+      ap₂ (λ n some. nat_le n 1 || not some) (length-round_numbered first commands)
+      (exclusive-round_numbered first commands) ∙ alone;
 }
 
 pub all_numbered-ok : (first place : ℕ) (rounds : List (List Command)) → All AreCommands rounds
@@ -167,7 +173,8 @@ all_numbered-ok first place (r ∷ rs) good alone =
 
 pub length-all_numbered : (first : ℕ) (rounds : List (List Command))
     → length (all_numbered first rounds) ≡ length rounds
-length-all_numbered first rounds = length-scan (λ (n : ℕ) (commands : List Command). n + length commands) round_numbered first rounds
+length-all_numbered first rounds =
+    length-scan (λ (n : ℕ) (commands : List Command). n + length commands) round_numbered first rounds
 
 pub count-all_numbered : (first : ℕ) (rounds : List (List Command))
     → length (in_file_order (all_numbered first rounds)) ≡ length (in_file_order rounds)
@@ -196,4 +203,6 @@ round-from first (c ∷ cs) more rest (suc n) command is =
 
 pub all-from : (first : ℕ) (rounds : List (List Command)) → AreFrom first (in_file_order (all_numbered first rounds))
 all-from first [] n command is = cc
-all-from first (r ∷ rs) n command is = round-from first r (in_file_order (all_numbered (first + length r) rs)) (all-from (first + length r) rs) n command is
+all-from first (r ∷ rs) n command is =
+    round-from first r (in_file_order (all_numbered (first + length r) rs))
+    (all-from (first + length r) rs) n command is

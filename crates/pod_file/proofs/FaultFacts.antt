@@ -31,7 +31,8 @@ pub before-more : (old new numbers : List ℕ) (number : ℕ) → 0 < number →
 before-more old new numbers number from_1 before more made =
     are_after-has made new
     ∙ more made
-    ∙ ap₂ (λ here rest. cond here true rest) (sym (unsigned_ties (number - 1) made) ∙ call_after number made from_1) (sym (are_after-has made old) ∙ before made)
+    ∙ ap₂ (λ here rest. cond here true rest) (sym (unsigned_ties (number - 1) made) ∙ call_after number made from_1)
+    (sym (are_after-has made old) ∙ before made)
     ∙ at_end (number == made + 1) (list_any (λ k. k == made + 1) numbers)
     ∙ sym (list_any-append (λ k. k == made + 1) numbers (number ∷ []))
 

@@ -46,18 +46,40 @@ length-filter-le p (x ∷ xs) = filter_step (p x) x (filter p xs) xs (length-fil
 count_of_five : (a b d g k : List Command)
     → length (in_file_order (a ∷ b ∷ d ∷ g ∷ k ∷ [])) ≡ length a + length b + length d + length g + length k
 count_of_five a b d g k =
-    omega (arith, length-append a (in_file_order (b ∷ d ∷ g ∷ k ∷ [])), length-append b (in_file_order (d ∷ g ∷ k ∷ [])), length-append d (in_file_order (g ∷ k ∷ [])), length-append g (in_file_order (k ∷ [])), length-append k [])
+    omega (
+      arith,
+      length-append a (in_file_order (b ∷ d ∷ g ∷ k ∷ [])),
+      length-append b (in_file_order (d ∷ g ∷ k ∷ [])),
+      length-append d (in_file_order (g ∷ k ∷ [])),
+      length-append g (in_file_order (k ∷ [])),
+      length-append k [],
+    )
 
 pub count-rounds_for : (cs : List Container)
     → length (in_file_order (rounds_for cs)) ≡ length cs + length cs + length (deleted_of cs) + 1 + length (kept_of cs)
 count-rounds_for cs =
-    let all = count_of_five (map (command_of Add) cs) (map (command_of Check) cs) (map (command_of Del) (deleted_of cs)) (collection_of (kept_of cs) ∷ []) (map (command_of Check) (kept_of cs)) in
-    omega (arith, all, length-map cs (command_of Add), length-map cs (command_of Check), length-map (deleted_of cs) (command_of Del), length-map (kept_of cs) (command_of Check))
+    let all =
+    count_of_five (map (command_of Add) cs) (map (command_of Check) cs) (map (command_of Del) (deleted_of cs))
+    (collection_of (kept_of cs) ∷ []) (map (command_of Check) (kept_of cs)) in
+    omega (
+      arith,
+      all,
+      length-map cs (command_of Add),
+      length-map cs (command_of Check),
+      length-map (deleted_of cs) (command_of Del),
+      length-map (kept_of cs) (command_of Check),
+    )
 
 pub rounds_for-few : (cs : List Container) → length cs ≤ most_containers → are_few (rounds_for cs) ≡ true
 unfolding are_few
 rounds_for-few cs few =
-    let within : length (in_file_order (rounds_for cs)) ≤ file_limit = omega (arith, count-rounds_for cs, length-filter-le (λ (c : Container). c.number % 2 == 0) cs, length-filter-le (λ (c : Container). c.number % 4 == 1) cs) in
+    let within : length (in_file_order (rounds_for cs)) ≤ file_limit =
+    omega (
+      arith,
+      count-rounds_for cs,
+      length-filter-le (λ (c : Container). c.number % 2 == 0) cs,
+      length-filter-le (λ (c : Container). c.number % 4 == 1) cs,
+    ) in
     grind (arith, nat_tests, within)
 
 -- ---- each command is well formed
@@ -67,10 +89,14 @@ command_of-ok verb c none = record { table = λ needs. cc; stop = tt; faults = A
 
 commands_of-ok : (verb : Verb) (cs : List Container) → needs_table verb ≡ false → AreCommands (map (command_of verb) cs)
 commands_of-ok verb [] none = All-nil IsWellFormedCommand
-commands_of-ok verb (c ∷ cs) none = All-cons IsWellFormedCommand (command_of verb c) (map (command_of verb) cs) (command_of-ok verb c none) (commands_of-ok verb cs none)
+commands_of-ok verb (c ∷ cs) none =
+    All-cons IsWellFormedCommand (command_of verb c) (map (command_of verb) cs) (command_of-ok verb c none)
+    (commands_of-ok verb cs none)
 
 collection_of-ok : (kept : List Container) → AreCommands (collection_of kept ∷ [])
-collection_of-ok kept = All-cons IsWellFormedCommand (collection_of kept) [] (record { table = λ needs. cc; stop = tt; faults = All-nil IsCallNumber }) (All-nil IsWellFormedCommand)
+collection_of-ok kept =
+    All-cons IsWellFormedCommand (collection_of kept) []
+    (record { table = λ needs. cc; stop = tt; faults = All-nil IsCallNumber }) (All-nil IsWellFormedCommand)
 
 five-ok : (a b d g k : List Command) → AreCommands a → AreCommands b → AreCommands d → AreCommands g → AreCommands k
     → All AreCommands (a ∷ b ∷ d ∷ g ∷ k ∷ [])
@@ -83,8 +109,10 @@ five-ok a b d g k first second third fourth fifth =
 
 rounds_for-commands : (cs : List Container) → All AreCommands (rounds_for cs)
 rounds_for-commands cs =
-    five-ok (map (command_of Add) cs) (map (command_of Check) cs) (map (command_of Del) (deleted_of cs)) (collection_of (kept_of cs) ∷ []) (map (command_of Check) (kept_of cs))
-    (commands_of-ok Add cs refl) (commands_of-ok Check cs refl) (commands_of-ok Del (deleted_of cs) refl) (collection_of-ok (kept_of cs)) (commands_of-ok Check (kept_of cs) refl)
+    five-ok (map (command_of Add) cs) (map (command_of Check) cs) (map (command_of Del) (deleted_of cs))
+    (collection_of (kept_of cs) ∷ []) (map (command_of Check) (kept_of cs))
+    (commands_of-ok Add cs refl) (commands_of-ok Check cs refl) (commands_of-ok Del (deleted_of cs) refl)
+    (collection_of-ok (kept_of cs)) (commands_of-ok Check (kept_of cs) refl)
 
 -- ---- the collection stands alone
 
@@ -107,16 +135,20 @@ goes_on false more wrong h = cc
 five_alone : (a b d g k : List Command) → is_alone a ≡ true → is_alone b ≡ true → is_alone d ≡ true → is_alone g ≡ true
     → is_alone k ≡ true → each_alone 0 (a ∷ b ∷ d ∷ g ∷ k ∷ []) ≡ Ok tt
 five_alone a b d g k first second third fourth fifth =
-    goes_on (is_alone a) _ _ first ∙ goes_on (is_alone b) _ _ second ∙ goes_on (is_alone d) _ _ third ∙ goes_on (is_alone g) _ _ fourth ∙ goes_on (is_alone k) _ _ fifth
+    goes_on (is_alone a) _ _ first ∙ goes_on (is_alone b) _ _ second ∙ goes_on (is_alone d) _ _ third
+    ∙ goes_on (is_alone g) _ _ fourth ∙ goes_on (is_alone k) _ _ fifth
 
 rounds_for-alone : (cs : List Container) → each_alone 0 (rounds_for cs) ≡ Ok tt
 rounds_for-alone cs =
-    five_alone (map (command_of Add) cs) (map (command_of Check) cs) (map (command_of Del) (deleted_of cs)) (collection_of (kept_of cs) ∷ []) (map (command_of Check) (kept_of cs))
-    (commands_of-alone Add cs refl) (commands_of-alone Check cs refl) (commands_of-alone Del (deleted_of cs) refl) refl (commands_of-alone Check (kept_of cs) refl)
+    five_alone (map (command_of Add) cs) (map (command_of Check) cs) (map (command_of Del) (deleted_of cs))
+    (collection_of (kept_of cs) ∷ []) (map (command_of Check) (kept_of cs))
+    (commands_of-alone Add cs refl) (commands_of-alone Check cs refl) (commands_of-alone Del (deleted_of cs) refl) refl
+    (commands_of-alone Check (kept_of cs) refl)
 
 pub rounds_for-ok : (cs : List Container) → length cs ≤ most_containers
     → AreWellFormedRounds (all_numbered 1 (rounds_for cs))
-rounds_for-ok cs few = numbered_by-ok (rounds_for cs) (rounds_for-commands cs) (rounds_for-few cs few) (rounds_for-alone cs)
+rounds_for-ok cs few =
+    numbered_by-ok (rounds_for cs) (rounds_for-commands cs) (rounds_for-few cs few) (rounds_for-alone cs)
 
 -- ---- the namespaces have names, each of its own
 
@@ -168,7 +200,8 @@ pub generated_pods-ok : (n : ℕ) → n ≤ most_containers → IsWellFormedPods
 generated_pods-ok n few =
     let length = length-containers n in
     record {
-      opening = opening_with-ok (namespaces_of (containers n)) [] (names-ok n few) (no_links (namespaces_of (containers n)));
+      opening =
+          opening_with-ok (namespaces_of (containers n)) [] (names-ok n few) (no_links (namespaces_of (containers n)));
       rounds = rounds_for-ok (containers n) (omega arith);
     }
 
@@ -176,7 +209,8 @@ generated_pods-ok n few =
 
 -- one more container is chosen, or isn't
 leaving-more : (test : Container → Bool) (n : ℕ)
-    → length (filter test (map container_of (range_with_len 1 (n + 1)))) ≡ length (filter test (map container_of (range_with_len 1 n))) + cond (test (container_of (n + 1))) 1 0
+    → length (filter test (map container_of (range_with_len 1 (n + 1))))
+    ≡ length (filter test (map container_of (range_with_len 1 n))) + cond (test (container_of (n + 1))) 1 0
 leaving-more test n =
     let before = filter test (map container_of (range_with_len 1 n)) in
     let next = container_of (n + 1) in
@@ -198,7 +232,8 @@ length-deleted_of (suc n) =
     let more = leaving-more (λ c. c.number % 2 == 0) n in
     let step = second n ((n + 1) % 2 == 0) refl in
     let before = length-deleted_of n in
-    let all : length (deleted_of (map container_of (range_with_len 1 (n + 1)))) ≡ (n + 1) / 2 = omega (arith, more, step, before) in
+    let all : length (deleted_of (map container_of (range_with_len 1 (n + 1)))) ≡ (n + 1) / 2 =
+    omega (arith, more, step, before) in
     subst (λ m. length (deleted_of (map container_of (range_with_len 1 m))) ≡ m / 2) (add-one n) all
 
 fourth : (n : ℕ) (chosen : Bool) → ((n + 1) % 4 == 1) ≡ chosen → (n + 3) / 4 + cond chosen 1 0 ≡ (n + 1 + 3) / 4
@@ -211,7 +246,8 @@ length-kept_of (suc n) =
     let more = leaving-more (λ c. c.number % 4 == 1) n in
     let step = fourth n ((n + 1) % 4 == 1) refl in
     let before = length-kept_of n in
-    let all : length (kept_of (map container_of (range_with_len 1 (n + 1)))) ≡ (n + 1 + 3) / 4 = omega (arith, more, step, before) in
+    let all : length (kept_of (map container_of (range_with_len 1 (n + 1)))) ≡ (n + 1 + 3) / 4 =
+    omega (arith, more, step, before) in
     subst (λ m. length (kept_of (map container_of (range_with_len 1 m))) ≡ (m + 3) / 4) (add-one n) all
 
 pub generated-count : (n : ℕ)
@@ -219,7 +255,14 @@ pub generated-count : (n : ℕ)
 unfolding containers
 generated-count n =
     let cs = map container_of (range_with_len 1 n) in
-    omega (arith, count-all_numbered 1 (rounds_for cs), count-rounds_for cs, length-containers n, length-deleted_of n, length-kept_of n)
+    omega (
+      arith,
+      count-all_numbered 1 (rounds_for cs),
+      count-rounds_for cs,
+      length-containers n,
+      length-deleted_of n,
+      length-kept_of n,
+    )
 
 -- ---- each command is of the network
 
@@ -257,5 +300,7 @@ pub generated-named : (n : ℕ) → list_all is_named (in_file_order (pods_for (
 generated-named n =
     let cs = containers n in
     named-all_numbered 1 (rounds_for cs)
-    ∙ five-named (map (command_of Add) cs) (map (command_of Check) cs) (map (command_of Del) (deleted_of cs)) (collection_of (kept_of cs) ∷ []) (map (command_of Check) (kept_of cs))
-    (commands_of-named Add cs) (commands_of-named Check cs) (commands_of-named Del (deleted_of cs)) refl (commands_of-named Check (kept_of cs))
+    ∙ five-named (map (command_of Add) cs) (map (command_of Check) cs) (map (command_of Del) (deleted_of cs))
+    (collection_of (kept_of cs) ∷ []) (map (command_of Check) (kept_of cs))
+    (commands_of-named Add cs) (commands_of-named Check cs) (commands_of-named Del (deleted_of cs)) refl
+    (commands_of-named Check (kept_of cs))

@@ -24,7 +24,8 @@ listed_of-ok : {A : Type 0} (P : List A → Type 0) (path : List ℕ) (read : Li
     → (f : Field Items) (xs : List A) → listed_of path read f ≡ Ok xs → P xs
 listed_of-ok P path read none step Absent xs is = subst P (ok_same is) none
 listed_of-ok P path read none step WrongKind xs is = cc
-listed_of-ok P path read none step (Here ds) xs is = each_after_keeps read (λ before rest. P before) (λ before d rest x. step before d x) [] ds xs none is
+listed_of-ok P path read none step (Here ds) xs is =
+    each_after_keeps read (λ before rest. P before) (λ before d rest x. step before d x) [] ds xs none is
 
 -- ---- namespaces
 
@@ -49,13 +50,17 @@ names-push before name good can =
     let inner : not (is_host_ns name) ≡ true = rw parts.0 refl in
     record {
       named = list_all-push (λ name. not (is_host_ns name)) before name good.named inner;
-      distinct = distinct-push bytes_eq before name good.distinct (list_any-none (λ x. bytes_eq x name) (bytes_eq name) (λ x same. bytes_eq-swap x name same) before parts.1);
+      distinct =
+          distinct-push bytes_eq before name good.distinct
+          (list_any-none (λ x. bytes_eq x name) (bytes_eq name) (λ x same. bytes_eq-swap x name same) before parts.1);
     }
 
 namespaces_at-ok : (d : Data) (names : List (List ℕ)) → namespaces_at d ≡ Ok names → AreNamespaceNames names
 unfolding namespaces_at listed_at
 namespaces_at-ok d names is =
-    listed_of-ok AreNamespaceNames _ next_namespace no_host (λ before d name good is. names-push before name good (namespace_at-ok before (length before) d name is)) (list_field (codes "namespaces") d) names is
+    listed_of-ok AreNamespaceNames _ next_namespace no_host
+    (λ before d name good is. names-push before name good (namespace_at-ok before (length before) d name is))
+    (list_field (codes "namespaces") d) names is
 
 -- ---- links
 
@@ -71,7 +76,8 @@ kind_by-ok false false e kind is = cc
 kind_of-ok : (index : ℕ) (f : Field (List ℕ)) (kind : LinkKind) → kind_of index f ≡ Ok kind → IsShared kind
 kind_of-ok index Absent kind is = cc
 kind_of-ok index WrongKind kind is = cc
-kind_of-ok index (Here text) kind is = kind_by-ok (bytes_eq text (codes "device")) (bytes_eq text (codes "bridge")) _ kind is
+kind_of-ok index (Here text) kind is =
+    kind_by-ok (bytes_eq text (codes "device")) (bytes_eq text (codes "bridge")) _ kind is
 
 kind_at-ok : (index : ℕ) (d : Data) (kind : LinkKind) → kind_at index d ≡ Ok kind → IsShared kind
 unfolding kind_at
@@ -140,7 +146,9 @@ links_at-ok : (names : List (List ℕ)) (d : Data) (links : List Link) → links
     → AreOutsideLinks names links
 unfolding links_at listed_at
 links_at-ok names d links is =
-    listed_of-ok (AreOutsideLinks names) _ (next_link names) (no_links names) (λ before d link good is. links-push names before link good (link_at-ok names before (length before) d link is)) (list_field (codes "links") d) links is
+    listed_of-ok (AreOutsideLinks names) _ (next_link names) (no_links names)
+    (λ before d link good is. links-push names before link good (link_at-ok names before (length before) d link is))
+    (list_field (codes "links") d) links is
 
 -- ---- the host
 
@@ -154,7 +162,9 @@ pub opening_with-ok : (names : List (List ℕ)) (links : List Link) → AreNames
     → AreOutsideLinks names links → IsOpening (opening_with names links)
 opening_with-ok names links good outside = record {
   sound = IsSound-opening_with names links good outside;
-  links = list_all-weaker is_outside_link (λ l. tag_eq l.tag Outside) (λ l h. outside-tag (is_unowned_kind l.kind) (is_none l.peer) (tag_eq l.tag Outside) h) links outside.outside;
+  links =
+      list_all-weaker is_outside_link (λ l. tag_eq l.tag Outside)
+      (λ l h. outside-tag (is_unowned_kind l.kind) (is_none l.peer) (tag_eq l.tag Outside) h) links outside.outside;
   addresses = refl;
   routes = refl;
   rules = refl;
@@ -169,7 +179,8 @@ unfolding opening_members_at
 opening_members_at-ok d host is =
     let names = goes (namespaces_at d) _ host is in
     let links = goes (links_at names.value d) _ host names.rest in
-    subst IsOpening (ok_same links.rest) (opening_with-ok names.value links.value (namespaces_at-ok d names.value names.first) (links_at-ok names.value d links.value links.first))
+    subst IsOpening (ok_same links.rest) (opening_with-ok names.value links.value
+    (namespaces_at-ok d names.value names.first) (links_at-ok names.value d links.value links.first))
 
 pub opening_of-ok : (d : Data) (host : Host) → opening_of d ≡ Ok host → IsOpening host
 unfolding opening_of

@@ -17,7 +17,8 @@ pub numbered_by-ok : (rounds : List (List Command)) → All AreCommands rounds �
     → each_alone 0 rounds ≡ Ok tt → AreWellFormedRounds (all_numbered 1 rounds)
 unfolding are_few
 numbered_by-ok rounds commands are_few alone =
-    let both = and_parts (nat_le (length rounds) file_limit) (nat_le (length (in_file_order rounds)) file_limit) are_few in
+    let both =
+    and_parts (nat_le (length rounds) file_limit) (nat_le (length (in_file_order rounds)) file_limit) are_few in
     let few_rounds : length rounds ≤ file_limit = grind (arith, nat_tests, both.0) in
     let few_commands : length (in_file_order rounds) ≤ file_limit = grind (arith, nat_tests, both.1) in
     record {

@@ -11,7 +11,8 @@ ghost use Rattle.pod_laws.specs.Bounded.{EachAddHasMost, EachChangeIsOneCall, Ea
 ghost use Rattle.pod_laws.specs.CachedResults.{EachCachedResultIsItsAdds};
 ghost use Rattle.pod_laws.specs.Changed.{ChangesAreAnswered, VersionsAreTheLists};
 ghost use Rattle.pod_laws.specs.Checked.{ChecksHoldFromTheirStart, WasChecked};
-ghost use Rattle.pod_laws.specs.Collected.{CollectionsAreAnswered, CollectionsAreBounded, CollectionsAreShort, CollectionsFillTheirRounds, CollectionsInARowKeep};
+ghost use Rattle.pod_laws.specs.Collected.{CollectionsAreAnswered, CollectionsAreBounded, CollectionsAreShort};
+ghost use Rattle.pod_laws.specs.Collected.{CollectionsFillTheirRounds, CollectionsInARowKeep};
 ghost use Rattle.pod_laws.specs.Deleted.{AnswersOfDel, UnfailedIsDeleted, EachDeletionIsOwn, WasDeleted, WasNotDeleted};
 ghost use Rattle.pod_laws.specs.Granted.{EachQuestionLeavesTheHost};
 ghost use Rattle.pod_laws.specs.Guaranteed.{EveryLegalHistoryIsGuaranteed};

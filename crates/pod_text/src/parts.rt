@@ -4,7 +4,8 @@ ghost use Rattle.std.specs.Prelude.{◌≡◌, ◌++◌, false, OnOk, IfOk};
 ghost use Rattle.std.specs.List.{flat_map};
 ghost use Rattle.kernel_text.specs.Dump.{dump_of};
 ghost use Rattle.pod_workers.specs.World.{host_of};
-ghost use Rattle.pod_text.specs.Lines.{command_line, command_lines, command_part, entry_line, trace_from, trace_lines, where_asked, requests_asked, is_summary, shows_host, text_of};
+ghost use Rattle.pod_text.specs.Lines.{command_line, command_lines, command_part, entry_line, trace_from, trace_lines};
+ghost use Rattle.pod_text.specs.Lines.{where_asked, requests_asked, is_summary, shows_host, text_of};
 
 use crate::answers::answer_value;
 use crate::asked::{Asked, CommandPart};

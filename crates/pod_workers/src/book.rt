@@ -1,6 +1,7 @@
 //! The book: a plan, the kernel that it is carried out on, what was done, and who is answered.
 
-ghost use Rattle.std.specs.Prelude.{◌≡◌, ◌+◌, ◌<◌, ◌^◌, ℕ, Some, slice_get, length, nat_le, All, IfOk, IsTrue, OnErr, MatchBool};
+ghost use Rattle.std.specs.Prelude.{◌≡◌, ◌+◌, ◌<◌, ◌^◌, ℕ, Some, slice_get, length, nat_le, All, IfOk, IsTrue, OnErr};
+ghost use Rattle.std.specs.Prelude.{MatchBool};
 ghost use Rattle.std.specs.Option.{option_copied};
 ghost use Rattle.pod_workers.specs.Extends.{Appends, Extends, Rounds};
 ghost use Rattle.pod_workers.specs.Index.{is_cut_by, is_entry_in};
@@ -8,7 +9,8 @@ ghost use Rattle.pod_workers.specs.Legal.{Legal};
 ghost use Rattle.pod_workers.specs.Order.{AppendsInFileOrder, EarlierAreAnswered, IsEntryBy, IsInFileOrder};
 ghost use Rattle.pod_workers.specs.Plans.{IsWellFormed};
 ghost use Rattle.pod_workers.specs.Slots.{AreNumbersOf};
-ghost use Rattle.pod_workers.specs.World.{IsReadyNumber, IsRoundOver, RunsOut, StepsTo, answer_for, at_number, begun, host_of, is_of_round, next_round};
+ghost use Rattle.pod_workers.specs.World.{IsReadyNumber, IsRoundOver, RunsOut, StepsTo, answer_for, at_number, begun};
+ghost use Rattle.pod_workers.specs.World.{host_of, is_of_round, next_round};
 
 use crate::index::{Place, command_at, index_of, may_step, place_at, round_at};
 use crate::plan::{Entry, Plan, StepEnd};

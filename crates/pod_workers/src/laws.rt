@@ -1,7 +1,10 @@
 //! Laws over every legal history, each carried by a function that does nothing.
 
-ghost use Rattle.pod_workers.specs.Facts.{EachAnswerIsGiven, EachCommandIsOpenAfterItsEntry, EachEntryIsMade, EachPrefix, EachStopIsCounted, EachWorldOfTheClausesIsLegal, EveryAnswerIsDue, EveryEntryFollows, LegalWorldsMeetEachClause};
-ghost use Rattle.pod_workers.specs.Laws.{EachNetworkCommandHasItsList, EveryCallMayBeMade, EveryHostIsSound, NoAddressIsLeasedTwice};
+ghost use Rattle.pod_workers.specs.Facts.{EachAnswerIsGiven, EachCommandIsOpenAfterItsEntry, EachEntryIsMade};
+ghost use Rattle.pod_workers.specs.Facts.{EachPrefix, EachStopIsCounted, EachWorldOfTheClausesIsLegal};
+ghost use Rattle.pod_workers.specs.Facts.{EveryAnswerIsDue, EveryEntryFollows, LegalWorldsMeetEachClause};
+ghost use Rattle.pod_workers.specs.Laws.{EachNetworkCommandHasItsList, EveryCallMayBeMade, EveryHostIsSound};
+ghost use Rattle.pod_workers.specs.Laws.{NoAddressIsLeasedTwice};
 ghost use Rattle.pod_workers.specs.Order.{FileOrderIsKept, OneOutcome};
 ghost use Rattle.pod_workers.specs.AddCalls.{AddCallsMakeTheWanted};
 

@@ -24,14 +24,16 @@ own-from_host att m addr V6 = refl
 
 own-masquerades_of : (snat : Bool) (att : Att) (ip : IpEntry) (m : PortMapping)
     → list_all (λ x. is_own att x.tag) (masquerades_of snat att ip m) ≡ true
-own-masquerades_of true att ip m = grind (arith, att_eq-refl att, own-from_host att m ip.address.addr ip.address.addr.family)
+own-masquerades_of true att ip m =
+    grind (arith, att_eq-refl att, own-from_host att m ip.address.addr ip.address.addr.family)
 own-masquerades_of false att ip m = refl
 
 own-rules_for : (snat : Bool) (att : Att) (m : PortMapping) (ip : Option IpEntry)
     → list_all (λ x. is_own att x.tag) (rules_for snat att m ip) ≡ true
 own-rules_for snat att m None = refl
 own-rules_for snat att m (Some ip) =
-    list_all-if (λ (x : Rule). is_own att x.tag) (host_ip_allows m.host_ip ip.address.addr) (dnat_of att m ip.address.addr ∷ masquerades_of snat att ip m)
+    list_all-if (λ (x : Rule). is_own att x.tag) (host_ip_allows m.host_ip ip.address.addr)
+    (dnat_of att m ip.address.addr ∷ masquerades_of snat att ip m)
     (grind (arith, att_eq-refl att, own-masquerades_of snat att ip m))
 
 own-mapping_rules : (snat : Bool) (att : Att) (ips : List IpEntry) (m : PortMapping)
@@ -39,13 +41,15 @@ own-mapping_rules : (snat : Bool) (att : Att) (ips : List IpEntry) (m : PortMapp
 own-mapping_rules snat att ips m =
     let v4 = first_of_family V4 ips in
     let v6 = first_of_family V6 ips in
-    list_all-append (λ x. is_own att x.tag) (rules_for snat att m v4) (rules_for snat att m v6) (own-rules_for snat att m v4) (own-rules_for snat att m v6)
+    list_all-append (λ x. is_own att x.tag) (rules_for snat att m v4) (rules_for snat att m v6)
+    (own-rules_for snat att m v4) (own-rules_for snat att m v6)
 
 own-portmap_rules : (conf : PortmapConf) (att : Att) (mappings : List PortMapping) (ips : List IpEntry)
     → list_all (λ x. is_own att x.tag) (portmap_rules conf att mappings ips) ≡ true
 own-portmap_rules conf att mappings ips =
     list_all-each_key_once (λ x. is_own att x.tag) rule_eq (flat_map (mapping_rules conf.snat att ips) mappings)
-    (list_all-flat (λ x. is_own att x.tag) (mapping_rules conf.snat att ips) (own-mapping_rules conf.snat att ips) mappings)
+    (list_all-flat (λ x. is_own att x.tag) (mapping_rules conf.snat att ips)
+    (own-mapping_rules conf.snat att ips) mappings)
 
 -- ---- how many
 
@@ -56,7 +60,8 @@ length-from_host att m addr V6 = omega arith
 
 length-masquerades_of : (snat : Bool) (att : Att) (ip : IpEntry) (m : PortMapping)
     → length (masquerades_of snat att ip m) ≤ 2
-length-masquerades_of true att ip m = let a = length-from_host att m ip.address.addr ip.address.addr.family in omega arith
+length-masquerades_of true att ip m =
+    let a = length-from_host att m ip.address.addr ip.address.addr.family in omega arith
 length-masquerades_of false att ip m = omega arith
 
 length-rules_for : (snat : Bool) (att : Att) (m : PortMapping) (o : Option IpEntry)
@@ -64,7 +69,8 @@ length-rules_for : (snat : Bool) (att : Att) (m : PortMapping) (o : Option IpEnt
 length-rules_for snat att m None = omega arith
 length-rules_for snat att m (Some ip) =
     let a = length-masquerades_of snat att ip m in
-    length-if (host_ip_allows m.host_ip ip.address.addr) (dnat_of att m ip.address.addr ∷ masquerades_of snat att ip m) 3 (omega arith)
+    length-if (host_ip_allows m.host_ip ip.address.addr) (dnat_of att m ip.address.addr ∷ masquerades_of snat att ip m)
+    3 (omega arith)
 
 length-mapping : (snat : Bool) (att : Att) (ips : List IpEntry) (m : PortMapping)
     → length (mapping_rules snat att ips m) ≤ 6
@@ -88,9 +94,13 @@ portmap-few conf att mappings ips =
 
 pub portmap_laws : (conf : PortmapConf) → ChainedLaws (portmap_plugin conf)
 portmap_laws conf = record {
-  calls = λ att netns mappings ips. rule-calls (portmap_plugin conf) att netns mappings ips (portmap_rules conf att mappings ips) refl refl (own-portmap_rules conf att mappings ips);
+  calls =
+      λ att netns mappings ips. rule-calls (portmap_plugin conf) att netns mappings ips
+      (portmap_rules conf att mappings ips) refl refl (own-portmap_rules conf att mappings ips);
   adds = λ att netns mappings ips s.
-      share_after_calls-rules s (portmap_rules conf att mappings ips) ∙ ap (λ l. record s { rules = s.rules ++ portmap_rules conf att mappings ips; settings = l }) (sym (append-nil s.settings));
+      share_after_calls-rules s (portmap_rules conf att mappings ips)
+      ∙ ap (λ l. record s { rules = s.rules ++ portmap_rules conf att mappings ips; settings = l })
+      (sym (append-nil s.settings));
   keeps_ips = λ prev. refl;
   keeps_names = λ prev. refl;
   few = λ att netns mappings ips addresses few. portmap-few conf att mappings ips;

@@ -60,7 +60,8 @@ of_object path (object ms) = tt
 of_each : {A : Type 0} (read : Data → Result A PodError) → ((d : Data) → Never (read d)) → (ds : Items)
     → Never (each read ds)
 of_each read one no_items = tt
-of_each read one (item d ds) = by_step (read d) _ (one d) (λ x. by_step (each read ds) _ (of_each read one ds) (λ xs. tt))
+of_each read one (item d ds) =
+    by_step (read d) _ (one d) (λ x. by_step (each read ds) _ (of_each read one ds) (λ xs. tt))
 
 of_each_from : {A : Type 0} (read : ℕ → Data → Result A PodError) → ((place : ℕ) (d : Data) → Never (read place d))
     → (place : ℕ) (ds : Items) → Never (each_from read place ds)
@@ -97,10 +98,14 @@ unfolding link_at name_at kind_at ns_at mtu_at not_taken
 of_link names before d =
     let index = length before in
     by_step (object_or (wrong_link index) d) _ (of_object _ d) (λ _.
-    by_step (name_at index d) _ (by_field _ _ (interface_name index) (text_field (codes "name") d) refl refl (λ text. by_if (is_interface_name text) _ _ tt refl)) (λ name.
-    by_step (kind_at index d) _ (by_field _ _ _ (text_field (codes "kind") d) refl refl (λ text. by_name (kind_named text) _)) (λ kind.
-    by_step (ns_at names index d) _ (by_field _ _ (place_named names index) (text_field (codes "ns") d) tt refl (λ text. by_if (is_place names text) _ _ tt refl)) (λ ns.
-    by_step (mtu_at index d) _ (by_field _ _ (mtu_of index) (u64_field (codes "mtu") d) tt refl (λ n. by_if (is_mtu n) _ _ tt refl)) (λ mtu.
+    by_step (name_at index d) _ (by_field _ _ (interface_name index) (text_field (codes "name") d) refl refl
+    (λ text. by_if (is_interface_name text) _ _ tt refl)) (λ name.
+    by_step (kind_at index d) _
+    (by_field _ _ _ (text_field (codes "kind") d) refl refl (λ text. by_name (kind_named text) _)) (λ kind.
+    by_step (ns_at names index d) _ (by_field _ _ (place_named names index) (text_field (codes "ns") d) tt refl
+    (λ text. by_if (is_place names text) _ _ tt refl)) (λ ns.
+    by_step (mtu_at index d) _
+    (by_field _ _ (mtu_of index) (u64_field (codes "mtu") d) tt refl (λ n. by_if (is_mtu n) _ _ tt refl)) (λ mtu.
     by_step (not_taken before index ns name) _ (by_if (list_any (is_at ns name) before) _ _ refl tt) (λ _. tt))))))
 
 of_opening : (d : Data) → Never (opening_of d)
@@ -173,7 +178,8 @@ of_options_in place (Some (object ms)) = of_options place ms
 of_verb : (place : Place) (d : Data) → Never (task_verb_at place d)
 unfolding task_verb_at verb_at
 of_verb place d =
-    by_step (verb_at place d) _ (by_field _ _ _ (text_field (codes "verb") d) refl refl (λ text. by_name (verb_named text) _))
+    by_step (verb_at place d) _
+    (by_field _ _ _ (text_field (codes "verb") d) refl refl (λ text. by_name (verb_named text) _))
     (λ verb. by_if (is_of_session verb) _ _ tt refl)
 
 of_task : (place : Place) (d : Data) → Never (task_at place d)
@@ -194,7 +200,8 @@ of_tasks : (d : Data) → Never (tasks_at d)
 unfolding tasks_at
 of_tasks d =
     by_field (wrong (codes "tasks")) (wrong (codes "tasks")) few_tasks (list_field (codes "tasks") d) refl refl (λ ds.
-    by_if (nat_le (items_len ds) most_tasks) _ _ (of_each_from task_in (λ index e. of_task (InTasks index) e) 0 ds) refl)
+    by_if (nat_le (items_len ds) most_tasks) _ _ (of_each_from task_in (λ index e. of_task (InTasks index) e) 0 ds)
+    refl)
 
 -- ---- the file
 
@@ -213,7 +220,9 @@ of_session : (d : Data) → Never (session_at d)
 unfolding session_at network_at pools_at pools_of opening_at
 of_session d =
     by_step (object_or (wrong []) d) _ (of_object [] d) (λ _.
-    by_step (network_at d) _ (by_field _ _ _ (text_field (codes "network") d) refl refl (λ text. by_if (is_network_name text) _ _ tt refl)) (λ network.
+    by_step (network_at d) _
+    (by_field _ _ _ (text_field (codes "network") d) refl refl (λ text. by_if (is_network_name text) _ _ tt refl))
+    (λ network.
     by_step (pools_at d) _ (of_pools (read_ipam_at (unwrap_or (member_at (codes "ipam") d) null))) (λ pools.
     by_step (opening_at d) _ (of_opening (unwrap_or (member_at (codes "opening") d) null)) (λ opening.
     by_step (tasks_at d) _ (of_tasks d) (λ tasks. tt)))))

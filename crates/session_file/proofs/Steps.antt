@@ -13,7 +13,8 @@ use Rattle.session_file.specs.Tasks.{option_of, options_of}
 pub options-found : (front : List Opt) (o : Opt) (place : Place) (key : List ℕ) (d : Data) (ms : Members)
     → is_null d ≡ false → option_of place key d ≡ Ok o
     → with_prefix front (options_of place (member key d ms)) ≡ with_prefix (front ++ o ∷ []) (options_of place ms)
-options-found front o place key d ms there read = rw (there, read) (sym (with_prefix-more front o (options_of place ms)))
+options-found front o place key d ms there read =
+    rw (there, read) (sym (with_prefix-more front o (options_of place ms)))
 
 pub ruleset found = (options-found)
 

@@ -38,11 +38,15 @@ decimal_count text n is =
     let (test, same) = cond_some _ _ _ is in
     let (fits, spelled) = and_parts _ _ test in
     let value = digits_value 10 text in
-    let (least, most) = counted value fits in
-    (subst (λ m. text ≡ decimal m) same ((bytes_eq-Decides text (decimal value)).0 spelled), omega (arith, same, least), omega (arith, same, most))
+    let (least, most) = counted value fits in (
+      subst (λ m. text ≡ decimal m) same ((bytes_eq-Decides text (decimal value)).0 spelled),
+      omega (arith, same, least),
+      omega (arith, same, most),
+    )
 
 none_decimal : (text : List ℕ) → ((n : ℕ) → 1 ≤ n → n ≤ most_pods → text ≡ decimal n → ⊥) → None ≡ count_of text
-none_decimal text apart = none_of (count_of text) λ n e. let (is, least, most) = decimal_count text n e in apart n least most is
+none_decimal text apart =
+    none_of (count_of text) λ n e. let (is, least, most) = decimal_count text n e in apart n least most is
 
 plain_decimal : (n : ℕ) → 1 ≤ n → n ≤ most_pods → begins_plainly (decimal n) ≡ true
 plain_decimal n least most =
@@ -53,7 +57,8 @@ plain_decimal n least most =
 
 -- a text that doesn't begin plainly spells none
 pub unspelled : (text : List ℕ) → begins_plainly text ≡ false → None ≡ count_of text
-unspelled text not_plain = none_decimal text λ n least most is. cc (sym not_plain ∙ ap begins_plainly is ∙ plain_decimal n least most)
+unspelled text not_plain =
+    none_decimal text λ n least most is. cc (sym not_plain ∙ ap begins_plainly is ∙ plain_decimal n least most)
 
 -- ---- what `parse` gives of a text that begins plainly
 
@@ -71,27 +76,35 @@ abbrev IsParsed : List ℕ → ℕ → Type 0
 IsParsed text n = IsTaken text × (n ≡ digits_value 10 (without_leading_plus text))
 
 -- the number that was read, and its numeral
-read : (text : List ℕ) (n : ℕ) → begins_plainly text ≡ true → IsParsed text n → (n < 2 ^ 32) × (digits_value 10 text ≡ n) × (decimal n ≡ text)
+read : (text : List ℕ) (n : ℕ) → begins_plainly text ≡ true → IsParsed text n
+    → (n < 2 ^ 32) × (digits_value 10 text ≡ n) × (decimal n ≡ text)
 read text n plain h =
     let bare = without_leading_plus_none text (unsigned text plain) in
     let (number, fits) = subst (λ t. IsNumeral 10 t × (digits_value 10 t < 2 ^ 32)) bare h.0 in
     let value = subst (λ t. digits_value 10 t ≡ n) bare (sym h.1) in
-    let spelled = decimal-digits_value (numerals_by_value _ tells_digits) text number.1 number.0 (λ zero. absurd (unpadded text plain zero)) (omega arith) in
+    let spelled =
+    decimal-digits_value (numerals_by_value _ tells_digits) text number.1 number.0
+    (λ zero. absurd (unpadded text plain zero)) (omega arith) in
     (omega (arith, fits, value), value, ap decimal (sym value) ∙ spelled)
 
-pub spelled : (text : List ℕ) (n : ℕ) → begins_plainly text ≡ true → IsParsed text n → n ≤ most_pods → Some n ≡ count_of text
+pub spelled : (text : List ℕ) (n : ℕ) → begins_plainly text ≡ true → IsParsed text n → n ≤ most_pods
+    → Some n ≡ count_of text
 spelled text n plain h most = elim (cases_order 0 n) [
   | inl zero ↦
       let numeral = (read text n plain h).2 in
-      let first : get_or text 0 0 ≡ 48 = subst (λ t. get_or t 0 0 ≡ 48) (ap decimal zero ∙ numeral) (rw (decimal_digit 0 (omega arith)) refl) in
+      let first : get_or text 0 0 ≡ 48 =
+      subst (λ t. get_or t 0 0 ≡ 48) (ap decimal zero ∙ numeral) (rw (decimal_digit 0 (omega arith)) refl) in
       absurd (unpadded text plain first)
   | inr order ↦ elim order [
-    | inl some ↦ (let numeral = (read text n plain h).2 in sym (subst (λ t. count_of t ≡ Some n) numeral (count_decimal n (omega (arith, some)) most)))
+    | inl some ↦
+        (let numeral = (read text n plain h).2 in
+        sym (subst (λ t. count_of t ≡ Some n) numeral (count_decimal n (omega (arith, some)) most)))
     | inr none ↦ absurd (omega (arith, none))
   ]
 ]
 
-pub too_many : (text : List ℕ) (n : ℕ) → begins_plainly text ≡ true → IsParsed text n → most_pods < n → None ≡ count_of text
+pub too_many : (text : List ℕ) (n : ℕ) → begins_plainly text ≡ true → IsParsed text n → most_pods < n
+    → None ≡ count_of text
 too_many text n plain h beyond = none_decimal text λ m least most is.
     let value = (read text n plain h).1 in
     let other = (decimal_is_IsNumeral m (omega arith)).1 in
@@ -116,22 +129,27 @@ of_count number stop_at (Some n) s stop spelled h =
     subst IsSourceWithin (same_Some (Generated n stop_at) s h) (least, most, stop)
 
 of_generated : (number : Text) (named : Named) (b : Bool) (s : Source) → IsStopWithin named.stop_at
-    → (if b then option_map (λ (count : ℕ). Generated count named.stop_at) (count_of number) else None) ≡ Some s → IsSourceWithin s
+    → (if b then option_map (λ (count : ℕ). Generated count named.stop_at) (count_of number) else None) ≡ Some s
+    → IsSourceWithin s
 of_generated number named true s stop h = of_count number named.stop_at (count_of number) s stop refl h
 of_generated number named false s stop h = absurd (none-some s h)
 
-of_files : (named : Named) (b : Bool) (s : Source) → IsStopWithin named.stop_at → nat_le (length named.lists) most_lists ≡ b
+of_files : (named : Named) (b : Bool) (s : Source) → IsStopWithin named.stop_at
+    → nat_le (length named.lists) most_lists ≡ b
     → (if b then Some (Files named) else None) ≡ Some s → IsSourceWithin s
 of_files named true s stop is h = subst IsSourceWithin (same_Some (Files named) s h) (few named.lists is, stop)
 of_files named false s stop is h = absurd (none-some s h)
 
-of_session : (file : Text) (named : Named) (b : Bool) (s : Source) → (if b then Some (Session file) else None) ≡ Some s → IsSourceWithin s
+of_session : (file : Text) (named : Named) (b : Bool) (s : Source) → (if b then Some (Session file) else None) ≡ Some s
+    → IsSourceWithin s
 of_session file named true s h = subst IsSourceWithin (same_Some (Session file) s h) tt
 of_session file named false s h = absurd (none-some s h)
 
 of_others : (named : Named) (b : Bool) (s : Source) → IsStopWithin named.stop_at
-    → (if b then session_of (drop (length (codes "reg:")) named.pods) named else files_of named) ≡ Some s → IsSourceWithin s
-of_others named true s stop h = of_session (drop (length (codes "reg:")) named.pods) named (is_alone named && is_none named.stop_at) s h
+    → (if b then session_of (drop (length (codes "reg:")) named.pods) named else files_of named) ≡ Some s
+    → IsSourceWithin s
+of_others named true s stop h =
+    of_session (drop (length (codes "reg:")) named.pods) named (is_alone named && is_none named.stop_at) s h
 of_others named false s stop h = of_files named (nat_le (length named.lists) most_lists) s stop refl h
 
 of_source : (named : Named) (b : Bool) (s : Source) → IsStopWithin named.stop_at
@@ -141,5 +159,6 @@ of_source : (named : Named) (b : Bool) (s : Source) → IsStopWithin named.stop_
 of_source named true s stop h = of_generated (drop (length (codes "gen:")) named.pods) named (is_alone named) s stop h
 of_source named false s stop h = of_others named (asks_session named.pods) s stop h
 
-pub source-within : (named : Named) (s : Source) → IsStopWithin named.stop_at → source_of named ≡ Some s → IsSourceWithin s
+pub source-within : (named : Named) (s : Source) → IsStopWithin named.stop_at → source_of named ≡ Some s
+    → IsSourceWithin s
 source-within named s stop h = of_source named (asks_generator named.pods) s stop h

@@ -18,8 +18,11 @@ use Rattle.tool_words.specs.{Command.{the_app, the_rules}, Parse.Passes}
 
 -- ---- the arguments of the command, by their rules
 
-rule_at : (c : Command) → app_of c ≡ the_app → (k : ℕ) (d : Arg) → slice_index_or the_rules k (rule_of d) ≡ rule_of (slice_index_or (args_of c) k d)
-rule_at c is k d = ap (λ (rs : List Rule). slice_index_or rs k (rule_of d)) (sym (ap (λ a. a.top.rules) is)) ∙ get_or-map rule_of (args_of c) k d
+rule_at : (c : Command) → app_of c ≡ the_app → (k : ℕ) (d : Arg)
+    → slice_index_or the_rules k (rule_of d) ≡ rule_of (slice_index_or (args_of c) k d)
+rule_at c is k d =
+    ap (λ (rs : List Rule). slice_index_or rs k (rule_of d)) (sym (ap (λ a. a.top.rules) is))
+    ∙ get_or-map rule_of (args_of c) k d
 
 arg_count : (c : Command) → app_of c ≡ the_app → length (args_of c) ≡ length the_rules
 arg_count c is = sym (length-map (args_of c) rule_of) ∙ ap (λ a. length a.top.rules) is
@@ -27,7 +30,8 @@ arg_count c is = sym (length-map (args_of c) rule_of) ∙ ap (λ a. length a.top
 -- the rule says nothing of another argument, of case or of how words are read, and has a name that clap gives nothing
 abbrev is_own : Rule → Bool
 is_own rule = rule.is_simple && (rule.is_free && (not rule.ignore_case
-    && (not (bytes_eq rule.id []) && (not (bytes_eq rule.id (codes "help")) && not (bytes_eq rule.id (codes "version"))))))
+    && (not (bytes_eq rule.id [])
+    && (not (bytes_eq rule.id (codes "help")) && not (bytes_eq rule.id (codes "version"))))))
 
 each_is_own : list_all is_own the_rules ≡ true
 each_is_own = refl
@@ -41,11 +45,14 @@ passes_test true not_false = refl
 passes_test false not_false = absurd (not_false refl)
 
 -- what holds of each element holds of the one at a place
-at_place : {X : Type 0} (p : X → Bool) (xs : List X) (k : ℕ) (d : X) → list_all p xs ≡ true → k < length xs → p (slice_index_or xs k d) ≡ true
-at_place p xs k d all lt = passes_test (p (slice_index_or xs k d)) (λ fails. true≢false (sym all ∙ list_all_at p xs k d lt fails))
+at_place : {X : Type 0} (p : X → Bool) (xs : List X) (k : ℕ) (d : X) → list_all p xs ≡ true → k < length xs
+    → p (slice_index_or xs k d) ≡ true
+at_place p xs k d all lt =
+    passes_test (p (slice_index_or xs k d)) (λ fails. true≢false (sym all ∙ list_all_at p xs k d lt fails))
 
 -- a name stands at one place
-one_place : (names : List Text) (d e : Text) (j k : ℕ) → distinct bytes_eq names ≡ true → j < length names → k < length names
+one_place : (names : List Text) (d e : Text) (j k : ℕ) → distinct bytes_eq names ≡ true → j < length names
+    → k < length names
     → bytes_eq (slice_index_or names j d) (slice_index_or names k e) ≡ true → j ≡ k
 one_place [] d e j k differ low high same = absurd (omega arith)
 one_place (n ∷ ns) d e zero zero differ low high same = refl
@@ -53,7 +60,8 @@ one_place (n ∷ ns) d e zero (suc k) differ low high same =
     let later : list_any (bytes_eq n) ns ≡ true = list_any_at (bytes_eq n) ns k e (omega arith) same in
     grind (arith, differ, later)
 one_place (n ∷ ns) d e (suc j) zero differ low high same =
-    let back : bytes_eq n (slice_index_or ns j d) ≡ true = (bytes_eq-Decides n (slice_index_or ns j d)).1 (sym ((bytes_eq-Decides (slice_index_or ns j d) n).0 same)) in
+    let back : bytes_eq n (slice_index_or ns j d) ≡ true =
+    (bytes_eq-Decides n (slice_index_or ns j d)).1 (sym ((bytes_eq-Decides (slice_index_or ns j d) n).0 same)) in
     let later : list_any (bytes_eq n) ns ≡ true = list_any_at (bytes_eq n) ns j d (omega arith) back in
     grind (arith, differ, later)
 one_place (n ∷ ns) d e (suc j) (suc k) differ low high same =
@@ -94,21 +102,27 @@ pub record IsAt (c : Command) (k : ℕ) (name : Text) (q : ValueParser) : Type 0
   pub id : (d : Arg) → (slice_index_or (args_of c) k d).id.now ≡ name
   pub parser : (d : Arg) → (slice_index_or (args_of c) k d).value_parser ≡ Some q
   pub exact : (d : Arg) → (slice_index_or (args_of c) k d).ignore_case ≡ false
-  pub only : (j : ℕ) (e : Arg) → j < length (args_of c) → bytes_eq (slice_index_or (args_of c) j e).id.now name ≡ true → j ≡ k
+  pub only : (j : ℕ) (e : Arg) → j < length (args_of c) → bytes_eq (slice_index_or (args_of c) j e).id.now name ≡ true
+      → j ≡ k
   pub no_help : name ≡ codes "help" → ⊥
   pub no_version : name ≡ codes "version" → ⊥
 
-same_rules : (c : Command) (m : ArgMatches) (p : IsParsedFrom c m) (k : ℕ) (name : Text) (q : ValueParser) → IsAt c k name q
-    → (j : ℕ) (x : Arg) → j < length (args_of p.built) → slice_index_or (args_of p.built) j x ≡ x → bytes_eq x.id.now name ≡ true
+same_rules : (c : Command) (m : ArgMatches) (p : IsParsedFrom c m) (k : ℕ) (name : Text) (q : ValueParser)
+    → IsAt c k name q
+    → (j : ℕ) (x : Arg) → j < length (args_of p.built) → slice_index_or (args_of p.built) j x ≡ x
+    → bytes_eq x.id.now name ≡ true
     → SameRules (slice_index_or (args_of c) k x) x
 same_rules c m p k name q at j x high here same =
     same_rules_by_id c m p k x at.inside
-    (λ i e lt hit. at.only i e lt (subst (λ (w : Text). bytes_eq (slice_index_or (args_of c) i e).id.now w ≡ true) (at.id x) hit))
+    (λ i e lt hit.
+    at.only i e lt (subst (λ (w : Text). bytes_eq (slice_index_or (args_of c) i e).id.now w ≡ true) (at.id x) hit))
     (λ auto. elim auto [ inl h ↦ at.no_help (sym (at.id x) ∙ h) | inr h ↦ at.no_version (sym (at.id x) ∙ h) ])
     j x high here (subst (λ (w : Text). bytes_eq x.id.now w ≡ true) (sym (at.id x)) same)
 
-parser_is : (c : Command) (m : ArgMatches) (p : IsParsedFrom c m) (k : ℕ) (name : Text) (q : ValueParser) → IsAt c k name q
-    → (j : ℕ) (x : Arg) → j < length (args_of p.built) → slice_index_or (args_of p.built) j x ≡ x → bytes_eq x.id.now name ≡ true
+parser_is : (c : Command) (m : ArgMatches) (p : IsParsedFrom c m) (k : ℕ) (name : Text) (q : ValueParser)
+    → IsAt c k name q
+    → (j : ℕ) (x : Arg) → j < length (args_of p.built) → slice_index_or (args_of p.built) j x ≡ x
+    → bytes_eq x.id.now name ≡ true
     → parser_of x ≡ q
 parser_is c m p k name q at j x high here same =
     ap parser_of_value ((same_rules c m p k name q at j x high here same).parser q (at.parser x))
@@ -117,21 +131,28 @@ passed : (c : Command) (m : ArgMatches) (p : IsParsedFrom c m) (k : ℕ) (name :
     → (v : Text) → PassesArg p.built name v → Accepts false q v
 passed c m p k name q at v pass =
     let is_q = parser_is c m p k name q at pass.0 pass.1 pass.2 pass.3 pass.4.0 in
-    let exact : pass.1.ignore_case ≡ false = (same_rules c m p k name q at pass.0 pass.1 pass.2 pass.3 pass.4.0).ignore_case ∙ at.exact pass.1 in
-    subst (λ (w : ValueParser). Accepts false w v) is_q (subst (λ (b : Bool). Accepts b (parser_of pass.1) v) exact pass.4.1)
+    let exact : pass.1.ignore_case ≡ false =
+    (same_rules c m p k name q at pass.0 pass.1 pass.2 pass.3 pass.4.0).ignore_case ∙ at.exact pass.1 in
+    subst (λ (w : ValueParser). Accepts false w v) is_q
+    (subst (λ (b : Bool). Accepts b (parser_of pass.1) v) exact pass.4.1)
 
 -- ---- the text that is read
 
 head : (vs : List (Bor Text)) (how : Reading) (Q : Text → Type 0) (text : Text) → All (λ v. Q v.now) vs
-    → option_map (λ s. read_as how s.now) (slice_get vs 0) ≡ Some text → (given : Text) × (text ≡ read_as how given) × Q given
+    → option_map (λ s. read_as how s.now) (slice_get vs 0) ≡ Some text
+    → (given : Text) × (text ≡ read_as how given) × Q given
 head [] how Q text all is = cc
 head (v ∷ vs) how Q text all is = (v.now, cc, All-get_or (λ w. Q w.now) (v ∷ vs) 0 v (omega arith) all)
 
-finish : (how : Reading) (q : ValueParser) (text : Text) (Q : Text → Type 0) → how ≡ reading_of q → ((given : Text) × (text ≡ read_as how given) × Q given)
-    → ((v : Text) → Q v → Accepts false q v) → (given : Text) × (text ≡ read_as (reading_of q) given) × Accepts false q given
-finish how q text Q is first pass = (first.0, first.1 ∙ ap (λ (r : Reading). read_as r first.0) is, pass first.0 first.2)
+finish : (how : Reading) (q : ValueParser) (text : Text) (Q : Text → Type 0) → how ≡ reading_of q
+    → ((given : Text) × (text ≡ read_as how given) × Q given)
+    → ((v : Text) → Q v → Accepts false q v)
+    → (given : Text) × (text ≡ read_as (reading_of q) given) × Accepts false q given
+finish how q text Q is first pass =
+    (first.0, first.1 ∙ ap (λ (r : Reading). read_as r first.0) is, pass first.0 first.2)
 
-of_entry : (c : Command) (m : ArgMatches) (p : IsParsedFrom c m) (k : ℕ) (name : Text) (q : ValueParser) → IsAt c k name q → IsPlain c → (name ≡ [] → ⊥)
+of_entry : (c : Command) (m : ArgMatches) (p : IsParsedFrom c m) (k : ℕ) (name : Text) (q : ValueParser)
+    → IsAt c k name q → IsPlain c → (name ≡ [] → ⊥)
     → (x : MatchedArg) (text : Text) → option_map (λ s. read_as x.reading s.now) (slice_get x.vals.items 0) ≡ Some text
     → ((e : Entry) × (e.1 ≡ x) × (bytes_eq e.0.now name ≡ true) × EntryPasses p.built e)
     → (given : Text) × (text ≡ read_as (reading_of q) given) × Accepts false q given
@@ -147,22 +168,27 @@ of_entry c m p k name q at plain named x text is got =
     ] in
     let all : All (λ (v : Bor Text). PassesArg p.built name v.now) x.vals.items = elim pass.0 [
       | inl g ↦ absurd (no_group g)
-      | inr vals ↦ subst (λ (w : Text). All (λ (v : Bor Text). PassesArg p.built w v.now) x.vals.items) key (rw got.1 at vals)
+      | inr vals ↦
+          subst (λ (w : Text). All (λ (v : Bor Text). PassesArg p.built w v.now) x.vals.items) key (rw got.1 at vals)
     ] in
     let how : x.reading ≡ reading_of q = elim pass.4 [
       | inl g ↦ absurd (no_group g)
       | inr h ↦
           let same : bytes_eq h.1.id.now name ≡ true = subst (λ (w : Text). bytes_eq h.1.id.now w ≡ true) key h.4.0 in
-          ap (λ (y : MatchedArg). y.reading) (sym got.1) ∙ sym h.4.1 ∙ ap reading_of (parser_is c m p k name q at h.0 h.1 h.2 h.3 same)
+          ap (λ (y : MatchedArg). y.reading) (sym got.1) ∙ sym h.4.1
+          ∙ ap reading_of (parser_is c m p k name q at h.0 h.1 h.2 h.3 same)
     ] in
-    finish x.reading q text (λ (v : Text). PassesArg p.built name v) how (head x.vals.items x.reading (λ (v : Text). PassesArg p.built name v) text all is)
+    finish x.reading q text (λ (v : Text). PassesArg p.built name v) how
+    (head x.vals.items x.reading (λ (v : Text). PassesArg p.built name v) text all is)
     (λ v pass_v. passed c m p k name q at v pass_v)
 
-passes : (c : Command) (m : ArgMatches) → IsParsedFrom c m → app_of c ≡ the_app → (k : ℕ) (name : Text) (q : ValueParser) → IsAt c k name q → (name ≡ [] → ⊥) → Passes m name q
+passes : (c : Command) (m : ArgMatches) → IsParsedFrom c m → app_of c ≡ the_app
+    → (k : ℕ) (name : Text) (q : ValueParser) → IsAt c k name q → (name ≡ [] → ⊥) → Passes m name q
 passes c m p is k name q at named text = go (matched_of (found_of m) name) refl
   where
     go : (o : Option MatchedArg) → matched_of (found_of m) name ≡ o
-        → option_and_then (λ (a : MatchedArg). option_map (λ s. read_as a.reading s.now) (slice_get a.vals.items 0)) (matched_of (found_of m) name) ≡ Some text
+        → option_and_then (λ (a : MatchedArg). option_map (λ s. read_as a.reading s.now) (slice_get a.vals.items 0))
+        (matched_of (found_of m) name) ≡ Some text
         → (given : Text) × (text ≡ read_as (reading_of q) given) × Accepts false q given
     go None e one =
         let bad : None ≡ Some text = rw e at one in
@@ -177,22 +203,31 @@ passes c m p is k name q at named text = go (matched_of (found_of m) name) refl
 
 -- no other argument has its name
 only_at : (c : Command) → app_of c ≡ the_app → (k : ℕ) (rule : Rule) → slice_get the_rules k ≡ Some rule
-    → (j : ℕ) (e : Arg) → j < length (args_of c) → bytes_eq (slice_index_or (args_of c) j e).id.now rule.id ≡ true → j ≡ k
+    → (j : ℕ) (e : Arg) → j < length (args_of c) → bytes_eq (slice_index_or (args_of c) j e).id.now rule.id ≡ true
+    → j ≡ k
 only_at c is k rule at j e lt hit =
     let id : Rule → Text = λ (r : Rule). r.id in
     let names = map id the_rules in
-    let mine : slice_index_or names k rule.id ≡ rule.id = get_or-map id the_rules k rule ∙ ap id (get_or_from_slice_get the_rules k rule rule at) in
-    let other : slice_index_or names j e.id.now ≡ (slice_index_or (args_of c) j e).id.now = get_or-map id the_rules j (rule_of e) ∙ ap id (rule_at c is j e) in
-    one_place names e.id.now rule.id j k names_differ (subst (λ n. j < n) (arg_count c is) lt) (slice_get_within the_rules k rule at)
-    (subst (λ (w : Text). bytes_eq w (slice_index_or names k rule.id) ≡ true) (sym other) (subst (λ (w : Text). bytes_eq (slice_index_or (args_of c) j e).id.now w ≡ true) (sym mine) hit))
+    let mine : slice_index_or names k rule.id ≡ rule.id =
+    get_or-map id the_rules k rule ∙ ap id (get_or_from_slice_get the_rules k rule rule at) in
+    let other : slice_index_or names j e.id.now ≡ (slice_index_or (args_of c) j e).id.now =
+    get_or-map id the_rules j (rule_of e) ∙ ap id (rule_at c is j e) in
+    one_place names e.id.now rule.id j k names_differ (subst (λ n. j < n) (arg_count c is) lt)
+    (slice_get_within the_rules k rule at)
+    (subst (λ (w : Text). bytes_eq w (slice_index_or names k rule.id) ≡ true) (sym other)
+    (subst (λ (w : Text). bytes_eq (slice_index_or (args_of c) j e).id.now w ≡ true) (sym mine) hit))
 
 -- the values of an argument with a parser have passed it
-pub passes_parser : (c : Command) (m : ArgMatches) → IsParsedFrom c m → app_of c ≡ the_app → (k : ℕ) (rule : Rule) (q : ValueParser) → slice_get the_rules k ≡ Some rule → rule.parser ≡ Some q
+pub passes_parser : (c : Command) (m : ArgMatches) → IsParsedFrom c m → app_of c ≡ the_app
+    → (k : ℕ) (rule : Rule) (q : ValueParser) → slice_get the_rules k ≡ Some rule → rule.parser ≡ Some q
     → Passes m rule.id q
 passes_parser c m p is k rule q at parses =
     let inside : k < length the_rules = slice_get_within the_rules k rule at in
-    let there : (d : Arg) → rule_of (slice_index_or (args_of c) k d) ≡ rule = λ d. sym (rule_at c is k d) ∙ get_or_from_slice_get the_rules k rule (rule_of d) at in
-    let own : is_own rule ≡ true = subst (λ (r : Rule). is_own r ≡ true) (get_or_from_slice_get the_rules k rule rule at) (at_place is_own the_rules k rule each_is_own inside) in
+    let there : (d : Arg) → rule_of (slice_index_or (args_of c) k d) ≡ rule =
+    λ d. sym (rule_at c is k d) ∙ get_or_from_slice_get the_rules k rule (rule_of d) at in
+    let own : is_own rule ≡ true =
+    subst (λ (r : Rule). is_own r ≡ true) (get_or_from_slice_get the_rules k rule rule at)
+    (at_place is_own the_rules k rule each_is_own inside) in
     let exact = both _ _ (both _ _ (both _ _ own).1).1 in
     let named = both _ _ exact.1 in
     let flags = both _ _ named.1 in

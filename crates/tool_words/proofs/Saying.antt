@@ -10,13 +10,18 @@ unfolding words_given
 refused words Usage refusal = rw refusal refl
 refused words NoMemory refusal = tt
 
-pub says : (words : List (List ℕ)) (m : ArgMatches) (pods : Option Text) → IsParseOf words m → pods ≡ first_of pods_word (rows_of (found_of m))
+pub says : (words : List (List ℕ)) (m : ArgMatches) (pods : Option Text) → IsParseOf words m
+    → pods ≡ first_of pods_word (rows_of (found_of m))
     → words_given words ≡ words_if (rows_of (found_of m)) pods
 unfolding words_given
 says words m pods p is = rw (p.taken, ← p.rows_are, is) refl
 
 -- the words say what the source says of what they name
-pub by_source : (words : List (List ℕ)) (m : ArgMatches) (pods : Text) (named : Named) (source : Option Source) → IsParseOf words m → Some pods ≡ first_of pods_word (rows_of (found_of m))
-    → named ≡ named_in (rows_of (found_of m)) pods → source ≡ source_of named → words_given words ≡ option_map (words_in (rows_of (found_of m))) source
-by_source words m pods named source p is names gives = says words m (Some pods) p is ∙ ap (λ (n : Named). option_map (words_in (rows_of (found_of m))) (source_of n)) (sym names)
+pub by_source : (words : List (List ℕ)) (m : ArgMatches) (pods : Text) (named : Named) (source : Option Source)
+    → IsParseOf words m → Some pods ≡ first_of pods_word (rows_of (found_of m))
+    → named ≡ named_in (rows_of (found_of m)) pods → source ≡ source_of named
+    → words_given words ≡ option_map (words_in (rows_of (found_of m))) source
+by_source words m pods named source p is names gives =
+    says words m (Some pods) p is
+    ∙ ap (λ (n : Named). option_map (words_in (rows_of (found_of m))) (source_of n)) (sym names)
     ∙ ap (option_map (words_in (rows_of (found_of m)))) (sym gives)

@@ -2,7 +2,8 @@
 
 ghost use Rattle.std.specs.Prelude.{◌≡◌, IfOk};
 ghost use Rattle.clap.specs.Words.{app_of};
-ghost use Rattle.tool_words.specs.Command.{IsArg, bare_app, flag_rule, list_rule, pods_rule, probe_rule, stop_rule, the_app, threads_rule};
+ghost use Rattle.tool_words.specs.Command.{IsArg, bare_app, flag_rule, list_rule, pods_rule, probe_rule, stop_rule};
+ghost use Rattle.tool_words.specs.Command.{the_app, threads_rule};
 
 use clap::{Arg, ArgAction, Command, value_parser};
 use std::alloc::{AllocError, Global};

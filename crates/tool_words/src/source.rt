@@ -1,7 +1,8 @@
 //! Where the pods come from, or the tasks.
 
 ghost use Rattle.std.specs.Prelude.{◌≡◌, IfOk};
-ghost use Rattle.tool_words.specs.Source.{begins_plainly, count_of, files_of, generated_of, is_alone, session_of, source_of};
+ghost use Rattle.tool_words.specs.Source.{begins_plainly, count_of, files_of, generated_of, is_alone, session_of};
+ghost use Rattle.tool_words.specs.Source.{source_of};
 
 use cni_addr::{Items, NoMemory, Text};
 use std::alloc::Global;

@@ -50,8 +50,8 @@ impl From<NoMemory> for WordsEnd {
 /// Reads the words, without the program's own name, as clap takes them (its documentation of `Command` and `Arg`).
 ///
 /// Words that clap takes are refused where they name more than 64 lists. Where PODS begins `gen:`, a number from 1 to
-/// 10,000 stands behind it, without a sign or a leading zero, and no list, `--requests` or `--probe` beside it; where it
-/// begins `reg:`, none of these stands beside it either, and no `--stop-at`. Else they are refused too.
+/// 10,000 stands behind it, without a sign or a leading zero, and no list, `--requests` or `--probe` beside it; where
+/// it begins `reg:`, none of these stands beside it either, and no `--stop-at`. Else they are refused too.
 pub fn read_words(alloc: Global, words: &[Text]) -> Result<Words, WordsEnd>
     ensures exact { Reads (words_given words.now) result }
     ensures limits { IfOk result IsWithinLimits }

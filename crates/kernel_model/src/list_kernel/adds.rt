@@ -2,7 +2,9 @@
 
 ghost use Rattle.std.specs.Prelude.{◌≡◌, List, [], ◌∷◌, ◌++◌, IfOk, OnErr, find};
 ghost use Rattle.std.specs.Option.{option_copied};
-ghost use Rattle.kernel_types.specs.Apply.Calls.{append_unless_taken, veth_add_of, master_is_bridge_or_none, macvlan_add_of, has_master, addr_add_of, route_add_of, rule_append_of, setting_set_of};
+ghost use Rattle.kernel_types.specs.Apply.Calls.{append_unless_taken, veth_add_of, master_is_bridge_or_none};
+ghost use Rattle.kernel_types.specs.Apply.Calls.{macvlan_add_of, has_master, addr_add_of, route_add_of, rule_append_of};
+ghost use Rattle.kernel_types.specs.Apply.Calls.{setting_set_of};
 ghost use Rattle.kernel_types.specs.Keys.{is_same_addr, is_same_route, is_same_setting};
 ghost use Rattle.kernel_types.specs.declared.object.Host.{Host};
 

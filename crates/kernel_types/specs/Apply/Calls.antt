@@ -9,8 +9,11 @@ use Rattle.kernel_types.specs.Equal.{att_eq, link_eq, addr_obj_eq, route_eq, rul
 use Rattle.ip_pool.specs.Pool.{pick_of, has_free_of}
 use Rattle.link_names.specs.Names.{link_mac_of}
 pub use Rattle.kernel_types.specs.Keys.{is_same_addr, is_same_route, is_same_rule, is_same_setting}
-pub use Rattle.kernel_types.specs.Terms.{has_link_in, addresses_in, is_of_pool, last_in, last_leased, leased_addresses, owner_in}
-use Rattle.kernel_types.specs.Terms.{is_host_or_ns, is_own, is_owned, is_bridge, is_at, is_peer_at, has_named_ns, link_at, is_host_link, is_bridge_with, has_host_bridge, has_objects, new_link, lease_of, cached_in, outside_namespace}
+pub use Rattle.kernel_types.specs.Terms.{has_link_in, addresses_in, is_of_pool, last_in, last_leased, leased_addresses}
+pub use Rattle.kernel_types.specs.Terms.{owner_in}
+use Rattle.kernel_types.specs.Terms.{is_host_or_ns, is_own, is_owned, is_bridge, is_at, is_peer_at, has_named_ns}
+use Rattle.kernel_types.specs.Terms.{link_at, is_host_link, is_bridge_with, has_host_bridge, has_objects, new_link}
+use Rattle.kernel_types.specs.Terms.{lease_of, cached_in, outside_namespace}
 use Rattle.kernel_types.specs.declared.object.Att.{Att}
 use Rattle.kernel_types.specs.declared.object.LinkKey.{LinkKey}
 use Rattle.kernel_types.specs.declared.object.Tag.{Tag}
@@ -32,7 +35,8 @@ use Rattle.kernel_types.specs.declared.call.Object.TheVariants as objects
 use Rattle.kernel_types.specs.declared.call.Probe.{Probe}
 use Rattle.kernel_types.specs.declared.call.Probe.TheVariants.{Whole, BridgeAt, Master}
 use Rattle.kernel_types.specs.declared.call.Reply.{Reply}
-use Rattle.kernel_types.specs.declared.call.Reply.TheVariants.{Done, NoNs, NoLink, Taken, Empty, Leased, Gone, Has, Owners, Entry}
+use Rattle.kernel_types.specs.declared.call.Reply.TheVariants.{Done, NoNs, NoLink, Taken, Empty, Leased, Gone, Has}
+use Rattle.kernel_types.specs.declared.call.Reply.TheVariants.{Owners, Entry}
 
 -- the tag of what stands in the way, if anything does; else the host goes on to the next
 abbrev pub append_unless_taken : Option Tag → Host → Host → Host × Reply

@@ -13,8 +13,8 @@ use Rattle.pod_laws.proofs.{Histories.{Entries.own_entries-own, Steps.GoesOn}, R
 
 -- ---- an entry of an ADD that goes on
 
--- what the attachment has is asked for with these addresses: one candidate a set so far, and of every set where it has a
--- cached result
+-- what the attachment has is asked for with these addresses: one candidate a set so far, and of every set where it has
+-- a cached result
 pub record IsAskedWith (list : NetList) (c : Command) (given : List Addr) (objects : Share) : Type 0 where
   pub so_far : AreCandidatesSoFar (sets_of list) given
   pub all_leased : objects.cached ≢ [] → AreCandidates (sets_of list) given

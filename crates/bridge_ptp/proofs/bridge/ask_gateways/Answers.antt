@@ -14,4 +14,5 @@ returns-in_ok-ask_forward c =
     c.in_ok-ask_forward.ensures.ok
     ∙ ap (λ l. l ++ forward_calls given) (c.in_ok-ask_all.ensures.ok ∙ ap (λ l. old ++ l) asked)
     ∙ append_assoc old ensured (forward_calls given)
-    ∙ ap (λ b. old ++ (if b then ensured ++ forward_calls given else [])) (sym c.if-is_gateway.true ∙ c.is_gateway.ensures)
+    ∙ ap (λ b. old ++ (if b then ensured ++ forward_calls given else []))
+    (sym c.if-is_gateway.true ∙ c.is_gateway.ensures)

@@ -6,5 +6,6 @@ use Rattle.cni_addr.proofs.laws.cidr_text_laws.Goals as goal
 pub returns : goal.returns
 returns c = record {
   kept = spelled_is_cidr;
-  spelling = IsSpelling-exact _ _ _ cidr_text network_spelled_is_read network_read_is_spelled network_written_is_spelled;
+  spelling =
+      IsSpelling-exact _ _ _ cidr_text network_spelled_is_read network_read_is_spelled network_written_is_spelled;
 }

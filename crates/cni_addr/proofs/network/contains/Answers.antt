@@ -7,7 +7,8 @@ pub returns-then-first-addr : goal.returns-then-first-addr
 returns-then-first-addr c =
     elim c.if-eq.branch [
       | then-eq w ↦
-          those_within _ _ _ _ c.own.view_is c.cidr.view_is _ c.first_bits-first.ensures _ _ c.addr.view_is _ c.host_ones.ensures
+          those_within _ _ _ _ c.own.view_is c.cidr.view_is _ c.first_bits-first.ensures _ _ c.addr.view_is _
+          c.host_ones.ensures
           (sym c.eq.ensures ∙ w.if-eq.true) (sym w.value-is ∙ c.if-first-addr.true)
       | else-eq w ↦ absurd (true≢false (sym c.if-first-addr.true ∙ w.value-is ∙ w.if-eq.false))
     ]
@@ -21,5 +22,6 @@ returns-else-first-addr c =
           (sym c.eq.ensures ∙ w.if-eq.true) (sym w.value-is ∙ c.if-first-addr.false)
       | else-eq w ↦
           c.if-first-addr.false
-          ∙ other_family _ _ _ _ c.own.view_is c.cidr.view_is _ c.first_bits-first.ensures _ _ c.addr.view_is (sym c.eq.ensures ∙ w.if-eq.false)
+          ∙ other_family _ _ _ _ c.own.view_is c.cidr.view_is _ c.first_bits-first.ensures _ _ c.addr.view_is
+          (sym c.eq.ensures ∙ w.if-eq.false)
     ]

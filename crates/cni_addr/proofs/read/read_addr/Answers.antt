@@ -5,7 +5,8 @@ use Rattle.cni_addr.specs.{Value.AddrValue, declared.address.Family.{Family, The
 use Rattle.cni_addr.proofs.AddrTexts.{read_dotted, read_groups, none_spelled}
 use Rattle.cni_addr.proofs.read.read_addr.Goals as goal
 
-some_of : (family : Family) (m n : ℕ) → m ≡ n → ◌≡◌ {A = Option AddrValue} (Some (record { family = family; bits = m })) (Some (record { family = family; bits = n }))
+some_of : (family : Family) (m n : ℕ) → m ≡ n → ◌≡◌ {A = Option AddrValue} (Some (record { family = family; bits = m }))
+    (Some (record { family = family; bits = n }))
 some_of family m n e = ap (λ bits. Some (record { family = family; bits = bits })) e
 
 pub returns-in-Ok-V4 : goal.returns-in-Ok-V4
@@ -22,4 +23,5 @@ returns-in-Ok-V6 c =
 
 pub returns-in-Err : goal.returns-in-Err
 returns-in-Err c =
-    sym (none_spelled c.args.text.now (λ octets h. c.in-Err.ensures (ip.V4 (record { octets = octets })) h) (λ groups h. c.in-Err.ensures (ip.V6 (record { segments = groups })) h))
+    sym (none_spelled c.args.text.now (λ octets h. c.in-Err.ensures (ip.V4 (record { octets = octets })) h)
+    (λ groups h. c.in-Err.ensures (ip.V6 (record { segments = groups })) h))

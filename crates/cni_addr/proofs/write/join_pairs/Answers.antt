@@ -13,7 +13,9 @@ loop-place-preserved c =
     let pushed = c.in_ok-push_str.ensures.bytes ∙ ap (λ t. string_bytes c.if-place-gt0.text ++ t) pair in
     elim c.if-place-gt0.branch [
       | then-place-gt0+in_ok-push w ↦
-          let colon_pushed = w.in_ok-push.ensures.bytes ∙ ap (λ t. string_bytes c.loop-place.text ++ t) (w.in_ok-push.ensures.ascii (omega arith)) in
+          let colon_pushed =
+          w.in_ok-push.ensures.bytes
+          ∙ ap (λ t. string_bytes c.loop-place.text ++ t) (w.in_ok-push.ensures.ascii (omega arith)) in
           pushed ∙ ap (λ t. t ++ byte_text (get_or bytes place 0)) (ap string_bytes w.text-is ∙ colon_pushed)
           ∙ next_byte bytes (string_bytes c.loop-place.text) place (omega arith) (omega arith) c.loop-place.invariant
       | else-place-gt0 w ↦

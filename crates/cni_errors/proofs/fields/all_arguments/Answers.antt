@@ -8,5 +8,6 @@ use Rattle.cni_errors.proofs.fields.all_arguments.Goals as goal
 pub returns : goal.returns
 returns c =
     all_from_yields_List (λ piece. is_some (argument_of piece)) _ _ _ c.all.ensures.ran
-    (YieldsList-from_str_split 59 c.args.text.now (lit< tt) c.split.ensures.text c.split.ensures.has_more c.split.ensures.pattern)
+    (YieldsList-from_str_split 59 c.args.text.now (lit< tt) c.split.ensures.text c.split.ensures.has_more
+    c.split.ensures.pattern)
     (λ x b q k. search (rules, tests))

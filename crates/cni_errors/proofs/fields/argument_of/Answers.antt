@@ -10,7 +10,8 @@ cut : (c : After-is_pair) (b : Bool) → c.is_pair.result ≡ b
 cut c b is =
     let first = split_once_first 61 c.args.piece.now c.split_once.result c.split_once.ensures.cases (lit< tt) in
     let here = rw c.in-Some.is at first in
-    argument_is c.args.piece.now c.in-Some.key.now c.in-Some.value.now here.0 here.1 here.2 c.is_pair.result b c.is_pair.ensures is
+    argument_is c.args.piece.now c.in-Some.key.now c.in-Some.value.now here.0 here.1 here.2 c.is_pair.result b
+    c.is_pair.ensures is
 
 pub returns-then-is_pair : goal.returns-then-is_pair
 returns-then-is_pair c = sym (cut (goal.at.returns-then-is_pair c).After-is_pair true c.if-is_pair.true)

@@ -7,7 +7,9 @@ use Rattle.cni_errors.proofs.fields.value_of_argument.Given as goal
 
 -- the rest has the value that the whole has
 abbrev pub invariant-pieces : goal.invariant-pieces
-invariant-pieces l = (value_in l.key (slice_split is_semicolon l.rest) ≡ value_in l.key (slice_split is_semicolon l.text)) × shadow (Utf8 l.rest)
+invariant-pieces l =
+    (value_in l.key (slice_split is_semicolon l.rest) ≡ value_in l.key (slice_split is_semicolon l.text))
+    × shadow (Utf8 l.rest)
 
 abbrev pub decreases-pieces : goal.decreases-pieces
 decreases-pieces l = length l.rest

@@ -17,8 +17,12 @@ loop-done-preserved g c =
     let left = left_is_drop c.args.bytes.now c.loop-done.done in
     record {
       within = grind (arith, common_steps, c.in-Ok.ensures.bound);
-      appended = append_known-more _ _ _ c.args.bytes.now c.loop-done.done c.in-Ok.taken c.loop-done.invariant.appended (rw left at c.in-Ok.ensures.appended);
-      taken = OneMore c.loop-done.done c.in-Ok.taken c.loop-done.sink c.write.new.self c.loop-done.invariant.taken c.loop-done-test.true (omega arith) (rw left at c.in-Ok.ensures.gives);
+      appended =
+          append_known-more _ _ _ c.args.bytes.now c.loop-done.done c.in-Ok.taken c.loop-done.invariant.appended
+          (rw left at c.in-Ok.ensures.appended);
+      taken =
+          OneMore c.loop-done.done c.in-Ok.taken c.loop-done.sink c.write.new.self c.loop-done.invariant.taken
+          c.loop-done-test.true (omega arith) (rw left at c.in-Ok.ensures.gives);
       later = omega (arith, c.in-Ok.ensures.cause.later, c.loop-done.invariant.later);
       bounded = λ fits. c.in-Ok.ensures.cause.bounded;
     }

@@ -8,4 +8,5 @@ use Rattle.cni_json.proofs.members.kept_members.Given as goal
 abbrev pub invariant-loop-key : goal.invariant-loop-key
 invariant-loop-key g l =
     (done : List Entry) × (l.members.entries ≡ done ++ l.key-iterator)
-    × ((test : List ℕ → Bool) → IsKeyTest g.P.Fn l.passes test → members_of l.kept ≡ members_where test (members_view done))
+    × ((test : List ℕ → Bool) → IsKeyTest g.P.Fn l.passes test
+    → members_of l.kept ≡ members_where test (members_view done))

@@ -12,8 +12,10 @@ returns-clause-utf8 c =
 pub returns-clause-again : goal.returns-clause-again
 returns-clause-again c =
     let whole : c.push.new.self.items ≡ c.in-Ok.text.items ++ 10 ∷ [] = search rules in
-    λ shallow. ap json_of whole ∙ json_of-text c.in-Ok.text.items (view c.args.value.now) c.in-Ok.ensures.utf8 c.in-Ok.ensures.reads_back c.requires shallow
+    λ shallow. ap json_of whole ∙ json_of-text c.in-Ok.text.items
+    (view c.args.value.now) c.in-Ok.ensures.utf8 c.in-Ok.ensures.reads_back c.requires shallow
 
 pub returns-clause-keys : goal.returns-clause-keys
 returns-clause-keys c =
-    λ shallow. KeysAscend-json_of _ (view c.args.value.now) (json_of-text c.in-Ok.text.items (view c.args.value.now) c.in-Ok.ensures.utf8 c.in-Ok.ensures.reads_back c.requires shallow)
+    λ shallow. KeysAscend-json_of _ (view c.args.value.now) (json_of-text c.in-Ok.text.items
+    (view c.args.value.now) c.in-Ok.ensures.utf8 c.in-Ok.ensures.reads_back c.requires shallow)

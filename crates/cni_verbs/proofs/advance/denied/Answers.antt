@@ -10,6 +10,7 @@ returns c = λ question there.
     let taken = c.swap_remove-call.result in
     let here : slice_get c.args.questions.now place ≡ Some taken =
     slice_get-get_or c.args.questions.now place taken c.requires
-    ∙ ap (λ (questions : List Question). Some (get_or questions place taken)) (sym (c.into_vec-questions.ensures ∙ c.replace-taken.ensures.value))
+    ∙ ap (λ (questions : List Question). Some (get_or questions place taken))
+    (sym (c.into_vec-questions.ensures ∙ c.replace-taken.ensures.value))
     ∙ ap Some (sym c.swap_remove-call.ensures.value) in
     c.refused.ensures ∙ taken-at c.args.questions.now place taken question here there

@@ -12,13 +12,15 @@ returns-in_ok-after_begin-in-AtBegin-clause-ok c = λ list command sets keeps op
 pub returns-in-BeforeLeases-clause-ok : goal.returns-in-BeforeLeases-clause-ok
 returns-in-BeforeLeases-clause-ok c = λ list command sets keeps opens.
     IfOk-weaker c.after_call_before.result _ _
-    (λ next. goes_before list command c.args.sets c.args.made _ _ c.args.given.now.items c.args.phase.now c.args.reply.now _
+    (λ next.
+    goes_before list command c.args.sets c.args.made _ _ c.args.given.now.items c.args.phase.now c.args.reply.now _
     c.in-BeforeLeases.is c.requires.stands)
     (c.after_call_before.ensures.ok list command sets)
 
 pub returns-in_ok-after_lease-in-Leasing-clause-ok : goal.returns-in_ok-after_lease-in-Leasing-clause-ok
 returns-in_ok-after_lease-in-Leasing-clause-ok c = λ list command sets keeps opens.
-    goes_lease list command c.args.sets c.args.made c.args.given.now.items c.after_lease.new.given.items c.args.phase.now c.args.reply.now _
+    goes_lease list command c.args.sets c.args.made c.args.given.now.items c.after_lease.new.given.items
+    c.args.phase.now c.args.reply.now _
     c.in-Leasing.is c.requires.stands sets (c.in_ok-after_lease-in-Leasing.ensures.ok list command sets)
 
 pub returns-in-AfterLeases-clause-ok : goal.returns-in-AfterLeases-clause-ok

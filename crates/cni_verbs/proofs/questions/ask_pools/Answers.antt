@@ -5,5 +5,6 @@ use Rattle.cni_verbs.proofs.questions.ask_pools.Goals as goal
 pub loop-place-preserved : goal.loop-place-preserved
 loop-place-preserved c =
     let place = c.loop-place.place in
-    numbered_more (pool_question c.args.network.now) _ _ _ place c.args.sets.now place c.index-sets-place.result _ c.loop-place-test.true c.index-sets-place.is
+    numbered_more (pool_question c.args.network.now) _ _ _ place c.args.sets.now place c.index-sets-place.result _
+    c.loop-place-test.true c.index-sets-place.is
     c.in_ok-question.ensures c.loop-place.invariant c.in_ok-push.ensures.items

@@ -4,4 +4,6 @@ use Rattle.cni_verbs.proofs.questions.ask_pools.Given as goal
 
 -- what was asked and what is left are the whole
 abbrev pub invariant-loop-place : goal.invariant-loop-place
-invariant-loop-place l = l.questions.items ++ pool_questions l.network l.place (drop l.place l.sets) ≡ l.initial.questions.items ++ pool_questions l.network 0 l.sets
+invariant-loop-place l =
+    l.questions.items ++ pool_questions l.network l.place (drop l.place l.sets)
+    ≡ l.initial.questions.items ++ pool_questions l.network 0 l.sets

@@ -6,5 +6,6 @@ use Rattle.cni_verbs.proofs.questions.ask_rules.Goals as goal
 pub loop-place-preserved : goal.loop-place-preserved
 loop-place-preserved c =
     let place = c.loop-place.place in
-    numbered_more rule_question _ _ _ (place + 1) c.args.rules.now place c.index-rules-place.result _ c.loop-place-test.true c.index-rules-place.is
+    numbered_more rule_question _ _ _ (place + 1) c.args.rules.now place c.index-rules-place.result _
+    c.loop-place-test.true c.index-rules-place.is
     c.in_ok-question.ensures c.loop-place.invariant c.in_ok-push.ensures.items

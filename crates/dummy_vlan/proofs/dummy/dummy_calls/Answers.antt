@@ -9,4 +9,5 @@ pub returns-clause-own : goal.returns-clause-own
 returns-clause-own c =
     let ask = c.args.ask.now in
     let calls : IfOk c.link_and_addresses.result (λ calls. calls ≡ dummy_calls_of ask) = search rules in
-    IfOk-weaker c.link_and_addresses.result (λ calls. calls ≡ dummy_calls_of ask) (OwnCalls ask (Links ∷ [])) (λ calls same. rw same (own_dummy ask c.requires)) calls
+    IfOk-weaker c.link_and_addresses.result (λ calls. calls ≡ dummy_calls_of ask) (OwnCalls ask (Links ∷ []))
+    (λ calls same. rw same (own_dummy ask c.requires)) calls

@@ -6,9 +6,12 @@ use Rattle.ip_pool.proofs.by_runs.pick_runs.Goals as goal
 pub returns-in-None-clause-next : goal.returns-in-None-clause-next
 returns-in-None-clause-next g c =
     let picks : pick_of c.args.set.now c.args.last c.args.runs.now.addresses ≡ c.first_free_of.result = search rules in
-    pick-is c.args.set.now c.args.last c.args.runs.now.addresses c.first_free_of.result c.requires.apart c.requires.last picks
+    pick-is c.args.set.now c.args.last c.args.runs.now.addresses c.first_free_of.result c.requires.apart c.requires.last
+    picks
 
 pub returns-in-Some-clause-next : goal.returns-in-Some-clause-next
 returns-in-Some-clause-next g c =
-    let picks : pick_of c.args.set.now c.args.last c.args.runs.now.addresses ≡ c.first_free_after.result = search rules in
-    pick-is c.args.set.now c.args.last c.args.runs.now.addresses c.first_free_after.result c.requires.apart c.requires.last picks
+    let picks : pick_of c.args.set.now c.args.last c.args.runs.now.addresses ≡ c.first_free_after.result =
+    search rules in
+    pick-is c.args.set.now c.args.last c.args.runs.now.addresses c.first_free_after.result c.requires.apart
+    c.requires.last picks

@@ -13,13 +13,16 @@ returns-else-next-len-clause-items c = λ d.
     let place = c.args.place in
     let run = c.index_mut-else-next-len.result.now in
     let below : place < length rs = search rules in
-    let put : slice_set rs place (record { first = run.first; last = a }) ≡ take place rs ++ run_up_to run.first a (drop (place + 1) rs) = elim c.else-next-len.branch [
+    let put : slice_set rs place (record { first = run.first; last = a })
+    ≡ take place rs ++ run_up_to run.first a (drop (place + 1) rs) = elim c.else-next-len.branch [
       | else-next-len-via-then-next-len+else-begins_after w ↦
           let within : place + 1 < length rs = search rules in
-          put-apart rs place run.first a w.index.result.now below within w.index.ensures (sym w.begins_after.ensures ∙ w.if-begins_after.false)
+          put-apart rs place run.first a w.index.result.now below within w.index.ensures
+          (sym w.begins_after.ensures ∙ w.if-begins_after.false)
       | else-next-len-via-else-next-len w ↦
           let end : length rs ≤ place + 1 = search rules in
           put-last rs place run.first a below end
     ] in
-    let same : run ≡ slice_index_or rs place d = c.index_mut-else-next-len.ensures.value ∙ get_or_default rs place run d below in
+    let same : run ≡ slice_index_or rs place d =
+    c.index_mut-else-next-len.ensures.value ∙ get_or_default rs place run d below in
     put ∙ ap (λ r. take place rs ++ run_up_to r.first a (drop (place + 1) rs)) same

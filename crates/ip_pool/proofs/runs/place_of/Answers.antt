@@ -7,7 +7,9 @@ pub returns : goal.returns
 returns c =
     let ended = ends_before c.args.gap c.args.addr.now in
     let parted = runs-partitioned c.args.gap c.args.addr.now c.args.runs.now c.requires in
-    let point = IsPartitionPoint-from_clause ended c.args.runs.now c.partition_point.result c.partition_point.ensures.partitioned parted (λ a r f called. search rules) in
+    let point =
+    IsPartitionPoint-from_clause ended c.args.runs.now c.partition_point.result c.partition_point.ensures.partitioned
+    parted (λ a r f called. search rules) in
     record {
       within = c.partition_point.ensures.bound;
       before = all_within-take ended c.args.runs.now c.partition_point.result c.partition_point.ensures.bound point.0;

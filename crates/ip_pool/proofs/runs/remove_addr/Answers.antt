@@ -11,7 +11,8 @@ returns-then-place-len-clause-found c =
     let rs = c.args.runs.now.items in
     let a = c.args.addr.now in
     let place = c.place_of-place.result in
-    let ended : list_all (ends_before 0 a) (take place rs) ≡ true = rw c.deref.ensures.value at c.place_of-place.ensures.before in
+    let ended : list_all (ends_before 0 a) (take place rs) ≡ true =
+    rw c.deref.ensures.value at c.place_of-place.ensures.before in
     let end : length rs ≤ place = search rules in
     sym (none-has (is_in_run a) rs (find-past_all a rs place ended end))
 
@@ -20,7 +21,8 @@ returns-then-place-len-clause-items c =
     let rs = c.args.runs.now.items in
     let a = c.args.addr.now in
     let place = c.place_of-place.result in
-    let ended : list_all (ends_before 0 a) (take place rs) ≡ true = rw c.deref.ensures.value at c.place_of-place.ensures.before in
+    let ended : list_all (ends_before 0 a) (take place rs) ≡ true =
+    rw c.deref.ensures.value at c.place_of-place.ensures.before in
     let end : length rs ≤ place = search rules in
     keep-all a rs place ended end
 
@@ -31,10 +33,13 @@ returns-then-not-has-clause-found c =
     let place = c.place_of-place.result in
     let run = c.index.result.now in
     let below : place < length rs = search rules in
-    let ended : list_all (ends_before 0 a) (take place rs) ≡ true = rw c.deref.ensures.value at c.place_of-place.ensures.before in
+    let ended : list_all (ends_before 0 a) (take place rs) ≡ true =
+    rw c.deref.ensures.value at c.place_of-place.ensures.before in
     let at-place = rw c.deref.ensures.value at c.place_of-place.ensures.at in
     let reaches : ends_before 0 a run ≡ false = ap (ends_before 0 a) c.index.ensures ∙ at-place below run in
-    let missed : find (is_in_run a) rs ≡ None = find-at a rs place run c.requires.runs ended below c.index.ensures reaches ∙ ap (λ b. cond b (Some run) None) (sym c.has.ensures ∙ c.if-not-has.true) in
+    let missed : find (is_in_run a) rs ≡ None =
+    find-at a rs place run c.requires.runs ended below c.index.ensures reaches
+    ∙ ap (λ b. cond b (Some run) None) (sym c.has.ensures ∙ c.if-not-has.true) in
     sym (none-has (is_in_run a) rs missed)
 
 pub returns-then-not-has-clause-items : goal.returns-then-not-has-clause-items
@@ -44,7 +49,8 @@ returns-then-not-has-clause-items c =
     let place = c.place_of-place.result in
     let run = c.index.result.now in
     let below : place < length rs = search rules in
-    let ended : list_all (ends_before 0 a) (take place rs) ≡ true = rw c.deref.ensures.value at c.place_of-place.ensures.before in
+    let ended : list_all (ends_before 0 a) (take place rs) ≡ true =
+    rw c.deref.ensures.value at c.place_of-place.ensures.before in
     let at-place = rw c.deref.ensures.value at c.place_of-place.ensures.at in
     let reaches : ends_before 0 a run ≡ false = ap (ends_before 0 a) c.index.ensures ∙ at-place below run in
     keep-at a rs place run ended below c.index.ensures reaches (sym c.has.ensures ∙ c.if-not-has.true)
@@ -60,7 +66,13 @@ put_parts-requires-clause-room c =
     let runs : list_all is_run rs ≡ true = grind arith in
     let places = length-run-le-size rs place run runs below in
     let parts = parts-length a run here in
-    omega (arith, ap run_size c.index.ensures, ap length c.part_below.ensures, ap length c.part_above.ensures, c.requires.room)
+    omega (
+      arith,
+      ap run_size c.index.ensures,
+      ap length c.part_below.ensures,
+      ap length c.part_above.ensures,
+      c.requires.room,
+    )
 
 pub returns-clause-items : goal.returns-clause-items
 returns-clause-items c =
@@ -69,8 +81,10 @@ returns-clause-items c =
     let place = c.place_of-place.result in
     let run = c.index.result.now in
     let below : place < length rs = search rules in
-    let ended : list_all (ends_before 0 a) (take place rs) ≡ true = rw c.deref.ensures.value at c.place_of-place.ensures.before in
+    let ended : list_all (ends_before 0 a) (take place rs) ≡ true =
+    rw c.deref.ensures.value at c.place_of-place.ensures.before in
     let at-place = rw c.deref.ensures.value at c.place_of-place.ensures.at in
     let reaches : ends_before 0 a run ≡ false = ap (ends_before 0 a) c.index.ensures ∙ at-place below run in
     let here : is_in_run a run ≡ true = sym c.has.ensures ∙ c.if-not-has.false in
-    c.put_parts.ensures.items ∙ ap₂ (λ lower upper. take place rs ++ (lower ++ (upper ++ drop (place + 1) rs))) c.part_below.ensures c.part_above.ensures ∙ sym (remove-at a rs place run ended below c.index.ensures reaches here)
+    c.put_parts.ensures.items ∙ ap₂ (λ lower upper. take place rs ++ (lower ++ (upper ++ drop (place + 1) rs)))
+    c.part_below.ensures c.part_above.ensures ∙ sym (remove-at a rs place run ended below c.index.ensures reaches here)

@@ -7,4 +7,5 @@ use Rattle.kernel_model.proofs.owners.owners_among.Given as goal
 -- the owners of the objects so far
 abbrev pub invariant-loop-object : goal.invariant-loop-object
 invariant-loop-object g l =
-    l.owners.items ≡ each_key_once att_eq (filter_map (owner_in l.network) (map (λ x. g.T.Tagged.tag_of x) (take l.object-index l.objects)))
+    l.owners.items ≡ each_key_once att_eq
+    (filter_map (owner_in l.network) (map (λ x. g.T.Tagged.tag_of x) (take l.object-index l.objects)))

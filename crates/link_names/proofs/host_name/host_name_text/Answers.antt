@@ -8,10 +8,12 @@ use Rattle.link_names.proofs.host_name.host_name_text.Goals as goal
 
 IsAscii-from_test : (bs : List ℕ) → list_all (λ b. nat_lt b 128) bs ≡ true → IsAscii bs
 IsAscii-from_test bs test =
-    IsAscii-from_all bs (All-weaker (λ b. nat_lt b 128 ≡ true) (λ b. b < 128) (λ b. ltb-true b 128) bs (AllPass-from_list_all (λ b. nat_lt b 128) bs test))
+    IsAscii-from_all bs (All-weaker (λ b. nat_lt b 128 ≡ true) (λ b. b < 128) (λ b. ltb-true b 128) bs
+    (AllPass-from_list_all (λ b. nat_lt b 128) bs test))
 
 -- the letters and the digits are ASCII, so the bytes are a text
 pub unreachable-requires : goal.unreachable-requires
 unreachable-requires c =
     let digits = IsAscii-encode_with lower_digits _ (IsAscii-from_test lower_digits refl) in
-    c.in-Err.ensures.cases.0 (rw c.host_name_by-name.ensures (IsUtf8-from_ascii _ (IsAscii-append (codes "veth") _ (IsAscii-from_test (codes "veth") refl) digits)))
+    c.in-Err.ensures.cases.0 (rw c.host_name_by-name.ensures
+    (IsUtf8-from_ascii _ (IsAscii-append (codes "veth") _ (IsAscii-from_test (codes "veth") refl) digits)))

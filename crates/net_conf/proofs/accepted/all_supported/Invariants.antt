@@ -5,4 +5,5 @@ use Rattle.net_conf.proofs.accepted.all_supported.Given as goal
 
 -- what is left decides
 abbrev pub invariant-loop-key : goal.invariant-loop-key
-invariant-loop-key l = all_supported (rows_of (drop l.key-index l.rows)) (view l.object) ≡ all_supported (rows_of l.rows) (view l.object)
+invariant-loop-key l =
+    all_supported (rows_of (drop l.key-index l.rows)) (view l.object) ≡ all_supported (rows_of l.rows) (view l.object)

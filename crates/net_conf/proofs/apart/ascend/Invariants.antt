@@ -5,4 +5,5 @@ use Rattle.net_conf.proofs.apart.ascend.Given as goal
 -- what is left decides
 abbrev pub invariant-loop-range : goal.invariant-loop-range
 invariant-loop-range l =
-    ascend_after l.end (filter (has_address_of l.family) (drop l.range-index l.ranges)) ≡ ascend_after None (filter (has_address_of l.family) l.ranges)
+    ascend_after l.end (filter (has_address_of l.family) (drop l.range-index l.ranges))
+    ≡ ascend_after None (filter (has_address_of l.family) l.ranges)

@@ -8,4 +8,5 @@ use Rattle.packet_probe.proofs.read.all_packets.Given as goal
 abbrev pub invariant-loop-member : goal.invariant-loop-member
 invariant-loop-member l =
     (length l.found ≡ l.member-index)
-    × (each_after next_packet l.found (items_view (drop l.member-index l.list)) ≡ each_after next_packet [] (items_view l.list))
+    × (each_after next_packet l.found (items_view (drop l.member-index l.list))
+    ≡ each_after next_packet [] (items_view l.list))

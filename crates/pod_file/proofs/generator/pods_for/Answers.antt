@@ -4,7 +4,8 @@ use Rattle.pod_file.specs.{Rounds.{are_few, all_numbered}, WellFormed.AreWellFor
 use Rattle.pod_file.proofs.generator.pods_for.Goals as goal
 
 pub all_numbered-numbered-requires : goal.all_numbered-numbered-requires
-all_numbered-numbered-requires c = ap are_few c.in_ok-rounds.ensures ∙ rounds_for-few c.args.containers.now c.requires.few
+all_numbered-numbered-requires c =
+    ap are_few c.in_ok-rounds.ensures ∙ rounds_for-few c.args.containers.now c.requires.few
 
 pub of_items-requires : goal.of_items-requires
 of_items-requires c =

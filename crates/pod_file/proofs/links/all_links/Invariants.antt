@@ -6,4 +6,6 @@ use Rattle.pod_file.proofs.links.all_links.Given as goal
 
 -- those that were found, and all after them
 abbrev pub invariant-loop-member : goal.invariant-loop-member
-invariant-loop-member l = each_after (next_link l.names) l.links (items_view (drop l.member-index l.list)) ≡ each_after (next_link l.names) [] (items_view l.list)
+invariant-loop-member l =
+    each_after (next_link l.names) l.links (items_view (drop l.member-index l.list))
+    ≡ each_after (next_link l.names) [] (items_view l.list)

@@ -6,4 +6,5 @@ use Rattle.pod_file.proofs.rounds.all_numbered.Given as goal
 abbrev pub invariant-loop-commands : goal.invariant-loop-commands
 invariant-loop-commands l =
     (l.next + length (in_file_order (drop l.commands-index l.commands-items)) ≤ file_limit + 1)
-    × (take l.commands-index l.commands-items ++ all_numbered l.next (drop l.commands-index l.commands-items) ≡ all_numbered 1 l.initial.commands-items)
+    × (take l.commands-index l.commands-items ++ all_numbered l.next (drop l.commands-index l.commands-items)
+    ≡ all_numbered 1 l.initial.commands-items)

@@ -4,4 +4,6 @@ use Rattle.pod_file.proofs.rounds.have_few_commands.Given as goal
 
 -- what is left decides
 abbrev pub invariant-loop-commands : goal.invariant-loop-commands
-invariant-loop-commands l = nat_le (length (in_file_order (drop l.commands-index l.rounds))) l.left ≡ nat_le (length (in_file_order l.rounds)) file_limit
+invariant-loop-commands l =
+    nat_le (length (in_file_order (drop l.commands-index l.rounds))) l.left
+    ≡ nat_le (length (in_file_order l.rounds)) file_limit

@@ -6,4 +6,5 @@ use Rattle.pod_file.proofs.rounds.round_numbered.Given as goal
 abbrev pub invariant-loop-command : goal.invariant-loop-command
 invariant-loop-command l =
     (l.next ≡ l.first + l.command-index)
-    × (take l.command-index l.command-items ++ round_numbered l.next (drop l.command-index l.command-items) ≡ round_numbered l.first l.initial.command-items)
+    × (take l.command-index l.command-items ++ round_numbered l.next (drop l.command-index l.command-items)
+    ≡ round_numbered l.first l.initial.command-items)

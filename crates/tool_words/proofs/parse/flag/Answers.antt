@@ -9,5 +9,6 @@ pub returns : goal.returns
 returns c =
     let found = found_of c.args.matches.now in
     let name = c.args.name.now in
-    flag_read (one_text found name) c.get_flag.result c.get_flag.ensures.none c.get_flag.ensures.value c.get_flag.ensures.other c.requires
+    flag_read (one_text found name) c.get_flag.result c.get_flag.ensures.none c.get_flag.ensures.value
+    c.get_flag.ensures.other c.requires
     ∙ ap (λ o. option_map_or (λ text. bytes_eq text (codes "true")) o false) (one_text-rows found name)

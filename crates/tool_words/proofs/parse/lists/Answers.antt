@@ -6,7 +6,8 @@ use Rattle.tool_words.specs.Command.{lists_word}
 use Rattle.tool_words.proofs.parse.lists.Goals as goal
 
 or_none : (o : Option (Bor (List (Bor Text)))) (r : Bor (List (Bor Text))) → UnwrapsOrElse o (λ x. x.now ≡ []) r
-    → map (λ (v : Bor Text). v.now) r.now ≡ unwrap_or (option_map (λ (s : Bor (List (Bor Text))). map (λ (v : Bor Text). v.now) s.now) o) []
+    → map (λ (v : Bor Text). v.now) r.now
+    ≡ unwrap_or (option_map (λ (s : Bor (List (Bor Text))). map (λ (v : Bor Text). v.now) s.now) o) []
 or_none None r is = ap (map (λ (v : Bor Text). v.now)) is
 or_none (Some x) r is = ap (λ (s : Bor (List (Bor Text))). map (λ (v : Bor Text). v.now) s.now) is
 

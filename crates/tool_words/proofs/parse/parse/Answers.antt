@@ -22,4 +22,5 @@ returns-in-Ok-try_get_matches_from c =
 
 pub returns : goal.returns
 returns c =
-    not_taken _ _ c.args.words.now c.in-Err.error c.in-Ok.ensures (map-id _) c.in-Err.ensures.kinds (λ memory. c.in_default-kind.not-OutOfMemory (c.kind.ensures ∙ memory))
+    not_taken _ _ c.args.words.now c.in-Err.error c.in-Ok.ensures (map-id _) c.in-Err.ensures.kinds
+    (λ memory. c.in_default-kind.not-OutOfMemory (c.kind.ensures ∙ memory))

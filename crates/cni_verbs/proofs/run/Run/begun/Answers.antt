@@ -12,5 +12,6 @@ invariant_of-run c = (
 
 pub returns : goal.returns
 returns c =
-    let seen : State → Progress = λ state. record { list = Some c.args.list; command = c.args.command; made = 0; state = state } in
+    let seen : State → Progress =
+    λ state. record { list = Some c.args.list; command = c.args.command; made = 0; state = state } in
     ap seen (seen_at_start c.args.list c.args.command c.args.given.items c.args.phase c.requires.phase c.requires.empty)

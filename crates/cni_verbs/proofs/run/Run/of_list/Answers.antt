@@ -5,7 +5,8 @@ use Rattle.cni_verbs.proofs.run.Run.of_list.Goals as goal
 
 pub begun-requires-clause-phase : goal.begun-requires-clause-phase
 begun-requires-clause-phase c =
-    starts_for c.get-conf.result.now c.in_ok-list_copy.list_copy c.args.command.now c.in_ok-command_copy.command_copy c.in_ok-phase.phase
+    starts_for c.get-conf.result.now c.in_ok-list_copy.list_copy c.args.command.now c.in_ok-command_copy.command_copy
+    c.in_ok-phase.phase
     (c.in_ok-list_copy.ensures ∙ sym c.get-conf.ensures) c.in_ok-command_copy.ensures c.in_ok-phase.ensures
 
 pub returns : goal.returns

@@ -18,7 +18,8 @@ invariant_of-self c =
     let a = c.args.addr.now in
     let room : 0 < vec_capacity c.self.inside.runs - c.self.inside.count = rw (← c.self.view_is) at c.requires.room in
     let absent : is_in_runs a rs ≡ false = sym (taken-runs a rs) ∙ (rw (← c.self.view_is) at c.requires.absent) in
-    let size : size_of c.add_addr.new.runs.items ≡ size_of rs + 1 = ap size_of c.add_addr.ensures.items ∙ with_addr-size a rs (each-is_run rs c.self.invariant.runs) in
+    let size : size_of c.add_addr.new.runs.items ≡ size_of rs + 1 =
+    ap size_of c.add_addr.ensures.items ∙ with_addr-size a rs (each-is_run rs c.self.invariant.runs) in
     record {
       runs = ap are_runs c.add_addr.ensures.items ∙ with_addr-runs a rs c.self.invariant.runs absent;
       counted = omega (arith, c.self.invariant.counted);
@@ -30,11 +31,14 @@ returns-clause-members c =
     let rs = c.self.inside.runs.items in
     let added = c.args.addr.now in
     let taken : c.args.self.now.addresses ≡ addresses_of rs = ap (λ s. s.addresses) (sym c.self.view_is) in
-    λ a. taken-runs a c.add_addr.new.runs.items ∙ ap (is_in_runs a) c.add_addr.ensures.items ∙ with_addr-members a added rs (each-is_run rs c.self.invariant.runs) ∙ rw taken (ap (λ b. addr_eq a added || b) (sym (taken-runs a rs)))
+    λ a. taken-runs a c.add_addr.new.runs.items ∙ ap (is_in_runs a) c.add_addr.ensures.items
+    ∙ with_addr-members a added rs (each-is_run rs c.self.invariant.runs)
+    ∙ rw taken (ap (λ b. addr_eq a added || b) (sym (taken-runs a rs)))
 
 pub returns-clause-ascends : goal.returns-clause-ascends
 returns-clause-ascends c =
     let rs = c.self.inside.runs.items in
     let a = c.args.addr.now in
     let absent : is_in_runs a rs ≡ false = sym (taken-runs a rs) ∙ (rw (← c.self.view_is) at c.requires.absent) in
-    addresses-ascend c.add_addr.new.runs.items (ap are_runs c.add_addr.ensures.items ∙ with_addr-runs a rs c.self.invariant.runs absent)
+    addresses-ascend c.add_addr.new.runs.items
+    (ap are_runs c.add_addr.ensures.items ∙ with_addr-runs a rs c.self.invariant.runs absent)

@@ -11,5 +11,8 @@ pub returns : goal.returns
 returns c =
     let a = c.args.self.now in
     let b = c.args.other.now in
-    let right : c.eq.result ≡ (bytes_eq a.ns b.ns && (cidr_eq a.dst b.dst && (bytes_eq a.link b.link && (option_eq addr_eq a.gw b.gw && tag_eq a.tag b.tag)))) = search rules in
-    right ∙ five_tests (bytes_eq a.ns b.ns) (cidr_eq a.dst b.dst) (bytes_eq a.link b.link) (option_eq addr_eq a.gw b.gw) (tag_eq a.tag b.tag)
+    let right : c.eq.result ≡ (bytes_eq a.ns b.ns
+    && (cidr_eq a.dst b.dst && (bytes_eq a.link b.link && (option_eq addr_eq a.gw b.gw && tag_eq a.tag b.tag)))) =
+    search rules in
+    right ∙ five_tests (bytes_eq a.ns b.ns) (cidr_eq a.dst b.dst) (bytes_eq a.link b.link) (option_eq addr_eq a.gw b.gw)
+    (tag_eq a.tag b.tag)

@@ -8,6 +8,8 @@ returns-clause-ok c =
     IfOk-weaker c.append_unless_taken.result _ _ (λ reply step.
     let named : has_named_ns c.args.self.now c.args.link.now.ns ≡ true = search rules in
     let over : has_master c.args.self.now c.args.link.now.master ≡ true = search rules in
-    let stands : c.in_ok-taken.taken ≡ option_map (λ x. x.tag) (link_at c.args.self.now c.args.link.now.ns c.args.link.now.name) = search rules in
-    rw (named, over, ← stands, ← c.self.view_is) (rw (← c.self.view_is) at (step (λ l. record c.args.self.now { links = l }))))
+    let stands : c.in_ok-taken.taken
+    ≡ option_map (λ x. x.tag) (link_at c.args.self.now c.args.link.now.ns c.args.link.now.name) = search rules in
+    rw (named, over, ← stands, ← c.self.view_is)
+    (rw (← c.self.view_is) at (step (λ l. record c.args.self.now { links = l }))))
     c.append_unless_taken.ensures.ok

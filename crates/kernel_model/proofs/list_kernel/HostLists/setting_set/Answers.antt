@@ -7,6 +7,8 @@ pub returns-clause-ok : goal.returns-clause-ok
 returns-clause-ok c =
     IfOk-weaker c.append_unless_taken.result _ _ (λ reply step.
     let named : has_named_ns c.args.self.now c.args.setting.now.ns ≡ true = search rules in
-    let stands : c.in_ok-taken.taken ≡ option_map (λ x. x.tag) (find (is_same_setting c.args.setting.now) c.args.self.now.settings) = search rules in
-    rw (named, ← stands, ← c.self.view_is) (rw (← c.self.view_is) at (step (λ l. record c.args.self.now { settings = l }))))
+    let stands : c.in_ok-taken.taken
+    ≡ option_map (λ x. x.tag) (find (is_same_setting c.args.setting.now) c.args.self.now.settings) = search rules in
+    rw (named, ← stands, ← c.self.view_is)
+    (rw (← c.self.view_is) at (step (λ l. record c.args.self.now { settings = l }))))
     c.append_unless_taken.ensures.ok

@@ -11,17 +11,23 @@ stays_sound : (host old new : Host) (call : Call) (result : Result Reply NoMemor
     → IsAllowed host call → IfOk result (λ reply. (new, reply) ≡ apply old call) → OnErr result (new ≡ old)
     → IsSound new
 stays_sound host old new call (Ok reply) is sound allowed ok err =
-    subst IsSound (ap (λ (s : Host × Reply). s.0) (sym ok)) (IsSound-apply old call sound (subst (λ (h : Host). IsAllowed h call) (sym is) allowed))
+    subst IsSound (ap (λ (s : Host × Reply). s.0) (sym ok))
+    (IsSound-apply old call sound (subst (λ (h : Host). IsAllowed h call) (sym is) allowed))
 stays_sound host old new call (Err e) is sound allowed ok err = subst IsSound (sym err) sound
 
 pub invariant_of-self : goal.invariant_of-self
 invariant_of-self c =
-    stays_sound _ _ _ c.args.call.now _ c.self.view_is c.self.invariant c.requires c.carry_out.ensures.ok c.carry_out.ensures.err
+    stays_sound _ _ _ c.args.call.now _ c.self.view_is c.self.invariant c.requires c.carry_out.ensures.ok
+    c.carry_out.ensures.err
 
 pub returns-clause-sound : goal.returns-clause-sound
 returns-clause-sound c =
-    stays_sound _ _ _ c.args.call.now _ c.self.view_is c.self.invariant c.requires c.carry_out.ensures.ok c.carry_out.ensures.err
+    stays_sound _ _ _ c.args.call.now _ c.self.view_is c.self.invariant c.requires c.carry_out.ensures.ok
+    c.carry_out.ensures.err
 
 pub returns-clause-never : goal.returns-clause-never
 returns-clause-never c =
-    IfOk-weaker c.carry_out.result _ _ (λ reply step. ap (λ (s : Host × Reply). is_fault s.1) step ∙ (IsReplyOf-apply c.self.inside.lists c.args.call.now).no_fault) c.carry_out.ensures.ok
+    IfOk-weaker c.carry_out.result _ _
+    (λ reply step.
+    ap (λ (s : Host × Reply). is_fault s.1) step ∙ (IsReplyOf-apply c.self.inside.lists c.args.call.now).no_fault)
+    c.carry_out.ensures.ok

@@ -14,9 +14,13 @@ loop-link-preserved g c =
           rw w.objects-is
           (w.drop_objects_on.ensures
           ∙ ap (filter (λ x. not (g.T.OnLink.on_link x c.link-item.result))) c.loop-link.invariant
-          ∙ drops-one (g.L.Leaving.leaving c.args.leaving.now) g.T.OnLink.on_link c.args.links.now c.loop-link.link-index c.link-item.result (omega arith) c.link-item.is (sym c.is_leaving.ensures ∙ w.if-is_leaving.true) c.args.objects.now.items)
+          ∙ drops-one (g.L.Leaving.leaving c.args.leaving.now) g.T.OnLink.on_link c.args.links.now
+          c.loop-link.link-index c.link-item.result (omega arith) c.link-item.is
+          (sym c.is_leaving.ensures ∙ w.if-is_leaving.true) c.args.objects.now.items)
       | else-is_leaving w ↦
           rw w.objects-is
           (c.loop-link.invariant
-          ∙ drops-none (g.L.Leaving.leaving c.args.leaving.now) g.T.OnLink.on_link c.args.links.now c.loop-link.link-index c.link-item.result (omega arith) c.link-item.is (sym c.is_leaving.ensures ∙ w.if-is_leaving.false) c.args.objects.now.items)
+          ∙ drops-none (g.L.Leaving.leaving c.args.leaving.now) g.T.OnLink.on_link c.args.links.now
+          c.loop-link.link-index c.link-item.result (omega arith) c.link-item.is
+          (sym c.is_leaving.ensures ∙ w.if-is_leaving.false) c.args.objects.now.items)
     ]

@@ -8,4 +8,5 @@ pub returns-in-Some : goal.returns-in-Some
 returns-in-Some c = λ link found.
     c.drop_links.ensures
     ∙ ap (λ ls. filter (λ l. not (goes_with c.in-Some.link.ns c.in-Some.link.name l)) ls) c.take_own.ensures.left
-    ∙ filter-without_first_of (λ l. is_own c.args.att.now l.tag) (λ v l. goes_with v.ns v.name l) goes_with-itself c.args.links.now.items c.in-Some.link link (sym c.in-Some.ensures.found) found
+    ∙ filter-without_first_of (λ l. is_own c.args.att.now l.tag) (λ v l. goes_with v.ns v.name l) goes_with-itself
+    c.args.links.now.items c.in-Some.link link (sym c.in-Some.ensures.found) found

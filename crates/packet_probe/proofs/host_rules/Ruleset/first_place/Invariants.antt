@@ -7,4 +7,5 @@ use Rattle.packet_probe.proofs.host_rules.Ruleset.first_place.Given as goal
 abbrev pub invariant-loop-kind : goal.invariant-loop-kind
 invariant-loop-kind l =
     (l.first ≤ length l.self)
-    × (min l.first (position_or_len (is_found l.chain l.packet l.kind-iterator) l.self) ≡ position_or_len (is_found l.chain l.packet l.initial.kind-iterator) l.self)
+    × (min l.first (position_or_len (is_found l.chain l.packet l.kind-iterator) l.self)
+    ≡ position_or_len (is_found l.chain l.packet l.initial.kind-iterator) l.self)

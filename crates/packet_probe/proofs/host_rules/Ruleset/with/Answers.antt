@@ -13,8 +13,11 @@ invariant_of-result c =
     let next = contains kind_cmp c.insert.new.self in
     let firsts : (q : Key) → more q ≡ first_with first (key_of c.args.rule) (length c.self.inside.rules) q =
     λ q. c.in_ok-firsts.ensures q
-    ∙ ap₂ (λ (key : Key) (n : ℕ). first_with first key n q) (c.key_of.ensures ∙ ap key_of c.get.ensures) (ap length c.as_slice.ensures) in
+    ∙ ap₂ (λ (key : Key) (n : ℕ). first_with first key n q) (c.key_of.ensures ∙ ap key_of c.get.ensures)
+    (ap length c.as_slice.ensures) in
     let kinds : (k : Kind) → next k ≡ cond (is_eq (kind_cmp (kind_of c.args.rule) k)) true (is_kind k) =
     λ k. c.in_ok-insert.ensures.updates.0 k
-    ∙ ap (λ (kind : Kind). cond (is_eq (kind_cmp kind k)) true (is_kind k)) (c.kind_of.ensures ∙ ap kind_of c.get-2.ensures) in
-    subst (IsFiled more next) (sym c.in_ok-push.ensures.ok) (filed-more first more is_kind next c.self.inside.rules c.args.rule c.self.invariant firsts kinds)
+    ∙ ap (λ (kind : Kind). cond (is_eq (kind_cmp kind k)) true (is_kind k))
+    (c.kind_of.ensures ∙ ap kind_of c.get-2.ensures) in
+    subst (IsFiled more next) (sym c.in_ok-push.ensures.ok)
+    (filed-more first more is_kind next c.self.inside.rules c.args.rule c.self.invariant firsts kinds)

@@ -10,7 +10,8 @@ loop-number-preserved c =
       | then-number-gt0+in_ok-insert w ↦
           rw w.before-is
           (subst (AreBefore w.insert.new.self.keys) read
-          (before-more c.loop-number.before.keys w.insert.new.self.keys _ _ w.if-number-gt0.true c.loop-number.invariant w.in_ok-insert.ensures.updates.0))
+          (before-more c.loop-number.before.keys w.insert.new.self.keys _ _ w.if-number-gt0.true c.loop-number.invariant
+          w.in_ok-insert.ensures.updates.0))
       | else-number-gt0 w ↦
           rw w.before-is
           (subst (AreBefore c.loop-number.before.keys) read
