@@ -11,6 +11,8 @@ of two sizes by what one item takes:
   or IPv6 range sets, which a hasher with a fixed key finds alike (colliding.py), against others; and the same beside
   that one of 200 unnamed texts by which they crowd most in tables whose hasher has a key of what was read;
 - joined: 960 ADDs whose names, joined, are one text, against others;
+- ended, marked: an opening of 10,000 namespaces, and an ADD with 2,000 IPv6 routes, that are alike in what is compared
+  first, against others;
 - collections: 2,000 GCs of a network that has nothing, beside 20,000 attachments of another against beside 2,000;
 - removals: 20,000 namespaces that go against as many that come;
 - turns: a GC, an NSDEL and a DROP by turns among 60 networks, with 18,000 attachments against 1,800;
@@ -25,6 +27,7 @@ isn't over within MOST_SECONDS is ended, and no figure is given.
 """
 
 import concurrent.futures
+import ipaddress
 import os
 import random
 import statistics
@@ -201,6 +204,35 @@ def joined(program, _):
     tell(f"{len(alike)} ADDs and CHECKs of names that are alike joined", ratio(taken["alike"], taken["plain"]), 1.5)
 
 
+# ---- what is compared first
+
+
+def ended(program, part):
+    """Names that end alike, against as long ones that begin alike."""
+    count = 10000 // part
+    files = {
+        "alike.json": pods([f"/ns/{number:05}/of-a-container" for number in range(count)]),
+        "plain.json": pods([f"/ns/of-a-container/{number:05}" for number in range(count)]),
+        "net.json": network_list("pods", bridge(subnet="10.0.0.0/8")),
+    }
+    taken = least_in_turn(program, {it: [f"{it}.json", "net.json"] for it in ("alike", "plain")}, files)
+    tell(f"an opening of {count} namespaces that end alike", ratio(taken["alike"], taken["plain"]), 1.5)
+
+
+def marked(program, part):
+    """Routes whose addresses have halves of one sum, against others."""
+    count = 2000 // part
+    files = {}
+    for kind, step in (("alike", 1), ("plain", 2)):
+        upper, lower = 0xFD00 << 48, 1 << 40
+        halves = [(upper + step * number, lower - number) for number in range(count)]
+        wanted = [{"dst": f"{ipaddress.IPv6Address(high << 64 | low)}/128"} for high, low in halves]
+        files[f"{kind}.json"], files[f"{kind}.net.json"] = one_add(bridge(subnet="fd01::/64", routes=wanted))
+    runs = {it: [f"{it}.json", f"{it}.net.json"] for it in ("alike", "plain")}
+    taken = least_in_turn(program, runs, files)
+    tell(f"an ADD with {count} IPv6 routes whose halves have one sum", ratio(taken["alike"], taken["plain"]), 1.5)
+
+
 # ---- many networks, and what was
 
 
@@ -355,7 +387,7 @@ def others(program, part, before):
             tell(f"{name}, against the version before", of_both((program, before), words, folder, RUNS), 1.15)
 
 
-ROWS = (namespaces, containers, routes, sixes, joined, collections, removals, turns, ranges, sets, texts)
+ROWS = (namespaces, containers, routes, sixes, joined, ended, marked, collections, removals, turns, ranges, sets, texts)
 
 
 def main():
