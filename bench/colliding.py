@@ -7,8 +7,8 @@ constant. So whoever makes one factor 0 makes the state 0, whatever the other fa
 - of an address, where its upper half is the constant: all of one /64 are alike;
 - of a text, where eight of its bytes are the state that stood before them: what follows in it changes nothing.
 
-A text feeds a hasher its bytes, and then one that no text has. Without it a hasher that joins what it is fed would find
-those keys of several texts alike whose texts joined are the same, whatever its own key is.
+A text feeds a hasher words of eight bytes, the last behind a mark that no text has. Without it a hasher that joins what
+it is fed would find those keys of several texts alike whose texts joined are the same, whatever its own key is.
 """
 
 import hashlib
@@ -128,17 +128,16 @@ def sip_round(v0, v1, v2, v3):
     return v0, v1, v2 << 32 & WORD | v2 >> 32, v3
 
 
-def words_of(write):
-    """The words of a write: eight bytes each, the lowest first, and what is left behind a mark that tells how many."""
-    whole = len(write) // 8 * 8
-    words = [low_word(write, at) for at in range(0, whole, 8)]
-    rest = write[whole:]
-    return words + [int.from_bytes(bytes([0xF8 + len(rest)]) + rest, "big")] * bool(rest)
+def words_of(text):
+    """The words of a text: eight bytes each, the lowest first, and what is left behind a mark that tells how many."""
+    whole = len(text) // 8 * 8
+    rest = bytes([0xF8 + len(text) - whole]) + text[whole:]
+    return [low_word(text, at) for at in range(0, whole, 8)] + [int.from_bytes(rest, "big")]
 
 
-def sip(state, writes):
-    """The state after these writes."""
-    for word in (it for write in writes for it in words_of(write)):
+def sip(state, words):
+    """The state after these words."""
+    for word in words:
         v0, v1, v2, v3 = sip_round(state[0], state[1], state[2], state[3] ^ word)
         state = v0 ^ word, v1, v2, v3
     return state
@@ -163,7 +162,7 @@ def digest_of(words, files):
 
 def crowding(digest, keys):
     """How the keys crowd in a table under this digest: the sum of the squares of how many share a group of lanes."""
-    keyed = sip(SIP, [digest])
+    keyed = sip(SIP, [low_word(digest, at) for at in range(0, 32, 8)])
     groups = 1 << max((len(keys) // 9).bit_length(), 0)
     loads = {}
     for it in keys:
@@ -174,5 +173,5 @@ def crowding(digest, keys):
 
 
 def text_key(*texts):
-    """The writes of a key of texts."""
-    return [it for text in texts for it in (text.encode("utf-8"), b"\xff")]
+    """The words of a key of texts."""
+    return [it for text in texts for it in words_of(text.encode("utf-8"))]

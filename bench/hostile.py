@@ -42,7 +42,7 @@ from inputs import words_and_files
 from program import MOST_SECONDS, NO_PODS, bridge, command, compact, in_folder, network_list, program_of
 
 RUNS = 10
-RUNS_OF_GENERATED = 20
+RUNS_OF_BOTH = 20
 UNNAMED = 200
 DEEPEST = 126
 ETH0 = "eth0"
@@ -151,9 +151,8 @@ def containers(program, part):
 
 
 def address_key(number, prefix):
-    """The writes of a network of the /64 whose addresses are alike."""
-    bits = colliding.MULTIPLIER << 64 | number
-    return [(1).to_bytes(8, "little"), bits.to_bytes(16, "little"), bytes([prefix])]
+    """The words of a network of the /64 whose addresses are alike: family, bits and prefix."""
+    return [1, number, colliding.MULTIPLIER, *colliding.words_of(bytes([prefix]))]
 
 
 def in_64(upper, number, prefix):
@@ -371,7 +370,7 @@ def generated(program, part, before):
     word = f"gen:{10000 // part}"
     if before:
         builds = (program, before)
-        found = of_both(builds, [word], os.curdir, RUNS_OF_GENERATED)
+        found = of_both(builds, [word], os.curdir, RUNS_OF_BOTH)
         tell(f"{word} against the version before", found, "no more")
         memory = ratio(*(peak(it, [word], os.curdir) for it in builds))
         tell(f"memory of {word} against the version before", memory, "no more")
@@ -384,7 +383,8 @@ def others(program, part, before):
     """Each input of the other benchmarks on both builds in turn."""
     for name, words, files in words_and_files(part) if before else []:
         with in_folder(files) as folder:
-            tell(f"{name}, against the version before", of_both((program, before), words, folder, RUNS), 1.15)
+            found = of_both((program, before), words, folder, RUNS_OF_BOTH)
+            tell(f"{name}, against the version before", found, 1.15)
 
 
 ROWS = (namespaces, containers, routes, sixes, joined, ended, marked, collections, removals, turns, ranges, sets, texts)

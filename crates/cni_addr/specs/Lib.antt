@@ -1,3 +1,4 @@
+pub mod AddrLaws
 pub mod AddrText
 pub mod CidrText
 pub mod Codes

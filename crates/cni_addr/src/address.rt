@@ -1,6 +1,7 @@
 //! Network addresses as numbers.
 
 use std::cmp::Ordering;
+use std::hash::{Hash, Hasher};
 use std::marker::Model;
 
 /// The family of an address: RFC 791 or RFC 4291.
@@ -64,7 +65,7 @@ impl Ord for Family {
 }
 
 /// An address as a number, its first byte the highest. It fits its family: the invariant says so.
-#[derive(Clone, Copy, Debug, PartialEq, Eq, PartialOrd, Ord, Hash)]
+#[derive(Clone, Copy, Debug, PartialEq, Eq, PartialOrd, Ord)]
 pub struct Addr {
     pub family: Family,
     pub bits: u128,
@@ -80,6 +81,25 @@ impl Model for Addr {
     ghost invariant = { λ a. IsAddr (record { family = a.family; bits = a.bits }) };
 
     ghost inverse = { λ v. record { family = v.family; bits = v.bits } };
+}
+
+impl Hash for Addr {
+    ghost use Rattle.cni_addr.specs.AddrLaws.{addr_writes, addr_writes-respect_eq};
+
+    ghost hash_input = { addr_writes };
+
+    ghost respects_eq = { addr_writes-respect_eq };
+
+    // Most addresses are of IPv4, and so are one word: their number behind a mark that no other address begins with.
+    fn hash<H: Hasher>(&self, state: &mut H) {
+        match self.family {
+            Family::V4 => state.write_u64((1 << 32) + self.bits as u64),
+            Family::V6 => {
+                state.write_u64(6);
+                state.write_u128(self.bits);
+            }
+        }
+    }
 }
 
 /// An address with the length of its network's prefix (RFC 4632). Host bits are kept.

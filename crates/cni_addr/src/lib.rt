@@ -45,5 +45,5 @@ pub use network::{contains, last_of, network_of, next_addr, whole};
 pub use range::{Range, RangeSet};
 pub use read::{read_addr, read_cidr, read_mac};
 pub use ref_counted::RefCounted;
-pub use text::Text;
+pub use text::{Text, last_word};
 pub use write::{write_addr, write_cidr, write_mac};

@@ -1,6 +1,7 @@
 //! Texts, seen as the lists of their bytes.
 
-ghost use Rattle.std.specs.Prelude.{◌≡◌, IfOk};
+ghost use Rattle.std.specs.Prelude.{◌≡◌, ◌<◌, IfOk, length};
+ghost use Rattle.cni_addr.specs.TextLaws as texts;
 
 use crate::memory::{Duplicate, NoMemory};
 use std::alloc::Global;
@@ -113,6 +114,19 @@ impl AsStr for Text {
     }
 }
 
+/// Fewer than eight bytes as one word, the first the highest, behind a mark that tells how many they are and is no byte
+/// of UTF-8.
+#[tactic(auto, unfolding(crate::specs::TextLaws::last_word))]
+pub fn last_word(bytes: &[u8]) -> u64
+    requires { length bytes.now < 8 }
+    ensures { result ≡ texts.last_word bytes.now }
+{
+    bytes.iter().fold(
+        0xf8 + bytes.len() as u64,
+        |word: u64, byte: &u8| word << 8 | *byte as u64,
+    )
+}
+
 impl Hash for Text {
     ghost use Rattle.cni_addr.specs.TextLaws.{closed_write, write-respects_eq};
 
@@ -120,10 +134,12 @@ impl Hash for Text {
 
     ghost respects_eq = { write-respects_eq };
 
-    // One write of all bytes, since std's derived way feeds a hasher byte by byte. The byte after them stands in no
-    // text, so that what is hashed of several texts tells where each ends.
+    // Words of eight bytes, since std's derived way feeds a hasher byte by byte. The last one has a mark that stands in
+    // no text, so that what is hashed of several texts tells where each ends.
     fn hash<H: Hasher>(&self, state: &mut H) {
-        state.write(self.as_str().as_bytes());
-        state.write_u8(0xff);
+        let bytes = self.as_str().as_bytes();
+        let (words, rest) = bytes.split_at(bytes.len() / 8 * 8);
+        state.write(words);
+        state.write_u64(last_word(rest));
     }
 }

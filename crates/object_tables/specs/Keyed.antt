@@ -1,6 +1,7 @@
 -- The hasher of the tables: SipHash-1-3 over words of eight bytes.
 use Rattle.std.specs.{Int.{from_le_bytes, rotate_left, w64}, List.fold, Prelude.{ℕ, ◌+◌, ◌*◌, ◌/◌, ◌%◌, ◌^◌, List}}
-use Rattle.std.specs.{Prelude.{drop, length, if◌then◌else◌, nat_eq, bit_or, bit_xor}, Simd.first_chunks}
+use Rattle.std.specs.{Prelude.{drop, length, if◌then◌else◌, nat_eq, bit_xor}, Simd.first_chunks}
+use Rattle.cni_addr.specs.TextLaws.{last_word}
 use Rattle.object_tables.specs.declared.keyed.KeyedHasher.{KeyedHasher}
 
 -- the state before any write, with both keys 0
@@ -36,10 +37,6 @@ unfoldable pub write_word : KeyedHasher → ℕ → KeyedHasher
 write_word s word =
     let t = round (record s { v3 = bit_xor s.v3 word }) in
     record t { v0 = bit_xor t.v0 word }
-
--- fewer than eight bytes as one word, behind a mark that tells how many they are
-unfoldable pub last_word : List ℕ → ℕ
-last_word bytes = fold (λ word byte. bit_or ((word * 2 ^ 8) % 2 ^ 64) byte) (0xf8 + length bytes) bytes
 
 -- the state after these bytes as words of eight
 abbrev pub write_words : KeyedHasher → List (List ℕ) → KeyedHasher

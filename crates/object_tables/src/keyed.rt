@@ -3,12 +3,13 @@
 ghost use Rattle.std.specs.Prelude.{◌≡◌, ◌<◌, length};
 ghost use Rattle.object_tables.specs.Keyed as sip;
 
+use cni_addr::last_word;
 use indexmap::IndexMap;
 use std::hash::{BuildHasher, Hasher};
 
 /// SipHash-1-3 (Aumasson and Bernstein, 2012), which takes each write in as words of its own: eight bytes a word, and
 /// what is left of it behind a mark that is no byte of UTF-8. So a number is a word, and nothing is put together byte
-/// by byte. Keys of texts and numbers that differ are different words, as long as each text ends in a byte of no text.
+/// by byte. Keys of texts and numbers that differ are different words, since a text's last word has such a mark.
 #[derive(Clone, Copy)]
 pub struct KeyedHasher {
     v0: u64,
@@ -64,18 +65,6 @@ impl KeyedHasher {
     }
 }
 
-/// What is left of a write, as one word behind its mark.
-#[tactic(auto, unfolding(crate::specs::Keyed::last_word))]
-fn last_word(bytes: &[u8]) -> u64
-    requires { length bytes.now < 8 }
-    ensures { result ≡ sip.last_word bytes.now }
-{
-    bytes.iter().fold(
-        0xf8 + bytes.len() as u64,
-        |word: u64, byte: &u8| word << 8 | *byte as u64,
-    )
-}
-
 impl Hasher for KeyedHasher {
     ghost write = { sip.write };
 
@@ -89,7 +78,7 @@ impl Hasher for KeyedHasher {
         self.write_rest(rest);
     }
 
-    #[tactic(auto, unfolding(crate::specs::Keyed::write, crate::specs::Keyed::last_word))]
+    #[tactic(auto, unfolding(crate::specs::Keyed::write, cni_addr::specs::TextLaws::last_word))]
     fn write_u8(&mut self, i: u8) {
         self.write_word(0xf900 | i as u64);
     }
