@@ -85,7 +85,7 @@ fn low_ones(count: u8) -> u128
     if count == 128 {
         u128::MAX
     } else {
-        2u128.pow(u32::from(count)) - 1
+        (1u128 << count) - 1
     }
 }
 
