@@ -5,7 +5,7 @@
 
 Looks once a second at the checks below that process, until it gets the signal TERM; then it prints a table:
 
-    proof    of a crate, from nothing
+    proof    of a crate, from nothing; of the program, also its check by the other compiler
     tests    the proof of its tests, which takes in the crate's own
     first    the check that its edits begin with
     edits    the checks of the bodies that must be refused
@@ -23,7 +23,7 @@ import time
 
 KINDS = ("proof", "tests", "first", "edits")
 PER_SECOND = os.sysconf("SC_CLK_TCK")
-SEED = re.compile(r"--incremental \S*/seed( |$)")
+EDIT = re.compile(r"--incremental \S*/rt-edits-[^/ ]*/([^/ ]*)( |$)")
 
 
 class Ended(Exception):
@@ -58,8 +58,9 @@ def check_of(words):
     match = re.search(r"\brattle (build|check) .*?--crate-name (\w+)", words)
     if match is None:
         return None
-    if match[1] == "check":
-        return match[2], "first" if SEED.search(words) else "edits"
+    edit = EDIT.search(words)
+    if edit:
+        return match[2], "first" if edit[1] == "seed" else "edits"
     return match[2], "tests" if " --test " in words else "proof"
 
 

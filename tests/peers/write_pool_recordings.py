@@ -1,12 +1,12 @@
 #!/usr/bin/env python3
 """Writes the recordings that pool_trials replays, from what the host-local plugin did.
 
-    write_pool_recordings.py          writes rows.rt and sequences.rt into crates/pool_trials/src
-    write_pool_recordings.py --check  fails where one of them isn't what would be written
+    write_pool_recordings.py          writes rows.rt into crates/pool_trials/src
+    write_pool_recordings.py --check  fails where it isn't what would be written
 
-Of hostlocal.json it takes the rows of the plugin's own tests, and recorded sequences of ADD and DEL. A sequence runs
-over several sets; each set leases by itself, so each becomes a recording of its own. Sets of IPv6 addresses and rows
-whose last address is no candidate are left out, and named in the file that is written. The layout is that of `rt fmt`.
+Of hostlocal.json it takes the rows of the plugin's own tests; its recorded sequences of ADD and DEL are run by run.py.
+Sets of IPv6 addresses and rows whose last address is no candidate are left out, and named in the file that is written.
+The layout is that of `rt fmt`.
 """
 
 import ipaddress
@@ -21,6 +21,8 @@ from recorded import is_ipv6, recordings
 from written import settle
 
 TARGET = TOP / "crates/pool_trials/src"
+# the most characters of a slice that stands on one line
+MOST_ON_A_LINE = 58
 
 
 def bits_of(address):
@@ -36,87 +38,74 @@ def bounds(given):
     return [bits_of(address) for address in (start, end, gateway)]
 
 
+def listed(texts):
+    """A slice as `rt fmt` lays it out: on a line of its own where it is long."""
+    inner = ", ".join(texts)
+    if len(inner) <= MOST_ON_A_LINE:
+        return f"&[{inner}]"
+    return "&[\n" + "".join(f"            {it},\n" for it in texts) + "        ]"
+
+
+def number(bits):
+    return f"{bits:#010x}"
+
+
+def triple(numbers):
+    return f"({', '.join(map(number, numbers))})"
+
+
 class Recording:
-    """One set and what happens to it, in words; addresses are offsets from the start of its first range."""
+    """One set, what of it is taken, and what is leased then."""
 
-    def __init__(self, name, given_set):
-        self.name = name
-        self.ranges = [bounds(given) for given in given_set]
-        self.words = []
+    def __init__(self, row):
+        self.name = row["name"]
+        self.ranges = [bounds(given) for given in row["set"]]
+        self.last = None if row["last"] is None else bits_of(row["last"])
+        self.taken = [bits_of(address) for address in row.get("taken", [])]
+        picked = row["order"] if "order" in row else [row["given"]] if row["given"] else []
+        self.given = [bits_of(address) for address in picked]
+        self.is_full = "order" in row or not picked
 
-    def add(self, sign, address):
-        offset = bits_of(address.split("/")[0]) - self.ranges[0][0]
-        assert 0 <= offset < 65536
-        self.words.append(f"{sign}{offset}")
-
-    def has(self, address):
-        bits = bits_of(address)
-        return any(start <= bits <= end and bits != gateway for start, end, gateway in self.ranges)
+    def has_last(self):
+        """Whether the last address, if there is one, is a candidate."""
+        return self.last is None or any(
+            start <= self.last <= end and self.last != gateway for start, end, gateway in self.ranges
+        )
 
     def text(self):
-        ranges = ["(%#010x, %#010x, %#010x)" % tuple(bounds) for bounds in self.ranges]
-        inner = ranges[0] if len(ranges) == 1 else "".join(f"\n            {it}," for it in ranges) + "\n        "
-        steps = " ".join(self.words)
-        fields = (f'name: "{self.name}"', f"ranges: &[{inner}]", f'steps: "{steps}"')
+        fields = (
+            f'name: "{self.name}"',
+            f"ranges: {listed([*map(triple, self.ranges)])}",
+            f"last: {'None' if self.last is None else f'Some({number(self.last)})'}",
+            f"taken: {listed([*map(number, self.taken)])}",
+            f"given: {listed([*map(number, self.given)])}",
+            f"is_full: {str(self.is_full).lower()}",
+        )
         return "\n".join(["    Recording {", *(f"        {it}," for it in fields), "    },"])
 
 
 def recorded(row):
-    """The recording of a row: a pick after others are taken, or picks in order until none is left. A text says why there
-    is none."""
+    """The recording of a row: a pick after others are taken, or picks in order until none is left; or a text that says
+    why there is none."""
     if is_ipv6(row["set"]):
         return "IPv6"
-    recording = Recording(row["name"], row["set"])
-    if row["last"] is not None:
-        if not recording.has(row["last"]):
-            return "its last address is no candidate"
-        recording.add("=", row["last"])
-    for address in row.get("taken", []):
-        recording.add("*", address)
-    picked = row["order"] if "order" in row else [row["given"]] if row["given"] else []
-    for address in picked:
-        recording.add("+", address)
-    if "order" in row or not picked:
-        recording.words.append("full")
-    return recording
+    recording = Recording(row)
+    return recording if recording.has_last() else "its last address is no candidate"
 
 
-def from_sequences(sequences):
-    for case, given in enumerate(sequences):
-        for number, given_set in enumerate(given["sets"]):
-            name = f"sequence {case}, set {number}"
-            if is_ipv6(given_set):
-                yield name, "IPv6"
-                continue
-            recording = Recording(name, given_set)
-            held = {}
-            for operation in given["sequence"]:
-                if "del" in operation:
-                    recording.add("-", held.pop(operation["del"]))
-                elif "ips" in operation:
-                    held[operation["add"]] = operation["ips"][number]
-                    recording.add("+", operation["ips"][number])
-                elif operation["empty_set"] == number:
-                    recording.words.append("full")
-                elif operation["empty_set"] > number:
-                    recording.words.append("tried")
-            if given["lasts"][number] is not None:
-                recording.add("@", given["lasts"][number])
-            yield name, recording
-
-
-def text_of(constant, what, made):
+def text_of(made):
     left_out = [f"//! {name} ({reason});" for name, reason in made if isinstance(reason, str)]
     recordings = [recording.text() for _, recording in made if isinstance(recording, Recording)]
     lines = [
-        f"//! Written by tests/peers/write_pool_recordings.py: {what}.",
+        "//! Written by tests/peers/write_pool_recordings.py: the rows of the `host-local` plugin's own tests of its "
+        "allocator.",
         "//!",
         "//! Left out:",
         *left_out,
         "",
         "use crate::replay::Recording;",
         "",
-        f"pub(crate) const {constant}: [Recording; {len(recordings)}] = [",
+        f"pub(crate) const ROWS: [Recording; {len(recordings)}] = [",
         *recordings,
         "];",
     ]
@@ -126,12 +115,7 @@ def text_of(constant, what, made):
 def main():
     data = recordings()
     rows = [(row["name"], recorded(row)) for row in [*data["next_address"], *data["order"]]]
-    sequences = [*from_sequences(data["sequences"])]
-    texts = {
-        "rows.rt": text_of("ROWS", "the rows of the `host-local` plugin's own tests of its allocator", rows),
-        "sequences.rt": text_of("SEQUENCES", "what the `host-local` plugin 1.9.1 did when it was run", sequences),
-    }
-    return settle({TARGET / name: text for name, text in texts.items()})
+    return settle({TARGET / "rows.rt": text_of(rows)})
 
 
 if __name__ == "__main__":

@@ -1,235 +1,220 @@
-//! The calls that the tokens of a row stand for, a function each.
+//! The calls that the tokens of a row stand for.
 
 use crate::objects::{
-    address, att, cached, dummy, host_end, inner_end, key, lease, macvlan, route, rule, set,
-    set_number, setting, vlan,
+    address, att, cached, inner_link, key, lease, link, own, route, rule, set, setting, shared,
+    text,
 };
-use crate::tokens::{RowError, cidr_of, cut, family_of, kind_of, link_tokens};
-use cni_addr::{RefCounted, Text};
-use kernel_types::{Call, Change, Link, Object, Probe, table_named};
+use crate::tokens::{cidr_of, cut, link_tokens};
+use cni_addr::Family;
+use kernel_types::{Call, Change, Kind, LinkKind, Object, Probe, table_named};
 use link_names::link_mac;
 use std::alloc::Global;
+use std::process::Abort;
 
-/// `Begin CONTAINER NAMESPACE`; the host's own namespace is written `host`.
-fn begin(alloc: Global, tokens: &str) -> Result<Call, RowError> {
-    let (container, netns) = cut(tokens);
-    let att = att(alloc, container)?;
-    let netns = Text::of(alloc, if netns == "host" { "" } else { netns })?;
-    Ok(Call::Begin { att, netns })
-}
-
-fn bridge_ensure(alloc: Global, name: &str) -> Result<Call, RowError> {
-    let name = Text::of(alloc, name)?;
-    Ok(Call::BridgeEnsure {
-        name,
-        mtu: 1500,
-        promisc: false,
-    })
-}
-
-fn gateway_ensure(alloc: Global, bridge: &str) -> Result<Call, RowError> {
-    let cidr = cidr_of("10.88.0.1/16")?;
-    let bridge = Text::of(alloc, bridge)?;
-    Ok(Call::GatewayEnsure { bridge, cidr })
-}
-
-fn forward_ensure(tokens: &str) -> Result<Call, RowError> {
-    let family = family_of(tokens)?;
-    Ok(Call::ForwardEnsure { family })
+fn forward_ensure(rt: &impl Abort, tokens: &str) -> Call {
+    let family = match tokens {
+        "IPv4" => Family::V4,
+        "IPv6" => Family::V6,
+        _ => panic!(rt; "no family {tokens}"),
+    };
+    Call::ForwardEnsure { family }
 }
 
 /// `VethAdd CONTAINER NAMESPACE NAME OUTER MASTER`.
-fn veth_add(alloc: Global, tokens: &str) -> Result<Call, RowError> {
-    let host_end = RefCounted::of(alloc, host_end(alloc, tokens)?)?;
-    let inner_end = RefCounted::of(alloc, inner_end(alloc, tokens)?)?;
-    Ok(Call::VethAdd {
-        host_end,
-        inner_end,
-    })
-}
-
-fn inner_add(alloc: Global, link: Link) -> Result<Call, RowError> {
-    let link = RefCounted::of(alloc, link)?;
-    Ok(Call::MacvlanAdd { link })
+fn veth_add(rt: &impl Abort, alloc: Global, tokens: &str) -> Call {
+    let at = link_tokens(tokens);
+    let (outer, master) = cut(at.rest);
+    let host_end = link(
+        key(rt, alloc, "", outer),
+        LinkKind::Veth,
+        Some(text(rt, alloc, master)),
+        Some(key(rt, alloc, at.ns, at.link)),
+        own(rt, alloc, at.container),
+    );
+    let inner_end = link(
+        key(rt, alloc, at.ns, at.link),
+        LinkKind::Veth,
+        None,
+        Some(key(rt, alloc, "", outer)),
+        own(rt, alloc, at.container),
+    );
+    Call::VethAdd {
+        host_end: shared(rt, alloc, host_end),
+        inner_end: shared(rt, alloc, inner_end),
+    }
 }
 
 /// `LinkSet CONTAINER NAMESPACE NAME` turns the promiscuous mode on.
-fn link_set(alloc: Global, tokens: &str) -> Result<Call, RowError> {
+fn link_set(rt: &impl Abort, alloc: Global, tokens: &str) -> Call {
     let at = link_tokens(tokens);
-    let att = att(alloc, at.container)?;
-    let key = key(alloc, at.ns, at.link)?;
-    Ok(Call::LinkSet {
-        att,
-        key,
+    Call::LinkSet {
+        att: att(rt, alloc, at.container),
+        key: key(rt, alloc, at.ns, at.link),
         mac: None,
         mtu: None,
         tx_qlen: None,
         promisc: true,
         allmulti: false,
-    })
-}
-
-fn addr_add(alloc: Global, tokens: &str) -> Result<Call, RowError> {
-    let obj = RefCounted::of(alloc, address(alloc, tokens)?)?;
-    Ok(Call::AddrAdd { obj })
-}
-
-fn route_add(alloc: Global, tokens: &str) -> Result<Call, RowError> {
-    let obj = RefCounted::of(alloc, route(alloc, tokens)?)?;
-    Ok(Call::RouteAdd { obj })
-}
-
-fn rule_append(alloc: Global, tokens: &str) -> Result<Call, RowError> {
-    let rule = RefCounted::of(alloc, rule(alloc, tokens)?)?;
-    Ok(Call::RuleAppend { rule })
-}
-
-fn setting_set(alloc: Global, tokens: &str) -> Result<Call, RowError> {
-    let setting = RefCounted::of(alloc, setting(alloc, tokens)?)?;
-    Ok(Call::SettingSet { setting })
+    }
 }
 
 /// `LeaseNext CONTAINER SET`.
-fn lease_next(alloc: Global, tokens: &str) -> Result<Call, RowError> {
+fn lease_next(rt: &impl Abort, alloc: Global, tokens: &str) -> Call {
     let (container, name) = cut(tokens);
-    let number = set_number(name)?;
-    let set = set(alloc, name)?;
-    let att = att(alloc, container)?;
-    Ok(Call::LeaseNext { att, number, set })
+    let (number, set) = set(rt, alloc, name);
+    let att = att(rt, alloc, container);
+    Call::LeaseNext { att, number, set }
 }
 
-fn cache_put(alloc: Global, container: &str) -> Result<Call, RowError> {
-    let att = att(alloc, container)?;
-    let cached = RefCounted::of(alloc, cached(alloc)?)?;
-    Ok(Call::CachePut { att, cached })
-}
-
-/// `BridgeAt NAME OTHER` asks for the bridge with the hardware address of a link named `OTHER`.
-fn bridge_at(alloc: Global, tokens: &str) -> Result<Call, RowError> {
-    let (name, other) = cut(tokens);
-    let mac = link_mac(other);
-    let name = Text::of(alloc, name)?;
-    Ok(Call::HasObj {
-        probe: Probe::BridgeAt { name, mac },
-    })
-}
-
-fn has_master(alloc: Global, name: &str) -> Result<Call, RowError> {
-    let name = Text::of(alloc, name)?;
-    Ok(Call::HasObj {
-        probe: Probe::Master { name },
-    })
-}
-
-fn owners_of(alloc: Global, tokens: &str) -> Result<Call, RowError> {
+fn owners_of(rt: &impl Abort, alloc: Global, tokens: &str) -> Call {
     let (network, kind) = cut(tokens);
-    let kind = kind_of(kind)?;
-    let network = Text::of(alloc, network)?;
-    Ok(Call::OwnersOf { network, kind })
-}
-
-fn pool_free(alloc: Global, name: &str) -> Result<Call, RowError> {
-    let set = set(alloc, name)?;
-    let network = Text::of(alloc, "pods")?;
-    Ok(Call::PoolFree { network, set })
-}
-
-fn ns_change(alloc: Global, name: &str, add: bool) -> Result<Call, RowError> {
-    let name = Text::of(alloc, name)?;
-    Ok(Call::NsChange { name, add })
-}
-
-fn drop_link(alloc: Global, tokens: &str) -> Result<Call, RowError> {
-    let (ns, name) = cut(tokens);
-    let key = key(alloc, ns, name)?;
-    Ok(Call::Outside {
-        change: Change::DropLink(key),
-    })
-}
-
-fn flush(tokens: &str) -> Result<Call, RowError> {
-    let table = table_named(tokens).ok_or(RowError::NoCall)?;
-    Ok(Call::Outside {
-        change: Change::Flush(table),
-    })
+    let kind = match kind {
+        "links" => Kind::Links,
+        "rules" => Kind::Rules,
+        "settings" => Kind::Settings,
+        "leases" => Kind::Leases,
+        "cached" => Kind::Cached,
+        _ => panic!(rt; "no kind {kind}"),
+    };
+    Call::OwnersOf {
+        network: text(rt, alloc, network),
+        kind,
+    }
 }
 
 /// A call of a container alone.
-fn of_container(alloc: Global, verb: &str, tokens: &str) -> Result<Call, RowError> {
-    let att = att(alloc, tokens)?;
+fn of_container(rt: &impl Abort, alloc: Global, verb: &str, container: &str) -> Call {
+    let att = att(rt, alloc, container);
     match verb {
-        "LinkDel" => Ok(Call::LinkDel { att }),
-        "RuleDel" => Ok(Call::RuleDel { att }),
-        "SettingDel" => Ok(Call::SettingDel { att }),
-        "LeaseDel" => Ok(Call::LeaseDel { att }),
-        "CacheDel" => Ok(Call::CacheDel { att }),
-        "CacheGet" => Ok(Call::CacheGet { att }),
-        _ => Err(RowError::NoCall),
+        "LinkDel" => Call::LinkDel { att },
+        "RuleDel" => Call::RuleDel { att },
+        "SettingDel" => Call::SettingDel { att },
+        "LeaseDel" => Call::LeaseDel { att },
+        "CacheDel" => Call::CacheDel { att },
+        "CacheGet" => Call::CacheGet { att },
+        _ => panic!(rt; "no call {verb}"),
     }
 }
 
-fn outside(alloc: Global, verb: &str, tokens: &str) -> Result<Call, RowError> {
+/// A change from outside: of a namespace, a link's as its namespace and name, or a table's.
+fn outside(rt: &impl Abort, alloc: Global, verb: &str, tokens: &str) -> Call {
     match verb {
-        "NsAdd" => ns_change(alloc, tokens, true),
-        "NsDel" => ns_change(alloc, tokens, false),
-        "DropLink" => drop_link(alloc, tokens),
-        "Flush" => flush(tokens),
-        _ => of_container(alloc, verb, tokens),
+        "NsAdd" => Call::NsChange {
+            name: text(rt, alloc, tokens),
+            add: true,
+        },
+        "NsDel" => Call::NsChange {
+            name: text(rt, alloc, tokens),
+            add: false,
+        },
+        "DropLink" => {
+            let (ns, name) = cut(tokens);
+            Call::Outside {
+                change: Change::DropLink(key(rt, alloc, ns, name)),
+            }
+        }
+        "Flush" => Call::Outside {
+            change: Change::Flush(table_named(tokens).expect(rt, tokens)),
+        },
+        _ => of_container(rt, alloc, verb, tokens),
     }
 }
 
-fn object_question(alloc: Global, verb: &str, tokens: &str) -> Result<Call, RowError> {
-    let object = match verb {
-        "HasLink" => Object::Link(RefCounted::of(alloc, macvlan(alloc, tokens)?)?),
-        "HasVlan" => Object::Link(RefCounted::of(alloc, vlan(alloc, tokens)?)?),
-        "HasDummy" => Object::Link(RefCounted::of(alloc, dummy(alloc, tokens)?)?),
-        "HasAddress" => Object::Address(RefCounted::of(alloc, address(alloc, tokens)?)?),
-        "HasRoute" => Object::Route(RefCounted::of(alloc, route(alloc, tokens)?)?),
-        "HasRule" => Object::Rule(RefCounted::of(alloc, rule(alloc, tokens)?)?),
-        "HasSetting" => Object::Setting(RefCounted::of(alloc, setting(alloc, tokens)?)?),
-        "HasLease" => Object::Lease(RefCounted::of(alloc, lease(alloc, tokens)?)?),
-        _ => return outside(alloc, verb, tokens),
-    };
-    Ok(Call::HasObj {
-        probe: Probe::Whole(object),
-    })
-}
-
-fn question(alloc: Global, verb: &str, tokens: &str) -> Result<Call, RowError> {
+/// The object that a question names whole.
+fn object(rt: &impl Abort, alloc: Global, verb: &str, tokens: &str) -> Object {
     match verb {
-        "BridgeAt" => bridge_at(alloc, tokens),
-        "Master" => has_master(alloc, tokens),
-        "OwnersOf" => owners_of(alloc, tokens),
-        "PoolFree" => pool_free(alloc, tokens),
-        _ => object_question(alloc, verb, tokens),
+        "HasLink" | "HasVlan" | "HasDummy" => {
+            Object::Link(shared(rt, alloc, inner_link(rt, alloc, tokens)))
+        }
+        "HasAddress" => Object::Address(shared(rt, alloc, address(rt, alloc, tokens))),
+        "HasRoute" => Object::Route(shared(rt, alloc, route(rt, alloc, tokens))),
+        "HasRule" => Object::Rule(shared(rt, alloc, rule(rt, alloc, tokens))),
+        "HasSetting" => Object::Setting(shared(rt, alloc, setting(rt, alloc, tokens))),
+        "HasLease" => Object::Lease(shared(rt, alloc, lease(rt, alloc, tokens))),
+        _ => panic!(rt; "no call {verb}"),
     }
 }
 
-fn addition(alloc: Global, verb: &str, tokens: &str) -> Result<Call, RowError> {
+/// `BridgeAt NAME OTHER` asks for the bridge with the hardware address of a link named `OTHER`.
+fn question(rt: &impl Abort, alloc: Global, verb: &str, tokens: &str) -> Call {
     match verb {
-        "LinkSet" => link_set(alloc, tokens),
-        "AddrAdd" => addr_add(alloc, tokens),
-        "RouteAdd" => route_add(alloc, tokens),
-        "RuleAppend" => rule_append(alloc, tokens),
-        "SettingSet" => setting_set(alloc, tokens),
-        "LeaseNext" => lease_next(alloc, tokens),
-        "CachePut" => cache_put(alloc, tokens),
-        _ => question(alloc, verb, tokens),
+        "BridgeAt" => {
+            let (name, other) = cut(tokens);
+            Call::HasObj {
+                probe: Probe::BridgeAt {
+                    name: text(rt, alloc, name),
+                    mac: link_mac(other),
+                },
+            }
+        }
+        "Master" => Call::HasObj {
+            probe: Probe::Master {
+                name: text(rt, alloc, tokens),
+            },
+        },
+        "OwnersOf" => owners_of(rt, alloc, tokens),
+        "PoolFree" => {
+            let (_, set) = set(rt, alloc, tokens);
+            let network = text(rt, alloc, "pods");
+            Call::PoolFree { network, set }
+        }
+        _ if verb.starts_with("Has") => Call::HasObj {
+            probe: Probe::Whole(object(rt, alloc, verb, tokens)),
+        },
+        _ => outside(rt, alloc, verb, tokens),
     }
 }
 
-/// The call that the tokens of a row stand for.
-pub(crate) fn call_of(alloc: Global, tokens: &str) -> Result<Call, RowError> {
+fn addition(rt: &impl Abort, alloc: Global, verb: &str, tokens: &str) -> Call {
+    match verb {
+        "LinkSet" => link_set(rt, alloc, tokens),
+        "AddrAdd" => Call::AddrAdd {
+            obj: shared(rt, alloc, address(rt, alloc, tokens)),
+        },
+        "RouteAdd" => Call::RouteAdd {
+            obj: shared(rt, alloc, route(rt, alloc, tokens)),
+        },
+        "RuleAppend" => Call::RuleAppend {
+            rule: shared(rt, alloc, rule(rt, alloc, tokens)),
+        },
+        "SettingSet" => Call::SettingSet {
+            setting: shared(rt, alloc, setting(rt, alloc, tokens)),
+        },
+        "LeaseNext" => lease_next(rt, alloc, tokens),
+        "CachePut" => Call::CachePut {
+            att: att(rt, alloc, tokens),
+            cached: shared(rt, alloc, cached(rt, alloc)),
+        },
+        _ => question(rt, alloc, verb, tokens),
+    }
+}
+
+/// The call that the tokens of a row stand for. In `Begin CONTAINER NAMESPACE` the host's own namespace is `host`.
+pub(crate) fn call_of(rt: &impl Abort, alloc: Global, tokens: &str) -> Call {
     let (verb, tokens) = cut(tokens);
     match verb {
-        "Begin" => begin(alloc, tokens),
-        "BridgeEnsure" => bridge_ensure(alloc, tokens),
-        "GatewayEnsure" => gateway_ensure(alloc, tokens),
-        "ForwardEnsure" => forward_ensure(tokens),
-        "VethAdd" => veth_add(alloc, tokens),
-        "MacvlanAdd" => inner_add(alloc, macvlan(alloc, tokens)?),
-        "VlanAdd" => inner_add(alloc, vlan(alloc, tokens)?),
-        "DummyAdd" => inner_add(alloc, dummy(alloc, tokens)?),
-        _ => addition(alloc, verb, tokens),
+        "Begin" => {
+            let (container, netns) = cut(tokens);
+            let netns = if netns == "host" { "" } else { netns };
+            Call::Begin {
+                att: att(rt, alloc, container),
+                netns: text(rt, alloc, netns),
+            }
+        }
+        "BridgeEnsure" => Call::BridgeEnsure {
+            name: text(rt, alloc, tokens),
+            mtu: 1500,
+            promisc: false,
+        },
+        "GatewayEnsure" => Call::GatewayEnsure {
+            bridge: text(rt, alloc, tokens),
+            cidr: cidr_of(rt, "10.88.0.1/16"),
+        },
+        "ForwardEnsure" => forward_ensure(rt, tokens),
+        "VethAdd" => veth_add(rt, alloc, tokens),
+        "MacvlanAdd" | "VlanAdd" | "DummyAdd" => Call::MacvlanAdd {
+            link: shared(rt, alloc, inner_link(rt, alloc, tokens)),
+        },
+        _ => addition(rt, alloc, verb, tokens),
     }
 }

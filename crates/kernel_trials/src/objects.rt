@@ -4,7 +4,7 @@ ghost use Rattle.std.specs.Prelude.{◌≡◌, [], ◌∷◌, None, IfOk};
 ghost use Rattle.kernel_types.specs.declared.object.LinkKind.TheVariants as kinds;
 ghost use Rattle.kernel_types.specs.declared.object.Tag.TheVariants as tags;
 
-use crate::tokens::{RowError, addr_of, cidr_of, cut, link_tokens, number_of};
+use crate::tokens::{addr_of, cidr_of, cut, link_tokens, number_of};
 use cni_addr::{
     Addr, Cidr, Family, Items, MacvlanMode, NoMemory, Range, RangeSet, RefCounted, Text,
 };
@@ -15,6 +15,7 @@ use kernel_types::{
 };
 use link_names::link_mac;
 use std::alloc::Global;
+use std::process::Abort;
 
 /// The list of one item.
 pub(crate) fn one<T: Drop>(alloc: Global, item: T) -> Result<Items<T>, NoMemory>
@@ -25,31 +26,36 @@ pub(crate) fn one<T: Drop>(alloc: Global, item: T) -> Result<Items<T>, NoMemory>
     Ok(items)
 }
 
+pub(crate) fn text(rt: &impl Abort, alloc: Global, token: &str) -> Text {
+    Text::of(alloc, token).expect(rt, "memory")
+}
+
+pub(crate) fn shared<T: Drop>(rt: &impl Abort, alloc: Global, value: T) -> RefCounted<T> {
+    RefCounted::of(alloc, value).expect(rt, "memory")
+}
+
 /// The container's attachment by `eth0` to the network `pods`.
-pub(crate) fn att(alloc: Global, container: &str) -> Result<Att, NoMemory> {
-    let network = Text::of(alloc, "pods")?;
-    let container = Text::of(alloc, container)?;
-    let ifname = Text::of(alloc, "eth0")?;
-    Ok(Att {
-        network,
-        container,
-        ifname,
-    })
+pub(crate) fn att(rt: &impl Abort, alloc: Global, container: &str) -> Att {
+    Att {
+        network: text(rt, alloc, "pods"),
+        container: text(rt, alloc, container),
+        ifname: text(rt, alloc, "eth0"),
+    }
 }
 
-fn own(alloc: Global, container: &str) -> Result<Tag, NoMemory> {
-    let att = att(alloc, container)?;
-    Ok(Tag::Own(att))
+pub(crate) fn own(rt: &impl Abort, alloc: Global, container: &str) -> Tag {
+    Tag::Own(att(rt, alloc, container))
 }
 
-pub(crate) fn key(alloc: Global, ns: &str, name: &str) -> Result<LinkKey, NoMemory> {
-    let ns = Text::of(alloc, ns)?;
-    let name = Text::of(alloc, name)?;
-    Ok(LinkKey { ns, name })
+pub(crate) fn key(rt: &impl Abort, alloc: Global, ns: &str, name: &str) -> LinkKey {
+    LinkKey {
+        ns: text(rt, alloc, ns),
+        name: text(rt, alloc, name),
+    }
 }
 
 /// A link as a plugin's configuration leaves it. Takes no memory.
-fn link(
+pub(crate) fn link(
     place: LinkKey,
     kind: LinkKind,
     master: Option<Text>,
@@ -87,133 +93,89 @@ pub(crate) fn device(alloc: Global, name: &str) -> Result<Link, NoMemory>
     ))
 }
 
-/// The host's end of a veth pair, by the tokens of the whole pair: container, inner place, outer name and its master.
-pub(crate) fn host_end(alloc: Global, tokens: &str) -> Result<Link, RowError> {
-    let at = link_tokens(tokens);
-    let (outer, master) = cut(at.rest);
-    let place = key(alloc, "", outer)?;
-    let master = Text::of(alloc, master)?;
-    let peer = key(alloc, at.ns, at.link)?;
-    let tag = own(alloc, at.container)?;
-    Ok(link(place, LinkKind::Veth, Some(master), Some(peer), tag))
-}
-
-/// The container's end, by the same tokens.
-pub(crate) fn inner_end(alloc: Global, tokens: &str) -> Result<Link, RowError> {
-    let at = link_tokens(tokens);
-    let (outer, _) = cut(at.rest);
-    let place = key(alloc, at.ns, at.link)?;
-    let peer = key(alloc, "", outer)?;
-    let tag = own(alloc, at.container)?;
-    Ok(link(place, LinkKind::Veth, None, Some(peer), tag))
-}
-
-/// A macvlan link in bridge mode: container, place and master.
-pub(crate) fn macvlan(alloc: Global, tokens: &str) -> Result<Link, RowError> {
-    let at = link_tokens(tokens);
-    let place = key(alloc, at.ns, at.link)?;
-    let master = Text::of(alloc, at.rest)?;
-    let tag = own(alloc, at.container)?;
-    let kind = LinkKind::Macvlan(MacvlanMode::Bridge);
-    Ok(link(place, kind, Some(master), None, tag))
-}
-
-/// A VLAN link: container, place, master and the number of the VLAN.
-pub(crate) fn vlan(alloc: Global, tokens: &str) -> Result<Link, RowError> {
+/// A link of a container that is no end of a pair: container and place, behind which a macvlan link in bridge mode has
+/// its master, a VLAN link its master and the number of the VLAN, and a dummy link nothing.
+pub(crate) fn inner_link(rt: &impl Abort, alloc: Global, tokens: &str) -> Link {
     let at = link_tokens(tokens);
     let (master, id) = cut(at.rest);
-    let id = number_of(id)?;
-    let place = key(alloc, at.ns, at.link)?;
-    let master = Text::of(alloc, master)?;
-    let tag = own(alloc, at.container)?;
-    Ok(link(place, LinkKind::Vlan { id }, Some(master), None, tag))
-}
-
-/// A dummy link: container and place.
-pub(crate) fn dummy(alloc: Global, tokens: &str) -> Result<Link, RowError> {
-    let at = link_tokens(tokens);
-    let place = key(alloc, at.ns, at.link)?;
-    let tag = own(alloc, at.container)?;
-    Ok(link(place, LinkKind::Dummy, None, None, tag))
+    let (kind, master) = if master.is_empty() {
+        (LinkKind::Dummy, None)
+    } else if id.is_empty() {
+        let kind = LinkKind::Macvlan(MacvlanMode::Bridge);
+        (kind, Some(text(rt, alloc, master)))
+    } else {
+        let id = number_of(rt, id);
+        (LinkKind::Vlan { id }, Some(text(rt, alloc, master)))
+    };
+    let place = key(rt, alloc, at.ns, at.link);
+    link(place, kind, master, None, own(rt, alloc, at.container))
 }
 
 /// Container, place and address.
-pub(crate) fn address(alloc: Global, tokens: &str) -> Result<AddrObj, RowError> {
+pub(crate) fn address(rt: &impl Abort, alloc: Global, tokens: &str) -> AddrObj {
     let at = link_tokens(tokens);
-    let cidr = cidr_of(at.rest)?;
-    let ns = Text::of(alloc, at.ns)?;
-    let link = Text::of(alloc, at.link)?;
-    let tag = own(alloc, at.container)?;
-    Ok(AddrObj {
-        ns,
-        link,
-        cidr,
-        tag,
-    })
+    AddrObj {
+        ns: text(rt, alloc, at.ns),
+        link: text(rt, alloc, at.link),
+        cidr: cidr_of(rt, at.rest),
+        tag: own(rt, alloc, at.container),
+    }
 }
 
 /// A route by the gateway of its family: container, place and destination.
-pub(crate) fn route(alloc: Global, tokens: &str) -> Result<RouteObj, RowError> {
+pub(crate) fn route(rt: &impl Abort, alloc: Global, tokens: &str) -> RouteObj {
     let at = link_tokens(tokens);
-    let dst = cidr_of(at.rest)?;
-    let gateway = addr_of(match dst.addr.family {
+    let dst = cidr_of(rt, at.rest);
+    let gateway = match dst.addr.family {
         Family::V4 => "10.88.0.1",
         Family::V6 => "fd00:88::1",
-    })?;
-    let ns = Text::of(alloc, at.ns)?;
-    let link = Text::of(alloc, at.link)?;
-    let tag = own(alloc, at.container)?;
-    Ok(RouteObj {
-        ns,
+    };
+    RouteObj {
+        ns: text(rt, alloc, at.ns),
         dst,
-        link,
-        gw: Some(gateway),
-        tag,
-    })
+        link: text(rt, alloc, at.link),
+        gw: Some(addr_of(rt, gateway)),
+        tag: own(rt, alloc, at.container),
+    }
 }
 
 /// A rule that accepts what comes to a port: container and port.
-pub(crate) fn rule(alloc: Global, tokens: &str) -> Result<Rule, RowError> {
+pub(crate) fn rule(rt: &impl Abort, alloc: Global, tokens: &str) -> Rule {
     let (container, port) = cut(tokens);
-    let port = number_of(port)?;
-    let tag = own(alloc, container)?;
-    Ok(Rule {
+    Rule {
         table: Table::Nat,
         chain: Chain::Dnat,
         src: None,
         dst: None,
         not_dst: false,
         protocol: None,
-        dport: Some(port),
+        dport: Some(number_of(rt, port)),
         established: false,
         target: Target::Accept,
-        tag,
-    })
+        tag: own(rt, alloc, container),
+    }
 }
 
 /// The longest queue of a listening socket: container, namespace and value.
-pub(crate) fn setting(alloc: Global, tokens: &str) -> Result<Setting, RowError> {
+pub(crate) fn setting(rt: &impl Abort, alloc: Global, tokens: &str) -> Setting {
     let (container, tokens) = cut(tokens);
     let (ns, value) = cut(tokens);
-    let ns = Text::of(alloc, ns)?;
-    let key = Text::of(alloc, "net.core.somaxconn")?;
-    let value = Text::of(alloc, value)?;
-    let tag = own(alloc, container)?;
-    Ok(Setting {
-        ns,
-        key,
-        value,
-        tag,
-    })
+    Setting {
+        ns: text(rt, alloc, ns),
+        key: text(rt, alloc, "net.core.somaxconn"),
+        value: text(rt, alloc, value),
+        tag: own(rt, alloc, container),
+    }
 }
 
 /// Container and address.
-pub(crate) fn lease(alloc: Global, tokens: &str) -> Result<Lease, RowError> {
+pub(crate) fn lease(rt: &impl Abort, alloc: Global, tokens: &str) -> Lease {
     let (container, addr) = cut(tokens);
-    let addr = addr_of(addr)?;
-    let network = Text::of(alloc, "pods")?;
-    let tag = own(alloc, container)?;
-    Ok(Lease { network, addr, tag })
+    Lease {
+        network: text(rt, alloc, "pods"),
+        addr: addr_of(rt, addr),
+        tag: own(rt, alloc, container),
+    }
 }
 
 /// The range from its gateway on, where all are of one family.
@@ -231,61 +193,37 @@ fn range_of(subnet: Cidr, gateway: Addr, end: Addr) -> Option<Range> {
     }
 }
 
-/// A set of one range, which has its gateway in it.
-fn set_of(
-    alloc: Global,
-    subnet: &str,
-    gateway: &str,
-    end: &str,
-) -> Result<RefCounted<RangeSet>, RowError> {
-    let range = range_of(cidr_of(subnet)?, addr_of(gateway)?, addr_of(end)?);
-    let ranges = one(alloc, range.ok_or(RowError::NoCall)?)?;
-    Ok(RefCounted::of(alloc, RangeSet { ranges })?)
-}
-
-/// The place of a set among those of the network.
-pub(crate) fn set_number(name: &str) -> Result<u32, RowError> {
-    match name {
-        "wide" => Ok(0),
-        "tiny" => Ok(1),
-        "top" => Ok(2),
-        _ => Err(RowError::NoCall),
-    }
-}
-
-/// The wide set, or one of those with one candidate: the tiny one, and the top one of IPv6.
-pub(crate) fn set(alloc: Global, name: &str) -> Result<RefCounted<RangeSet>, RowError> {
-    match name {
-        "wide" => set_of(alloc, "10.88.0.0/16", "10.88.0.1", "10.88.255.254"),
-        "tiny" => set_of(alloc, "10.3.0.0/30", "10.3.0.1", "10.3.0.2"),
-        "top" => set_of(
-            alloc,
+/// The number of a set among those of the network, and the set, which has its gateway in it: the wide one, or one of
+/// those with one candidate, the tiny one and the top one of IPv6.
+pub(crate) fn set(rt: &impl Abort, alloc: Global, name: &str) -> (u32, RefCounted<RangeSet>) {
+    let (number, subnet, gateway, end) = match name {
+        "wide" => (0, "10.88.0.0/16", "10.88.0.1", "10.88.255.254"),
+        "tiny" => (1, "10.3.0.0/30", "10.3.0.1", "10.3.0.2"),
+        "top" => (
+            2,
             "ffff:ffff:ffff:ffff:ffff:ffff:ffff:fffc/126",
             "ffff:ffff:ffff:ffff:ffff:ffff:ffff:fffd",
             "ffff:ffff:ffff:ffff:ffff:ffff:ffff:fffe",
         ),
-        _ => Err(RowError::NoCall),
-    }
+        _ => panic!(rt; "no set {name}"),
+    };
+    let range = range_of(cidr_of(rt, subnet), addr_of(rt, gateway), addr_of(rt, end));
+    let ranges = one(alloc, range.expect(rt, "a range")).expect(rt, "memory");
+    (number, shared(rt, alloc, RangeSet { ranges }))
 }
 
-fn empty_result(alloc: Global) -> Result<AddResult, NoMemory> {
-    let dns = no_dns(alloc)?;
-    Ok(AddResult {
+/// An entry of `/ns/a` whose result is empty.
+pub(crate) fn cached(rt: &impl Abort, alloc: Global) -> Cached {
+    let result = AddResult {
         version: Version::V1_1,
         interfaces: Items::new(alloc),
         ips: Items::new(alloc),
         routes: Items::new(alloc),
-        dns,
-    })
-}
-
-/// An entry of `/ns/a` whose result is empty.
-pub(crate) fn cached(alloc: Global) -> Result<Cached, NoMemory> {
-    let netns = Text::of(alloc, "/ns/a")?;
-    let result = empty_result(alloc)?;
-    Ok(Cached {
-        netns,
+        dns: no_dns(alloc).expect(rt, "memory"),
+    };
+    Cached {
+        netns: text(rt, alloc, "/ns/a"),
         mappings: Items::new(alloc),
         result,
-    })
+    }
 }

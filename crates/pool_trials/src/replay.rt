@@ -1,209 +1,106 @@
-//! Sets of addresses as the real allocator leased and freed them: its rows, and runs of it.
+//! Sets of addresses as the tests of the real allocator have them.
 
 ghost use Rattle.std.specs.Prelude.{◌≡◌, ◌<◌};
 
-use crate::choice::{addr, pick_in, set_of};
+use crate::choice::lease_in_turn;
+use crate::ranges::{addr, range};
 use crate::rows::ROWS;
-use crate::runs::{add_new, pick_runs_in};
-use crate::sequences::SEQUENCES;
-use cni_addr::{Addr, Items, NoMemory, RangeSet};
-use ip_pool::{AddrRuns, Steps};
+use cni_addr::{Addr, Items, RangeSet};
+use ip_pool::Steps;
 use std::alloc::Global;
 use std::marker::Brand;
 use std::process::Abort;
 use std::sync::ledger::{Blank, Ledger};
-use std::test::Fail;
 
-/// What happened to a set next. An address is its offset from the start of the set's first range.
-#[derive(Clone, Copy)]
-enum Step {
-    /// `=5`: at the outset this is the last address that was leased.
-    Last(u16),
-    /// `*5`: at the outset this address is taken.
-    Taken(u16),
-    /// `+5`: this address was leased.
-    Gave(u16),
-    /// `-5`: this address was given back.
-    Freed(u16),
-    /// `tried`: an address was leased and given back at once, since a later set had none.
-    Tried,
-    /// `full`: no address was left.
-    Full,
-    /// `@5`: this is the last address that was leased.
-    Ends(u16),
-}
-
-/// What the real allocator did with one set, whose ranges are given by start, end and gateway.
+/// What the real allocator does with one set, whose ranges are given by start, end and gateway.
 pub(crate) struct Recording {
     pub(crate) name: &'static str,
     pub(crate) ranges: &'static [(u32, u32, u32)],
-    pub(crate) steps: &'static str,
+    /// The last address that was leased at the outset, if any was.
+    pub(crate) last: Option<u32>,
+    /// What is taken at the outset.
+    pub(crate) taken: &'static [u32],
+    /// What is leased then, in order.
+    pub(crate) given: &'static [u32],
+    /// No address is left at the end.
+    pub(crate) is_full: bool,
 }
 
-/// The set as it is during a replay, with the taken addresses as a list and as runs.
-#[derive(Drop)]
-pub(crate) struct Replay<L: Ledger> {
-    pub(crate) set: RangeSet,
-    pub(crate) base: u32,
-    pub(crate) last: Option<Addr>,
-    pub(crate) taken: Items<Addr>,
-    pub(crate) runs: AddrRuns,
-    pub(crate) steps: Steps<L>,
+/// The one range of 10.1.0.0/29 by the defaults, whose last address was leased last: with one address left, and with
+/// none.
+const SMALL: [Recording; 2] = [
+    Recording {
+        name: "one address left",
+        ranges: &[(0x0a010002, 0x0a010006, 0x0a010001)],
+        last: Some(0x0a010006),
+        taken: &[0x0a010003, 0x0a010004, 0x0a010005, 0x0a010006],
+        given: &[0x0a010002],
+        is_full: true,
+    },
+    Recording {
+        name: "no address left",
+        ranges: &[(0x0a010002, 0x0a010006, 0x0a010001)],
+        last: Some(0x0a010006),
+        taken: &[0x0a010002, 0x0a010003, 0x0a010004, 0x0a010005, 0x0a010006],
+        given: &[],
+        is_full: true,
+    },
+];
+
+fn set_of(rt: &impl Abort, alloc: Global, ranges: &[(u32, u32, u32)]) -> RangeSet {
+    let mut items = Items::new(alloc);
+    for (start, end, gateway) in ranges {
+        items
+            .push(range(*start, *end, *gateway))
+            .expect(rt, "memory");
+    }
+    RangeSet { ranges: items }
 }
 
-fn address_at(base: u32, offset: u16) -> Addr {
-    addr(base.wrapping_add(u32::from(offset)))
+fn addrs(rt: &impl Abort, alloc: Global, numbers: &[u32]) -> Items<Addr> {
+    let mut items = Items::new(alloc);
+    for bits in numbers {
+        items.push(addr(*bits)).expect(rt, "memory");
+    }
+    items
 }
 
-/// The list without one address.
-fn without(alloc: Global, addrs: &Items<Addr>, gone: &Addr) -> Result<Items<Addr>, NoMemory> {
-    let mut kept = Items::new(alloc);
-    for addr in addrs.as_slice() {
-        if *addr != *gone {
-            kept.push(*addr)?;
-        }
-    }
-    Ok(kept)
-}
-
-fn step_of(word: &str) -> Result<Step, Fail> {
-    if let Some(offset) = word.strip_prefix('=') {
-        return Ok(Step::Last(offset.parse::<u16>()?));
-    }
-    if let Some(offset) = word.strip_prefix('*') {
-        return Ok(Step::Taken(offset.parse::<u16>()?));
-    }
-    if let Some(offset) = word.strip_prefix('+') {
-        return Ok(Step::Gave(offset.parse::<u16>()?));
-    }
-    if let Some(offset) = word.strip_prefix('-') {
-        return Ok(Step::Freed(offset.parse::<u16>()?));
-    }
-    if let Some(offset) = word.strip_prefix('@') {
-        return Ok(Step::Ends(offset.parse::<u16>()?));
-    }
-    match word {
-        "tried" => Ok(Step::Tried),
-        "full" => Ok(Step::Full),
-        _ => Err("a word that is no step")?,
-    }
-}
-
-impl<L: Ledger> Replay<L> {
-    /// The replay begins with no address taken.
-    fn begin(&mut self, alloc: Global, recording: &Recording) -> Result<(), Fail> {
-        let [(base, _, _), ..] = recording.ranges else {
-            return Err("a recording without a range")?;
-        };
-        self.set = set_of(alloc, recording.ranges)?;
-        self.base = *base;
-        self.last = None;
-        self.taken = Items::new(alloc);
-        self.runs = AddrRuns::new(alloc);
-        Ok(())
-    }
-
-    /// The choice, which is the same from the list and from the runs.
-    pub(crate) fn pick(&mut self, rt: &impl Abort) -> Option<Addr> {
-        let picked = pick_in(rt, &self.set, self.last, &self.taken);
-        let by_runs = pick_runs_in(rt, &self.set, self.last, &self.runs, &mut self.steps);
-        assert_eq!(rt; by_runs, picked);
-        picked
-    }
-
-    fn take(&mut self, addr: Addr) -> Result<(), NoMemory> {
-        add_new(&mut self.runs, &addr, &mut self.steps)?;
-        self.taken.push(addr)
-    }
-
-    /// This address is leased next.
-    pub(crate) fn give(
-        &mut self,
-        rt: &impl Abort,
-        given: Addr,
-        name: &str,
-    ) -> Result<(), NoMemory> {
-        let picked = self.pick(rt);
-        assert_eq!(rt; picked, Some(given), "in {name}");
-        self.last = Some(given);
-        self.take(given)
-    }
-
-    /// An address is given back.
-    fn free(&mut self, rt: &impl Abort, alloc: Global, freed: &Addr) -> Result<(), NoMemory> {
-        self.taken = without(alloc, &self.taken, freed)?;
-        let found = self.runs.remove(freed);
-        assert!(rt; found);
-        Ok(())
-    }
-
-    /// An address is leased next, and is given back.
-    fn try_next(&mut self, rt: &impl Abort, name: &str) {
-        let picked = self.pick(rt);
-        assert!(rt; picked.is_some(), "in {name}");
-        self.last = picked;
-    }
-
-    fn step(
-        &mut self,
-        rt: &impl Abort,
-        alloc: Global,
-        step: Step,
-        name: &str,
-    ) -> Result<(), NoMemory> {
-        let base = self.base;
-        match step {
-            Step::Last(offset) => self.last = Some(address_at(base, offset)),
-            Step::Taken(offset) => self.take(address_at(base, offset))?,
-            Step::Gave(offset) => self.give(rt, address_at(base, offset), name)?,
-            Step::Freed(offset) => self.free(rt, alloc, &address_at(base, offset))?,
-            Step::Tried => self.try_next(rt, name),
-            Step::Full => {
-                let picked = self.pick(rt);
-                assert_eq!(rt; picked, None, "in {name}");
-            }
-            Step::Ends(offset) => {
-                let last = Some(address_at(base, offset));
-                assert_eq!(rt; self.last, last, "at the end of {name}");
-            }
-        }
-        Ok(())
+fn replay<L: Ledger>(rt: &impl Abort, alloc: Global, recording: &Recording, steps: &mut Steps<L>) {
+    let set = set_of(rt, alloc, recording.ranges);
+    let taken = addrs(rt, alloc, recording.taken);
+    let given = addrs(rt, alloc, recording.given);
+    let next = lease_in_turn(
+        rt,
+        alloc,
+        recording.name,
+        &set,
+        recording.last.map(addr),
+        taken.as_slice(),
+        given.as_slice(),
+        steps,
+    );
+    if recording.is_full {
+        assert_eq!(rt; next, None, "at the end of {}", recording.name);
     }
 }
 
-fn replay_all<L: Ledger>(
-    rt: &impl Abort,
-    alloc: Global,
-    recordings: &[Recording],
-    blank: Blank,
-) -> Result<(), Fail>
+fn replay_all<L: Ledger>(rt: &impl Abort, alloc: Global, recordings: &[Recording], blank: Blank)
     requires name { blank.name ≡ L.name }
     requires parts { blank.parts ≡ L.parts }
     requires some { 0 < blank.parts }
 {
-    let mut replay = Replay::<L> {
-        set: set_of(alloc, &[])?,
-        base: 0,
-        last: None,
-        taken: Items::new(alloc),
-        runs: AddrRuns::new(alloc),
-        steps: Steps::new(blank),
-    };
+    let mut steps = Steps::<L>::new(blank);
     for recording in recordings {
-        replay.begin(alloc, recording)?;
-        for word in recording.steps.split(' ') {
-            replay.step(rt, alloc, step_of(word)?, recording.name)?;
-        }
+        replay(rt, alloc, recording, &mut steps);
     }
-    Ok(())
 }
 
 #[test]
-fn rows_of_the_real_allocator(rt: HostRuntime) -> Result<(), Fail> {
-    replay_all::<Brand>(&rt, rt.alloc(), &ROWS, Blank::new(1))
+fn rows_of_the_real_allocator(rt: HostRuntime) {
+    replay_all::<Brand>(&rt, rt.alloc(), &ROWS, Blank::new(1));
 }
 
 #[test]
-fn runs_of_the_real_allocator(rt: HostRuntime) -> Result<(), Fail> {
-    replay_all::<Brand>(&rt, rt.alloc(), &SEQUENCES, Blank::new(1))
+fn a_small_pool_to_its_end(rt: HostRuntime) {
+    replay_all::<Brand>(&rt, rt.alloc(), &SMALL, Blank::new(1));
 }

@@ -2,26 +2,25 @@
 
 ghost use Rattle.std.specs.Prelude.{◌≡◌, ◌<◌};
 
-use crate::choice::addr;
-use cni_addr::{Addr, NoMemory, RangeSet};
+use crate::ranges::addr;
+use cni_addr::{Addr, RangeSet};
 use ip_pool::{AddrRuns, Steps, are_apart, contains_candidate, has_free_runs, pick_runs};
 use std::alloc::Global;
 use std::marker::Brand;
 use std::process::Abort;
 use std::sync::ledger::{Blank, Ledger};
-use std::test::Fail;
 
 /// Adds an address, unless it is there.
 pub(crate) fn add_new<L: Ledger>(
+    rt: &impl Abort,
     runs: &mut AddrRuns,
     addr: &Addr,
     steps: &mut Steps<L>,
-) -> Result<(), NoMemory> {
+) {
     if runs.through(addr, steps).is_none() {
-        runs.reserve_one()?;
+        runs.reserve_one().expect(rt, "memory");
         runs.add(addr);
     }
-    Ok(())
 }
 
 /// The choice from runs, where its conditions hold.
@@ -45,7 +44,7 @@ pub(crate) fn pick_runs_in<L: Ledger>(
     picked
 }
 
-fn join_and_split<L: Ledger>(rt: &impl Abort, alloc: Global, blank: Blank) -> Result<(), NoMemory>
+fn join_and_split<L: Ledger>(rt: &impl Abort, alloc: Global, blank: Blank)
     requires name { blank.name ≡ L.name }
     requires parts { blank.parts ≡ L.parts }
     requires some { 0 < blank.parts }
@@ -53,7 +52,7 @@ fn join_and_split<L: Ledger>(rt: &impl Abort, alloc: Global, blank: Blank) -> Re
     let mut steps = Steps::<L>::new(blank);
     let mut runs = AddrRuns::new(alloc);
     for bits in [3, 5, 9, 4] {
-        add_new(&mut runs, &addr(bits), &mut steps)?;
+        add_new(rt, &mut runs, &addr(bits), &mut steps);
     }
     for (from, end) in [(3, Some(5)), (5, Some(5)), (6, None), (9, Some(9))] {
         let through = runs.through(&addr(from), &mut steps);
@@ -67,18 +66,15 @@ fn join_and_split<L: Ledger>(rt: &impl Abort, alloc: Global, blank: Blank) -> Re
         let through = runs.through(&addr(from), &mut steps);
         assert_eq!(rt; through, end.map(addr), "after the removal, from {from}");
     }
-    Ok(())
 }
 
 #[test]
-fn runs_join_and_split(rt: HostRuntime) -> Result<(), Fail> {
-    join_and_split::<Brand>(&rt, rt.alloc(), Blank::new(1))?;
-    Ok(())
+fn runs_join_and_split(rt: HostRuntime) {
+    join_and_split::<Brand>(&rt, rt.alloc(), Blank::new(1));
 }
 
 #[test]
-fn counting_takes_no_bytes(rt: HostRuntime) -> Result<(), Fail> {
+fn counting_takes_no_bytes(rt: HostRuntime) {
     assert_eq!(rt; size_of::<Steps<Brand>>(), 0);
     assert_eq!(rt; size_of::<(Addr, Steps<Brand>)>(), size_of::<Addr>());
-    Ok(())
 }

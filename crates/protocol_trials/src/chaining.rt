@@ -4,7 +4,8 @@ ghost use Rattle.std.specs.Prelude.{◌≡◌, ◌∷◌, [], true, IfOk, IfSome
 ghost use Rattle.std.specs.List.{AllZip};
 ghost use Rattle.exec_protocol.specs.Work.{AreGivenFor, HasItsPrev, IsAddFor, IsGivenBy};
 
-use cni_addr::{Addr, Duplicate, Family, Items, NoMemory, Text};
+use crate::samples::{env_of, list, text};
+use cni_addr::{Addr, Family, Items, NoMemory, Text};
 use cni_errors::fields::add_refusal;
 use exec_protocol::{Chain, Env, Request, Work, chain, read_request, work};
 use host_local::given;
@@ -15,10 +16,7 @@ use plugin_chain::plugins::ipam_of;
 use plugin_requests::RawList;
 use pod_file::{Command, RawMapping, Verb};
 use std::alloc::Global;
-use std::test::Fail;
-
-const PODS: &str =
-    r#"{"cniVersion":"1.1.0","name":"pods","plugins":[{"type":"bridge","ipam":{"type":"host-local","subnet":"10.88.0.0/16"}},{"type":"portmap","capabilities":{"portMappings":true}}]}"#;
+use std::process::Abort;
 
 /// 10.88.0.2.
 const LEASED: Addr = Addr {
@@ -26,48 +24,43 @@ const LEASED: Addr = Addr {
     bits: 0x0a58_0002,
 };
 
-fn pods(alloc: Global) -> Result<RawList, Fail> {
-    match RawList::read(alloc, PODS.as_bytes()) {
-        Ok(raw) => Ok(raw),
-        Err(_) => Err("a network list".into()),
-    }
-}
-
 /// From port 8080 of the host to port 80.
-fn one_mapping(alloc: Global) -> Result<Items<RawMapping>, NoMemory> {
-    let mapping = RawMapping {
+fn one_mapping(rt: &impl Abort, alloc: Global) -> Items<RawMapping> {
+    let mut mappings = Items::new(alloc);
+    let pushed = mappings.push(RawMapping {
         host_port: 8080,
         container_port: 80,
-        protocol: Text::of(alloc, "tcp")?,
-        host_ip: Text::of(alloc, "")?,
-    };
-    let mut mappings = Items::new(alloc);
-    mappings.push(mapping)?;
-    Ok(mappings)
+        protocol: text(rt, alloc, "tcp"),
+        host_ip: text(rt, alloc, ""),
+    });
+    pushed.expect(rt, "no memory");
+    mappings
 }
 
-fn add(alloc: Global) -> Result<Command, NoMemory> {
-    Ok(Command {
+fn add(rt: &impl Abort, alloc: Global) -> Command {
+    Command {
         number: 1,
         verb: Verb::Add,
-        network: Text::of(alloc, "pods")?,
-        container: Text::of(alloc, "c1")?,
-        netns: Text::of(alloc, "/ns/a")?,
-        ifname: Text::of(alloc, "eth0")?,
-        args: Text::of(alloc, "")?,
-        mappings: one_mapping(alloc)?,
+        network: text(rt, alloc, "podman"),
+        container: text(rt, alloc, "c1"),
+        netns: text(rt, alloc, "/ns/a"),
+        ifname: text(rt, alloc, "eth0"),
+        args: text(rt, alloc, ""),
+        mappings: one_mapping(rt, alloc),
         valid: Items::new(alloc),
         table: None,
         stop: None,
         faults: Items::new(alloc),
-    })
+    }
 }
 
 /// Whether the list takes the ADD.
 fn is_add_for(alloc: Global, list: &NetList, command: &Command) -> Result<bool, NoMemory>
     ensures { IfOk result (λ yes. yes ≡ true → IsAddFor list.now command.now) }
 {
-    let good = add_refusal(alloc, command)?.is_none();
+    let refusal = add_refusal(alloc, command)?;
+    let good = refusal.is_none();
+    drop(refusal);
     Ok(good && command.verb == Verb::Add && command.network == list.name)
 }
 
@@ -92,16 +85,18 @@ fn given_for(list: &NetList, addr: &Addr) -> Option<Given>
     }
 }
 
-fn chain_to(alloc: Global, raw: &RawList, command: &Command) -> Result<Chain, Fail> {
+fn chain_to(rt: &impl Abort, alloc: Global, raw: &RawList, command: &Command) -> Chain {
     let list = raw.list().get();
-    let taken = is_add_for(alloc, list, command)?;
+    let Ok(taken) = is_add_for(alloc, list, command) else {
+        panic!(rt; "no memory");
+    };
     let Some(given) = given_for(list, &LEASED) else {
-        return Err("an address".into());
+        panic!(rt; "the address is not of the list");
     };
     if taken {
-        Ok(chain(alloc, raw, command, &[given])?)
+        chain(alloc, raw, command, &[given]).expect(rt, "no memory")
     } else {
-        Err("an ADD of the list".into())
+        panic!(rt; "the list does not take the ADD")
     }
 }
 
@@ -114,62 +109,64 @@ fn has_its_prev(request: &Request) -> bool
     }
 }
 
-fn work_if(alloc: Global, request: &Request, given: &[Given]) -> Result<Work, Fail> {
+fn work_if(rt: &impl Abort, alloc: Global, request: &Request, given: &[Given]) -> Work {
     if request.env.command.as_str() == "ADD" && has_its_prev(request) {
-        Ok(work(alloc, request, given)?)
+        work(alloc, request, given).expect(rt, "no memory")
     } else {
-        Err("a request of an ADD".into())
+        panic!(rt; "the request is not of an ADD")
     }
 }
 
-fn words(alloc: Global) -> Result<Env, NoMemory> {
-    Ok(Env {
-        command: Text::of(alloc, "ADD")?,
-        container: Text::of(alloc, "c1")?,
-        netns: Text::of(alloc, "/ns/a")?,
-        ifname: Text::of(alloc, "eth0")?,
-        args: Text::of(alloc, "")?,
-    })
-}
-
-fn work_of_line(alloc: Global, env: &Env, line: &Text, given: &[Given]) -> Result<Work, Fail> {
+fn work_of_line(rt: &impl Abort, alloc: Global, env: &Env, line: &Text, given: &[Given]) -> Work {
     match read_request(alloc, env, line.as_str().as_bytes()) {
-        Ok(request) => work_if(alloc, &request, given),
-        Err(_) => Err("a request".into()),
+        Ok(request) => {
+            let work = work_if(rt, alloc, &request, given);
+            drop(request);
+            work
+        }
+        Err(_) => panic!(rt; "the request is not read"),
     }
 }
 
 /// Whether the second request's work goes on from the first's as the chain does, and ends as it does.
-fn are_works_of(alloc: Global, chain: &Chain, first: Work, second: Work) -> Result<bool, NoMemory> {
-    let mut calls = first.calls.into_vec();
-    calls.append(&mut second.calls.into_vec())?;
-    Ok(match chain.calls.as_slice() {
+fn are_works_of(chain: &Chain, first: &Work, second: &Work) -> bool {
+    let calls = first.calls.as_slice();
+    match chain.calls.as_slice() {
         [Call::Begin { .. }, plugins @ .., Call::CachePut { .. }] => {
-            plugins == calls.as_slice() && second.result == chain.result
+            plugins.starts_with(calls)
+                && plugins.get(calls.len()..) == Some(second.calls.as_slice())
+                && second.result == chain.result
         }
         _ => false,
-    })
+    }
 }
 
-fn is_read_again(alloc: Global, list: &NetList, chain: &Chain) -> Result<bool, Fail> {
+fn is_read_again(rt: &impl Abort, alloc: Global, list: &NetList, chain: &Chain) -> bool {
     let Some(given) = given_for(list, &LEASED) else {
-        return Err("an address".into());
+        panic!(rt; "the address is not of the list");
     };
-    let [first, second] = chain.requests.as_slice() else {
-        return Err("two requests".into());
+    let [to_first, to_second] = chain.requests.as_slice() else {
+        panic!(rt; "there are not two requests");
     };
-    let env = words(alloc)?;
-    let one = work_of_line(alloc, &env, first, &[given])?;
-    let other = work_of_line(alloc, &env, second, &[])?;
-    Ok(are_works_of(alloc, chain, one, other)?)
+    let env = env_of(rt, alloc, "ADD,c1,/ns/a,eth0,");
+    let first = work_of_line(rt, alloc, &env, to_first, &[given]);
+    let second = work_of_line(rt, alloc, &env, to_second, &[]);
+    drop(env);
+    let is_same = are_works_of(chain, &first, &second);
+    drop(first);
+    drop(second);
+    is_same
 }
 
 #[test]
-fn a_chain_is_the_work_of_its_requests(rt: HostRuntime) -> Result<(), Fail> {
-    let raw = pods(rt.alloc())?;
-    let command = add(rt.alloc())?;
-    let chain = chain_to(rt.alloc(), &raw, &command)?;
+fn a_chain_is_the_work_of_its_requests(rt: HostRuntime) {
+    let alloc = rt.alloc();
+    let raw = list(&rt, alloc);
+    let command = add(&rt, alloc);
+    let chain = chain_to(&rt, alloc, &raw, &command);
     assert_eq!(rt; chain.calls.as_slice().len(), 9);
-    assert!(rt; is_read_again(rt.alloc(), raw.list().get(), &chain)?);
-    Ok(())
+    assert!(rt; is_read_again(&rt, alloc, raw.list().get(), &chain));
+    drop(chain);
+    drop(command);
+    drop(raw);
 }

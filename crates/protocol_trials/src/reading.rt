@@ -1,23 +1,68 @@
 //! Requests that are read: what each wrong part is told as, and what a good one has.
+//!
+//! A row has the words that a plugin is called with, its request, and what comes of it.
 
-use cni_addr::{NoMemory, Text};
+use crate::samples::{env_of, text};
+use cni_addr::Text;
 use cni_result::ResultError;
-use exec_protocol::{Env, Request, RequestError, read_request};
+use exec_protocol::{Request, RequestError, read_request};
 use net_conf::ConfError;
 use std::alloc::Global;
-use std::test::Fail;
+use std::process::Abort;
 
-fn words(
-    alloc: Global,
-    [command, container, netns, ifname, args]: [&str; 5],
-) -> Result<Env, NoMemory> {
-    Ok(Env {
-        command: Text::of(alloc, command)?,
-        container: Text::of(alloc, container)?,
-        netns: Text::of(alloc, netns)?,
-        ifname: Text::of(alloc, ifname)?,
-        args: Text::of(alloc, args)?,
-    })
+/// All is wrong at first, and then one part after the other is mended.
+const WORDS_AND_HEADS: &str = r#"add,,,a/b,A=; { => CNI_COMMAND
+VERSION,,,a/b,A=; { => CNI_COMMAND
+ADD,,,a/b,A=; { => CNI_CONTAINERID, CNI_NETNS, CNI_IFNAME, CNI_ARGS
+CHECK,,,a/b,A=; { => CNI_CONTAINERID, CNI_NETNS, CNI_IFNAME
+DEL,,,a/b,A=; { => CNI_CONTAINERID, CNI_IFNAME
+GC,,,a/b,A=; { => no JSON
+ADD,c1,/ns/a,eth0,A= [7.5] => number
+ADD,c1,/ns/a,eth0,A= [7] => list
+ADD,c1,/ns/a,eth0,A= {"cniVersion":7,"name":"a b"} => cniVersion
+ADD,c1,/ns/a,eth0,A= {"cniVersion":"9.9","name":"a b"} => 9.9
+ADD,c1,/ns/a,eth0,A= {"cniVersion":"1.1.0","name":"a b","type":"x"} => name
+ADD,c1,/ns/a,eth0,A= {"cniVersion":"1.1.0","name":"pods","type":"x"} => type"#;
+
+const BEFORE_MEMBERS: &str = r#"ADD,c1,/ns/a,eth0, {"cniVersion":"1.1.0","name":"pods","type":"#;
+
+/// The same of what follows the version, the name and the type in a request.
+const MEMBERS: &str = r#""portmap","snat":7,"prevResult":7 => snat
+"portmap","prevResult":7,"runtimeConfig":7 => result
+"portmap","prevResult":{"cniVersion":"1.0.0","ips":7},"runtimeConfig":7 => ips
+"portmap","prevResult":null,"runtimeConfig":7 => prevResult
+"bridge","runtimeConfig":7,"cni.dev/valid-attachments":7 => runtimeConfig
+"bridge","cni.dev/valid-attachments":{} => cni.dev/valid-attachments
+"bridge","cni.dev/valid-attachments":[null] => cni.dev/valid-attachments
+"bridge","cni.dev/valid-attachments":[{"containerID":"c1"}] => cni.dev/valid-attachments
+"bridge","cni.dev/valid-attachments":[{"containerID":"x/y","ifname":""}] => read with a valid list
+"bridge","cni.dev/valid-attachments":[] => read with a valid list
+"bridge","runtimeConfig":7,"runtimeConfig":{"ips":7,"portMappings":null} => read
+"portmap","prevResult":7.5,"prevResult":{"cniVersion":"1.0.0"} => read with a result
+"bridge","prevResult":null,"runtimeConfig":null,"cni.dev/valid-attachments":null => read"#;
+
+const BEFORE_MAPPINGS: &str =
+    r#"ADD,c1,/ns/a,eth0, {"cniVersion":"1.1.0","name":"pods","type":"bridge","runtimeConfig":{"portMappings":"#;
+
+/// The same of the port mappings in a request.
+const MAPPINGS: &str = r#"{} => runtimeConfig
+[null] => runtimeConfig
+[{"hostPort":1,"containerPort":65536,"protocol":"tcp"}] => runtimeConfig
+[{"hostPort":1,"containerPort":1}] => runtimeConfig
+[{"hostPort":0,"containerPort":65535,"protocol":"tcp","hostIP":"::"}] => read with mappings"#;
+
+/// What the runtime added to a request.
+fn added(request: &Request) -> &'static str {
+    let has_prev = request.prev.is_some();
+    let has_mappings = !request.mappings.as_slice().is_empty();
+    let has_valid = request.valid.is_some();
+    match (has_prev, has_mappings, has_valid) {
+        (false, false, false) => "read",
+        (true, false, false) => "read with a result",
+        (false, true, false) => "read with mappings",
+        (false, false, true) => "read with a valid list",
+        _ => "read with several",
+    }
 }
 
 fn told(refused: &RequestError) -> &str {
@@ -33,181 +78,70 @@ fn told(refused: &RequestError) -> &str {
     }
 }
 
-/// What the runtime added to a request.
-fn added(request: &Request) -> &'static str {
-    let has_mappings = !request.mappings.as_slice().is_empty();
-    match (&request.prev, has_mappings, &request.valid) {
-        (None, false, None) => "read",
-        (Some(_), false, None) => "read with a result",
-        (None, true, None) => "read with mappings",
-        (None, false, Some(_)) => "read with a valid list",
-        _ => "read with several",
+/// What comes of the words and the request.
+fn outcome(rt: &impl Abort, alloc: Global, words: &str, request: &str) -> Text {
+    let env = env_of(rt, alloc, words);
+    let read = read_request(alloc, &env, request.as_bytes());
+    drop(env);
+    let outcome = match &read {
+        Ok(request) => text(rt, alloc, added(request)),
+        Err(refused) => text(rt, alloc, told(refused)),
+    };
+    drop(read);
+    outcome
+}
+
+fn try_request(rt: &impl Abort, alloc: Global, words: &str, request: &str, wanted: &str) {
+    let outcome = outcome(rt, alloc, words, request);
+    assert_eq!(rt; outcome.as_str(), wanted, "at {request}");
+}
+
+fn try_row(rt: &impl Abort, alloc: Global, before: &str, row: &str, after: &str) {
+    let (part, wanted) = row.split_once(" => ").expect(rt, "a row without an arrow");
+    let line = [before, part, after].concat(alloc).expect(rt, "no memory");
+    let (words, request) = line.split_once(' ').expect(rt, "a row without words");
+    try_request(rt, alloc, words, request, wanted);
+}
+
+/// Tries each row between these texts.
+fn try_rows(rt: &impl Abort, alloc: Global, before: &str, rows: &str, after: &str) {
+    for row in rows.lines() {
+        try_row(rt, alloc, before, row, after);
     }
 }
 
-/// What comes of the words and the text.
-fn outcome(alloc: Global, env: &Env, text: &[u8]) -> Result<Text, NoMemory> {
-    match read_request(alloc, env, text) {
-        Ok(request) => Text::of(alloc, added(&request)),
-        Err(refused) => Text::of(alloc, told(&refused)),
-    }
-}
-
-/// All is wrong at first, and then one part after the other is mended.
 #[test]
-fn the_first_wrong_part_is_told(rt: HostRuntime) -> Result<(), Fail> {
-    const ADD: [&str; 5] = ["ADD", "c1", "/ns/a", "eth0", "A="];
-    for (env, text, wanted) in [
-        (["add", "", "", "a/b", "A=;"], "{", "CNI_COMMAND"),
-        (["VERSION", "", "", "a/b", "A=;"], "{", "CNI_COMMAND"),
-        (
-            ["ADD", "", "", "a/b", "A=;"],
-            "{",
-            "CNI_CONTAINERID, CNI_NETNS, CNI_IFNAME, CNI_ARGS",
-        ),
-        (
-            ["CHECK", "", "", "a/b", "A=;"],
-            "{",
-            "CNI_CONTAINERID, CNI_NETNS, CNI_IFNAME",
-        ),
-        (
-            ["DEL", "", "", "a/b", "A=;"],
-            "{",
-            "CNI_CONTAINERID, CNI_IFNAME",
-        ),
-        (["GC", "", "", "a/b", "A=;"], "{", "no JSON"),
-        (ADD, r#"[7.5]"#, "number"),
-        (ADD, r#"[7]"#, "list"),
-        (ADD, r#"{"cniVersion":7,"name":"a b"}"#, "cniVersion"),
-        (ADD, r#"{"cniVersion":"9.9","name":"a b"}"#, "9.9"),
-        (
-            ADD,
-            r#"{"cniVersion":"1.1.0","name":"a b","type":"x"}"#,
-            "name",
-        ),
-        (
-            ADD,
-            r#"{"cniVersion":"1.1.0","name":"pods","type":"x"}"#,
-            "type",
-        ),
-    ] {
-        let env = words(rt.alloc(), env)?;
-        assert_eq!(rt;
-            outcome(rt.alloc(), &env, text.as_bytes())?.as_str(),
-            wanted,
-            "at {text}"
-        );
-    }
-    Ok(())
-}
-
-/// The same of what follows the version, the name and the type in a request.
-#[test]
-fn the_first_wrong_member_is_told(rt: HostRuntime) -> Result<(), Fail> {
-    let env = words(rt.alloc(), ["ADD", "c1", "/ns/a", "eth0", ""])?;
-    for (text, wanted) in [
-        (r#""portmap","snat":7,"prevResult":7"#, "snat"),
-        (r#""portmap","prevResult":7,"runtimeConfig":7"#, "result"),
-        (
-            r#""portmap","prevResult":{"cniVersion":"1.0.0","ips":7},"runtimeConfig":7"#,
-            "ips",
-        ),
-        (
-            r#""portmap","prevResult":null,"runtimeConfig":7"#,
-            "prevResult",
-        ),
-        (
-            r#""bridge","runtimeConfig":7,"cni.dev/valid-attachments":7"#,
-            "runtimeConfig",
-        ),
-        (
-            r#""bridge","runtimeConfig":{"portMappings":{}}"#,
-            "runtimeConfig",
-        ),
-        (
-            r#""bridge","runtimeConfig":{"portMappings":[null]}"#,
-            "runtimeConfig",
-        ),
-        (
-            r#""bridge","runtimeConfig":{"portMappings":[{"hostPort":1,"containerPort":65536,"protocol":"tcp"}]}"#,
-            "runtimeConfig",
-        ),
-        (
-            r#""bridge","runtimeConfig":{"portMappings":[{"hostPort":1,"containerPort":1}]}"#,
-            "runtimeConfig",
-        ),
-        (
-            r#""bridge","cni.dev/valid-attachments":{}"#,
-            "cni.dev/valid-attachments",
-        ),
-        (
-            r#""bridge","cni.dev/valid-attachments":[null]"#,
-            "cni.dev/valid-attachments",
-        ),
-        (
-            r#""bridge","cni.dev/valid-attachments":[{"containerID":"c1"}]"#,
-            "cni.dev/valid-attachments",
-        ),
-        (
-            r#""bridge","cni.dev/valid-attachments":[{"containerID":"x/y","ifname":""}]"#,
-            "read with a valid list",
-        ),
-        (
-            r#""bridge","cni.dev/valid-attachments":[]"#,
-            "read with a valid list",
-        ),
-        (
-            r#""bridge","runtimeConfig":{"portMappings":[{"hostPort":0,"containerPort":65535,"protocol":"tcp","hostIP":"::"}]}"#,
-            "read with mappings",
-        ),
-        (
-            r#""bridge","runtimeConfig":7,"runtimeConfig":{"ips":7,"portMappings":null}"#,
-            "read",
-        ),
-        (
-            r#""portmap","prevResult":7.5,"prevResult":{"cniVersion":"1.0.0"}"#,
-            "read with a result",
-        ),
-        (
-            r#""bridge","prevResult":null,"runtimeConfig":null,"cni.dev/valid-attachments":null"#,
-            "read",
-        ),
-    ] {
-        let text = format!(in rt.alloc();
-            r#"{{"cniVersion":"1.1.0","name":"pods","type":{text}}}"#
-        )?;
-        assert_eq!(rt;
-            outcome(rt.alloc(), &env, text.as_bytes())?.as_str(),
-            wanted,
-            "at {text}"
-        );
-    }
-    Ok(())
+fn the_first_wrong_part_is_told(rt: HostRuntime) {
+    let alloc = rt.alloc();
+    try_rows(&rt, alloc, "", WORDS_AND_HEADS, "");
+    try_rows(&rt, alloc, BEFORE_MEMBERS, MEMBERS, "}");
+    try_rows(&rt, alloc, BEFORE_MAPPINGS, MAPPINGS, "}}");
 }
 
 /// A request in which so many lists nest, below the object itself.
-fn nested(alloc: Global, lists: usize) -> Result<Vec<u8>, NoMemory> {
-    let mut text = br#"{"cniVersion":"1.1.0","name":"pods","type":"bridge","x":"#.to_vec(alloc)?;
-    for _ in 0..lists {
-        text.push(b'[')?;
-    }
-    for _ in 0..lists {
-        text.push(b']')?;
-    }
-    text.push(b'}')?;
-    Ok(text)
+fn nested(rt: &impl Abort, alloc: Global, lists: usize) -> String {
+    let before = r#"{"cniVersion":"1.1.0","name":"pods","type":"bridge","x":"#;
+    let open = "[".repeat(alloc, lists).expect(rt, "no memory");
+    let close = "]".repeat(alloc, lists).expect(rt, "no memory");
+    let parts = [before, open.as_str(), close.as_str(), "}"];
+    parts.concat(alloc).expect(rt, "no memory")
 }
 
 #[test]
-fn a_request_nests_as_deep_as_any_text(rt: HostRuntime) -> Result<(), Fail> {
-    let env = words(rt.alloc(), ["STATUS", "", "", "", ""])?;
-    for (lists, wanted) in [(126, "read"), (127, "no JSON")] {
-        let text = nested(rt.alloc(), lists)?;
-        assert_eq!(rt;
-            outcome(rt.alloc(), &env, text.as_slice())?.as_str(),
-            wanted,
-            "at {lists}"
-        );
-    }
-    Ok(())
+fn a_request_nests_as_deep_as_any_text(rt: HostRuntime) {
+    let alloc = rt.alloc();
+    try_request(
+        &rt,
+        alloc,
+        "STATUS,,,,",
+        nested(&rt, alloc, 126).as_str(),
+        "read",
+    );
+    try_request(
+        &rt,
+        alloc,
+        "STATUS,,,,",
+        nested(&rt, alloc, 127).as_str(),
+        "no JSON",
+    );
 }

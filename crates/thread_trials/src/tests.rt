@@ -12,6 +12,7 @@ use pod_file::{Pods, pod_file_laws, read_pods};
 use pod_threads::{Gate, OpenGate, Rounded, round_threads};
 use pod_workers::{Book, Plan, joined_plans_are_well_formed};
 use std::alloc::Global;
+use std::process::Abort;
 use std::sync::Wait;
 use std::sync::atomic::{AtomicBool, AtomicU64, Ordering};
 use std::test::Fail;
@@ -20,8 +21,8 @@ use std::thread::Threads;
 /// The most turns that a worker is held.
 const TURNS: u64 = 1_000_000_000;
 
-const LIST: &str =
-    "{\"cniVersion\":\"1.1.0\",\"name\":\"pods\",\"plugins\":[{\"type\":\"bridge\",\"ipam\":{\"type\":\"host-local\",\"subnet\":\"10.88.0.0/16\"}}]}";
+const LIST: &str = "{\"cniVersion\":\"1.1.0\",\"name\":\"pods\",\"plugins\":[\
+{\"type\":\"bridge\",\"ipam\":{\"type\":\"host-local\",\"subnet\":\"10.88.0.0/16\"}}]}";
 
 const TWO_ADDED: &str = "{\"opening\":{\"namespaces\":[\"/ns/a\",\"/ns/b\"]},\"rounds\":[[\
 {\"verb\":\"ADD\",\"network\":\"pods\",\"container\":\"c1\",\"netns\":\"/ns/a\"},\
@@ -91,47 +92,52 @@ fn joined(lists: Items<RefCounted<NetList>>, pods: Pods) -> Result<Plan, Fail>
 fn plan_of(alloc: Global, text: &str) -> Result<Plan, Fail>
     ensures { IfOk result IsWellFormed }
 {
-    let pods = pods_of(alloc, text)?;
     let lists = lists_of(alloc)?;
+    let pods = pods_of(alloc, text)?;
     joined(lists, pods)
 }
 
 /// The book of these pods as it is begun.
-fn book_of(alloc: Global, text: &str) -> Result<Book<ListKernel>, Fail> {
+// no question mark where the plan is held: the proof of a drop there goes through all that a plan may hold
+fn book_of(rt: &impl Abort, alloc: Global, text: &str) -> Result<Book<ListKernel>, Fail> {
     let plan = plan_of(alloc, text)?;
-    let kernel = ListKernel::of_host(plan.pods.opening.copy()?);
-    Ok(Book::begin(alloc, plan, kernel)?)
+    let Ok(opening) = plan.pods.opening.copy() else {
+        panic!(rt; "no memory for the opening");
+    };
+    Ok(Book::begin(alloc, plan, ListKernel::of_host(opening))?)
 }
 
 /// The book after its round, and the workers' counts.
-fn round<R: Threads + Wait + Sync, K: Kernel + Send + Drop, G: Gate>(
+fn round<R: Threads + Wait + Abort + Sync, K: Kernel + Send + Drop, G: Gate>(
     rt: &R,
     alloc: Global,
     book: Book<K>,
     workers: u8,
     gate: &G,
-) -> Result<Rounded<K>, Fail> {
+) -> Rounded<K> {
     if book.ended() || workers == 0 {
-        return Err("there is no such round".into());
+        panic!(rt; "there is no such round");
     }
     match round_threads(rt, alloc, book, workers, gate) {
-        Ok(rounded) => Ok(rounded),
-        Err(_) => Err("no memory for the workers".into()),
+        Ok(rounded) => rounded,
+        Err(_) => panic!(rt; "no memory for the workers"),
     }
 }
 
-/// How many entries each of so many workers makes in the first round of these pods.
-fn counts_of<R: Threads + Wait + Sync, G: Gate>(
+/// So many workers each make so many entries in the first round of these pods.
+fn try_round<R: Threads + Wait + Abort + Sync, G: Gate>(
     rt: &R,
     alloc: Global,
     text: &str,
     workers: u8,
     gate: &G,
-) -> Result<Items<u64>, Fail> {
-    let book = book_of(alloc, text)?;
-    let Rounded { book, counts } = round(rt, alloc, book, workers, gate)?;
+    wanted: &[u64],
+) -> Result<(), Fail> {
+    let book = book_of(rt, alloc, text)?;
+    let Rounded { book, counts } = round(rt, alloc, book, workers, gate);
     drop(book);
-    Ok(counts)
+    assert_eq!(rt; counts.as_slice(), wanted);
+    Ok(())
 }
 
 /// Holds the first command back before its first step until the second has made one. It counts who passes.
@@ -178,8 +184,7 @@ impl Turns {
 #[test]
 fn two_workers_step_at_one_time(rt: HostRuntime) -> Result<(), Fail> {
     let gate = nobody_passed();
-    let counts = counts_of(&rt, rt.alloc(), TWO_ADDED, 2, &gate)?;
-    assert_eq!(rt; counts.as_slice(), [6, 6].as_slice());
+    try_round(&rt, rt.alloc(), TWO_ADDED, 2, &gate, &[6, 6])?;
     assert_eq!(rt; gate.passed.load(Ordering::SeqCst), 14);
     assert!(rt; !gate.gave_up.load(Ordering::SeqCst));
     Ok(())
@@ -189,12 +194,13 @@ fn two_workers_step_at_one_time(rt: HostRuntime) -> Result<(), Fail> {
 /// the DEL behind it seven.
 #[test]
 fn containers_go_to_workers_in_turn(rt: HostRuntime) -> Result<(), Fail> {
-    for (pods, wanted) in [
-        (EIGHT_ADDED, [12, 12, 12, 12]),
-        (THREE_OF_TWO, [13, 6, 0, 0]),
-    ] {
-        let counts = counts_of(&rt, rt.alloc(), pods, 4, &OpenGate)?;
-        assert_eq!(rt; counts.as_slice(), wanted.as_slice());
-    }
-    Ok(())
+    try_round(
+        &rt,
+        rt.alloc(),
+        EIGHT_ADDED,
+        4,
+        &OpenGate,
+        &[12, 12, 12, 12],
+    )?;
+    try_round(&rt, rt.alloc(), THREE_OF_TWO, 4, &OpenGate, &[13, 6, 0, 0])
 }

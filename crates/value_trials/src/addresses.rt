@@ -1,12 +1,11 @@
-//! Addresses and networks of `cni_addr`, by texts and numbers from outside, and its texts and lists once.
+//! Addresses and networks of `cni_addr` by the numbers that they stand for, and its texts and lists once.
 
 ghost use Rattle.std.specs.Prelude.{◌≡◌};
 
 use cni_addr::{
     Addr, Cidr, Duplicate, Family, Items, Mac, Text, contains, last_of, network_of, next_addr,
-    read_addr, read_cidr, read_mac, whole, write_addr, write_cidr, write_mac,
+    read_addr, read_cidr, read_mac, whole, write_cidr,
 };
-use std::test::Fail;
 
 fn v4(bits: u32) -> Addr {
     Addr {
@@ -32,53 +31,14 @@ fn slash_16(bits: u32) -> Cidr {
 }
 
 #[test]
-fn reads_and_writes_addresses(rt: HostRuntime) -> Result<(), Fail> {
-    assert_eq!(rt; read_addr(b"10.88.0.2"), Some(v4(173_539_330)));
-    assert_eq!(rt; read_addr(b"0.0.0.0"), Some(v4(0)));
-    assert_eq!(rt; read_addr(b"255.255.255.255"), Some(v4(0xffff_ffff)));
-    assert_eq!(rt;
-        write_addr(rt.alloc(), &v4(0x0a58_0002))?.as_str(),
-        "10.88.0.2"
-    );
-    assert_eq!(rt;
-        write_addr(rt.alloc(), &v4(0xc0a8_64ff))?.as_str(),
-        "192.168.100.255"
-    );
-    Ok(())
-}
-
-#[test]
-fn refuses_other_addresses(rt: HostRuntime) {
-    for text in [
-        "",
-        "10.0.0.01",
-        "256.0.0.1",
-        "10.0.0",
-        "10.0.0.1.",
-        " 10.0.0.1",
-        "10.0.0.1/8",
-        "1::2::3",
-        "12345::",
-        "fe80::1%eth0",
-        "1:2:3:4:5:6:7::8",
-        "1:2:3:4:5:6:7",
-        "1:2:3:4:5:6:7:8:9",
-        "1:2:3:4:5:6:7:10.0.0.1",
-        "10.0.0.1::",
-        "::10.0.0.01",
-        ":::",
-        ":1",
-        "1:",
-        "g::",
-        "[::1]",
-        "::1 ",
+fn reads_addresses(rt: HostRuntime) {
+    for (text, bits) in [
+        ("10.88.0.2", 173_539_330),
+        ("0.0.0.0", 0),
+        ("255.255.255.255", 0xffff_ffff),
     ] {
-        assert_eq!(rt; read_addr(text.as_bytes()), None, "{text}");
+        assert_eq!(rt; read_addr(text.as_bytes()), Some(v4(bits)), "{text}");
     }
-}
-
-#[test]
-fn reads_groups(rt: HostRuntime) {
     for (text, bits) in [
         ("::", 0),
         ("::1", 1),
@@ -98,97 +58,21 @@ fn reads_groups(rt: HostRuntime) {
     }
 }
 
-// The examples of RFC 5952, section 4, by its parts, and others.
 #[test]
-fn writes_groups_by_rfc_5952(rt: HostRuntime) -> Result<(), Fail> {
-    for (text, written) in [
-        // 4.1
-        ("2001:0db8::0001", "2001:db8::1"),
-        // 4.2.1
-        ("2001:db8:0:0:0:0:2:1", "2001:db8::2:1"),
-        ("2001:db8::0:1", "2001:db8::1"),
-        // 4.2.2
-        ("2001:db8::1:1:1:1:1", "2001:db8:0:1:1:1:1:1"),
-        // 4.2.3
-        ("2001:0:0:1:0:0:0:1", "2001:0:0:1::1"),
-        ("2001:db8:0:0:1:0:0:1", "2001:db8::1:0:0:1"),
-        // 4.3
-        ("2001:DB8:0:0:1:0:0:1", "2001:db8::1:0:0:1"),
-        ("::ffff:10.0.0.1", "::ffff:a00:1"),
-        ("::10.0.0.1", "::a00:1"),
-        ("1:0:2:3:4:5:6:7", "1:0:2:3:4:5:6:7"),
-        ("0:0:0:0:0:0:0:0", "::"),
-        ("1:0:0:0:0:0:0:0", "1::"),
-        ("0:0:1:2:3:4:0:0", "::1:2:3:4:0:0"),
-    ] {
-        let addr = read_addr(text.as_bytes()).ok_or("no address")?;
-        assert_eq!(rt; write_addr(rt.alloc(), &addr)?.as_str(), written, "{text}");
-    }
-    Ok(())
-}
-
-#[test]
-fn reads_and_writes_networks(rt: HostRuntime) -> Result<(), Fail> {
+fn reads_networks_and_hardware_addresses(rt: HostRuntime) {
     assert_eq!(rt; read_cidr(b"10.88.0.2/16"), Some(slash_16(0x0a58_0002)));
-    for text in [
-        "10.88.0.2/16",
-        "0.0.0.0/0",
-        "10.0.0.1/9",
-        "255.255.255.255/32",
-        "::/0",
-        "fd00:88::2/64",
-        "2001:db8::1:0:0:1/128",
-    ] {
-        let cidr = read_cidr(text.as_bytes()).ok_or("no network")?;
-        assert_eq!(rt; write_cidr(rt.alloc(), &cidr)?.as_str(), text);
-    }
-    for text in [
-        "",
-        "/",
-        "10.0.0.0",
-        "10.0.0.0/",
-        "/8",
-        "10.0.0.0/33",
-        "10.0.0.0/08",
-        "10.0.0.0/+8",
-        "10.0.0.0/00",
-        "10.0.0.0/256",
-        "10.0.0.0/8/8",
-        "10.0.0.0/8 ",
-        "::/129",
-        "::/00",
-        "fe80::1%eth0/64",
-    ] {
-        assert_eq!(rt; read_cidr(text.as_bytes()), None, "{text}");
-    }
     assert_eq!(rt; read_cidr(b"10.0.0.0/\xff"), None);
-    Ok(())
-}
-
-#[test]
-fn reads_and_writes_hardware_addresses(rt: HostRuntime) -> Result<(), Fail> {
-    let mac = read_mac(b"0A:BA:78:16:BF:8F").ok_or("no hardware address")?;
-    assert_eq!(rt;
-        mac,
-        Mac {
-            bytes: [0x0a, 0xba, 0x78, 0x16, 0xbf, 0x8f]
-        }
-    );
-    assert_eq!(rt; write_mac(rt.alloc(), &mac)?.as_str(), "0a:ba:78:16:bf:8f");
-    assert_eq!(rt; read_mac(b"0a:bA:78:16:bf:8f"), Some(mac));
-    for text in [
-        "",
-        "0a:ba:78:16:bf",
-        "0a:ba:78:16:bf:8f:",
-        "0a-ba-78-16-bf-8f",
-        "0a:ba:78:16:bf-8f",
-        "0a:ba:78:16:bf:8g",
-        "a:ba:78:16:bf:8ff",
-        "0abb:78:16:bf:8f:",
-    ] {
-        assert_eq!(rt; read_mac(text.as_bytes()), None, "{text}");
+    for text in ["10.88.0.2/16", "10.0.0.1/9", "fd00:88::2/64"] {
+        let cidr = read_cidr(text.as_bytes()).expect(&rt, "a network");
+        let written = write_cidr(rt.alloc(), &cidr).expect(&rt, "memory");
+        assert_eq!(rt; written.as_str(), text, "its host bits are kept");
     }
-    Ok(())
+    let mac = Mac {
+        bytes: [0x0a, 0xba, 0x78, 0x16, 0xbf, 0x8f],
+    };
+    assert_eq!(rt; read_mac(b"0A:BA:78:16:BF:8F"), Some(mac));
+    assert_eq!(rt; read_mac(b"0a:bA:78:16:bf:8f"), Some(mac));
+    assert_eq!(rt; read_mac(b""), None);
 }
 
 #[test]
@@ -246,16 +130,15 @@ fn steps_to_the_next_address(rt: HostRuntime) {
 }
 
 #[test]
-fn keeps_texts_and_lists(rt: HostRuntime) -> Result<(), Fail> {
-    let text = Text::of(rt.alloc(), "a")?;
+fn keeps_texts_and_lists(rt: HostRuntime) {
+    let text = Text::of(rt.alloc(), "a").expect(&rt, "memory");
     assert_eq!(rt; text.as_str(), "a");
-    assert!(rt; text.copy()? == text);
+    assert!(rt; text.copy().expect(&rt, "memory") == text);
     let mut numbers = Items::new(rt.alloc());
-    numbers.push(1u8)?;
+    numbers.push(1u8).expect(&rt, "memory");
     assert_eq!(rt; numbers.as_slice(), [1].as_slice());
     let mut items = Items::new(rt.alloc());
-    items.push(text)?;
-    let twin = Items::of_vec(items.copy()?.into_vec());
+    items.push(text).expect(&rt, "memory");
+    let twin = Items::of_vec(items.copy().expect(&rt, "memory").into_vec());
     assert!(rt; twin == items);
-    Ok(())
 }

@@ -1,4 +1,4 @@
-use Rattle.pool_trials.proofs.replay.runs_of_the_real_allocator.Given as goal
+use Rattle.pool_trials.proofs.replay.a_small_pool_to_its_end.Given as goal
 
 -- the ledger is that of the blank
 abbrev pub ghosts-replay_all : goal.ghosts-replay_all

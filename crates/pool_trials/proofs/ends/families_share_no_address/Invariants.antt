@@ -1,5 +1,0 @@
-use Rattle.pool_trials.proofs.ends.families_share_no_address.Given as goal
-
--- the ledger is that of the blank
-abbrev pub ghosts-lease_in_turn : goal.ghosts-lease_in_turn
-ghosts-lease_in_turn g a = record { name = a.blank.name; parts = a.blank.parts }
