@@ -13,11 +13,7 @@ use Rattle.cni_addr.specs.declared.address.Family.TheVariants.{V4, V6}
 use Rattle.cni_addr.proofs.GroupTexts.{octet_fits, whole_some, colon_hex_fits, whole_groups, groups_whole, IsPlain}
 use Rattle.cni_addr.proofs.{GroupTexts.{dotted_plain, colon_hex_plain}, Groups.groups_of_number}
 use Rattle.cni_addr.proofs.Groups.{number_of_groups_fits, number_of_groups, AllOctets-number, AllSegments-segments_of}
-
--- an option without a value
-pub none_of : {A : Type 0} (r : Option A) → ((x : A) → r ≡ Some x → ⊥) → r ≡ None
-none_of None apart = refl
-none_of (Some x) apart = absurd (apart x refl)
+use Rattle.cni_addr.proofs.Options.{none_of}
 
 -- the value of an option
 pub some_same : {A : Type 0} (x y : A) → ◌≡◌ {A = Option A} (Some x) (Some y) → x ≡ y

@@ -15,8 +15,9 @@ use Rattle.std.specs.Str.Parse.{IsNumeral, digits_value, ParsesUnsigned}
 use Rattle.cni_addr.specs.{AddrText.{IsAddrText, addr_of_text, addr_text}, CidrText.{slash, is_slash, begins_plainly}}
 use Rattle.cni_addr.specs.CidrText.{prefix_of_text, with_prefix, cidr_of_parts, cidr_of_text, cidr_text, IsCidrText}
 use Rattle.cni_addr.specs.{Network.IsCidr, Value.{AddrValue, CidrValue, longest_prefix}}
-use Rattle.cni_addr.proofs.AddrTexts.{none_of, address_plain, spelled_is_read, read_is_spelled, written_is_spelled}
+use Rattle.cni_addr.proofs.AddrTexts.{address_plain, spelled_is_read, read_is_spelled, written_is_spelled}
 use Rattle.cni_addr.proofs.{GroupTexts.{whole_some, IsPlain}, Networks.{at_prefix, longest_prefix-most}}
+use Rattle.cni_addr.proofs.Options.{none_of}
 
 -- the decimal text of a number is read
 pub read_decimal : (n : ℕ) → n < 256 → prefix_of_text (decimal n) ≡ Some n
@@ -38,11 +39,11 @@ pub none_decimal : (text : List ℕ) → ((n : ℕ) → n < 256 → text ≡ dec
 none_decimal text apart = none_of (prefix_of_text text) λ n e. let (fits, is) = decimal_read text n e in apart n fits is
 
 -- a plain text has no sign
-unsigned : (text : List ℕ) → begins_plainly text ≡ true → get_or text 0 0 ≢ 43
+pub unsigned : (text : List ℕ) → begins_plainly text ≡ true → get_or text 0 0 ≢ 43
 unsigned text plain = grind (arith, nat_tests, plain)
 
 -- and a zero in front stands alone
-unpadded : (text : List ℕ) → begins_plainly text ≡ true → get_or text 0 0 ≡ 48 → length text ≡ 1
+pub unpadded : (text : List ℕ) → begins_plainly text ≡ true → get_or text 0 0 ≡ 48 → length text ≡ 1
 unpadded text plain zero_first = grind (arith, nat_tests, plain, zero_first)
 
 -- one digit is plain

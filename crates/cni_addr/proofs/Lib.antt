@@ -7,5 +7,7 @@ pub mod KeyLists
 pub mod Lists
 pub mod MacTexts
 pub mod Networks
+pub mod Options
+pub mod Tests
 mod HexDigits
 mod Spellings

@@ -4,7 +4,7 @@ use Rattle.std.proofs.Common.{ne_eqb, Bool, Option, Some, None, inl, inr, ◌≡
 use Rattle.std.proofs.{Common.{◌≤◌, sym, ap, ◌∙◌, subst, arith}, Math.Nat.mul-le-mul_left, lemmas.Bool.and_parts}
 use Rattle.std.proofs.lemmas.{Bool.{and_from, cases_eq}, Nat.{pow_pos, pow-add, div_below, le-div, mod-mul-add}}
 use Rattle.std.proofs.lemmas.{Nat.and_mask, Option.none-some}
-use Rattle.std.specs.Prelude.{if◌then◌else◌, ◌↔◌}
+use Rattle.std.specs.{Cmp.Derive.one_truth, Prelude.{if◌then◌else◌, ◌↔◌}}
 use Rattle.cni_addr.proofs.AddrTexts.{some_same}
 use Rattle.cni_addr.specs.{Codes.family_eq, Network.{network_size, network_bits, network_of, last_of, contains, whole}}
 use Rattle.cni_addr.specs.{Network.{next_addr, IsCidr}, Value.{AddrValue, CidrValue, IsAddr, bits_below}}
@@ -111,12 +111,6 @@ whole_is a addr prefix same longest = ap (λ p. at_prefix p a) longest ∙ ap wh
 
 -- ---- what a network is
 
--- two tests that pass alike are one
-same_test : (p q : Bool) → (p ≡ true → q ≡ true) → (q ≡ true → p ≡ true) → p ≡ q
-same_test true q there back = sym (there refl)
-same_test false true there back = back refl
-same_test false false there back = refl
-
 -- families that are the same by the test are one
 pub family_eq-true : (f g : Family) → family_eq f g ≡ true → f ≡ g
 family_eq-true V4 V4 e = refl
@@ -125,7 +119,7 @@ family_eq-true V6 V4 e = absurd (cc e)
 family_eq-true V6 V6 e = refl
 
 -- a family is its own
-family_eq-itself : (f : Family) → family_eq f f ≡ true
+pub family_eq-itself : (f : Family) → family_eq f f ≡ true
 family_eq-itself V4 = refl
 family_eq-itself V6 = refl
 
@@ -234,7 +228,7 @@ module _ (c : CidrValue) (a addr : AddrValue) (prefix : ℕ) (same : a ≡ addr)
       sym (same_family c a addr prefix same parts) ∙ family_eq-true a.family b.family alike
       ∙ ap (λ (x : AddrValue). x.family) named in
       let bits : b.bits ≡ other.bits = ap (λ (x : AddrValue). x.bits) named in
-      same_test (nat_le first b.bits && nat_le (b.bits - first) ones) (contains c other)
+      one_truth (nat_le first b.bits && nat_le (b.bits - first) ones) (contains c other)
       (λ inside.
       let (low, high) = and_parts (nat_le first b.bits) (nat_le (b.bits - first) ones) inside in
       let low_is = leb-true first b.bits low in

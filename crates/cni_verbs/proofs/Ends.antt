@@ -10,8 +10,8 @@ use Rattle.kernel_types.specs.declared.call.{Call.{Call, TheVariants.CachePut}, 
 use Rattle.kernel_types.specs.declared.object.Att.{Att}
 use Rattle.plugin_base.specs.{PluginCalls.has_inner, Plugins.added_before, Share.{Share, no_objects, share_after_calls}}
 use Rattle.plugin_chain.specs.{Plugins.plugin_of, Wanted.{deletion, sets_of, kinds_of, calls_after, calls_before}}
-use Rattle.plugin_chain.specs.Wanted.{result_of_add, all_chained_calls, chained_kinds_reversed, first_kinds}
-use Rattle.plugin_chain.specs.Wanted.{first_plugin_result, given_by_list, cached_of}
+use Rattle.plugin_chain.specs.Wanted.{all_chained_calls, chained_kinds_reversed, first_kinds, first_plugin_result}
+use Rattle.plugin_chain.specs.Wanted.{given_by_list, cached_of}
 use Rattle.cni_verbs.specs.{Mappings.mappings_of, Phases.{KeepsOfList, KeepsAhead, state_in, state_outside}}
 use Rattle.cni_verbs.specs.{Phases.state_by_phase, Questions.check_questions, Script.{State, Finish, IsOpen, before_of}}
 use Rattle.cni_verbs.specs.{Script.{back_of, finish_of}, declared.phase.Phase.Phase}
@@ -259,12 +259,3 @@ pub over-finish : {A : Type 0} (list : NetList) (c : Command) (ending : Ending) 
     → Some (f (record { ending = ending; given = [] })) ≡ option_map f (finish_of (state_in list c addrs phase))
 unfolding finish_of
 over-finish list c ending addrs phase f is = sym (ap (λ p. option_map f (finish_of (state_in list c addrs p))) is)
-
--- the result that is kept is the answer of an ADD that is over
-pub added-answer : (list : NetList) (c : Command) (calls : List Call) (passed : ℕ) (cached : Cached) (addrs : List Addr)
-    (phase : Phase)
-    → phase ≡ phases.AfterLeases calls passed cached
-    → KeepsAhead list c addrs phase → cached.result ≡ result_of_add list (att_of c) c.netns addrs
-added-answer list c calls passed cached addrs phase is keeps =
-    let K : Phase → Type 0 = λ p. KeepsAhead list c addrs p in
-    subst K is keeps

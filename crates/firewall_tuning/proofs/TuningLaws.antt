@@ -15,7 +15,7 @@ use Rattle.plugin_base.specs.{PluginLaws.ChainedLaws, Plugins.changed_by, Shapes
 use Rattle.plugin_base.specs.Share.{share_after_call, share_after_calls}
 use Rattle.plugin_base.proofs.{CallLists.{share_after_calls-settings, share_after_calls-then}, Counts.length-if}
 use Rattle.plugin_base.proofs.{KeyLists.{length-each_key_once, list_all-append, list_all-if}, PluginCalls.none-every}
-use Rattle.plugin_base.proofs.PluginCalls.{own-at, passes-once}
+use Rattle.plugin_base.proofs.PluginCalls.{own-at, passes-once, at_most-one_step}
 use Rattle.firewall_tuning.specs.Tuning.{link_set_calls, setting_of, sets_any, tuned, tuned_interface, tuning_calls_of}
 use Rattle.firewall_tuning.specs.Tuning.{tuning_kinds, tuning_plugin, tuning_settings}
 
@@ -33,15 +33,11 @@ passes p conf att netns settings link =
     (LinkSet att (inner_key att netns) conf.mac conf.mtu conf.tx_qlen conf.promisc conf.allmulti ∷ [])
     (grind (arith, link)))
 
-one-step : (b : Bool) (calls : List Call) → b ≡ false → at_most_one changes_links calls ≡ true
-    → (if b then not (list_any changes_links calls) else at_most_one changes_links calls) ≡ true
-one-step b calls h g = rw h g
-
 one-after_none : (calls more : List Call) → list_any changes_links calls ≡ false → at_most_one changes_links more ≡ true
     → at_most_one changes_links (calls ++ more) ≡ true
 one-after_none [] more h g = g
 one-after_none (x ∷ xs) more h g =
-    one-step (changes_links x) (xs ++ more) (grind (arith, h)) (one-after_none xs more (grind (arith, h)) g)
+    at_most-one_step (changes_links x) (xs ++ more) (grind (arith, h)) (one-after_none xs more (grind (arith, h)) g)
 
 -- the link's values are set once, or never
 once : (sets : Bool) (settings : List Call) (set : Call) → list_any changes_links settings ≡ false

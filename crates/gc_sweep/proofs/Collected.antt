@@ -6,11 +6,11 @@ use Rattle.gc_sweep.proofs.Names.{owner_in, tags_of, without_link, att_eq, is_ow
 use Rattle.gc_sweep.proofs.Names.{Gone, Att, CachedObj, Host, Lease, Link, Setting, Tag, Rule, each_key_once}
 use Rattle.gc_sweep.proofs.Names.{goes_with-itself, call_of_work, Gc, Job, AskCached, Delete, Step, Sweep, after_step}
 use Rattle.gc_sweep.proofs.Names.{is_valid, job_of, step_call, work_after, deletion}
+use Rattle.cni_addr.proofs.Lists.{length-filter_le}
 use Rattle.kernel_types.specs.declared.call.Kind.TheVariants as kinds
 use Rattle.plugin_base.proofs.KeyLists.{length-each_key_once}
-use Rattle.gc_sweep.proofs.{Calls.{jobs_weight-after, jobs_weight-map}, Lists.{fewer_filter, length-found}}
-use Rattle.gc_sweep.proofs.{Lists.length-without_first, Weights.{collection_left, jobs_weight, objects_in}}
-use Rattle.gc_sweep.proofs.Weights.{sweeps_weight}
+use Rattle.gc_sweep.proofs.{Calls.{jobs_weight-after, jobs_weight-map}, Lists.{length-found, length-without_first}}
+use Rattle.gc_sweep.proofs.Weights.{collection_left, jobs_weight, objects_in, sweeps_weight}
 
 -- ---- no more owners than objects
 
@@ -96,7 +96,7 @@ owners-fall gc s ss host =
     let all = filter_map (owner_in gc.network) (tags_of host s.kind) in
     let owners = each_key_once att_eq all in
     let stale = filter (λ a. not (is_valid gc.valid a)) owners in
-    let a = fewer_filter (λ x. not (is_valid gc.valid x)) owners in
+    let a = length-filter_le (λ x. not (is_valid gc.valid x)) owners in
     let b = length-each_key_once att_eq all in
     let c = fewer-owners gc.network (tags_of host s.kind) in
     let d = tags-fit host s.kind in

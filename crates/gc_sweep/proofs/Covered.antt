@@ -6,11 +6,12 @@ use Rattle.gc_sweep.proofs.Names.{Gone, Fault, Att, Host, Tag, list_all-weaker, 
 use Rattle.gc_sweep.proofs.Names.{list_all-both, ValidAtt, host_after, reply_to, call_of_work, Gc, Step, AskCached}
 use Rattle.gc_sweep.proofs.Names.{Delete, Sweep, Job, step_call, job_of, after_step, work_after, deletion}
 use Rattle.gc_sweep.proofs.Names.{list_all-none}
+use Rattle.cni_addr.proofs.Lists.{list_all-always}
 use Rattle.kernel_types.specs.{Codes.kind_eq, declared.call.Call.TheVariants.CacheGet}
 use Rattle.cni_verbs.specs.Sweep.{all_sweeps}
 use Rattle.gc_sweep.specs.{Bound.stale_owners, Keep.{stays, goes}, Sweep.is_excused, Trace.{Made, is_about, blames}}
 use Rattle.gc_sweep.specs.Trace.{is_blamed}
-use Rattle.gc_sweep.proofs.{Deletions.deletes, Kept.{Stays, stays_start, stays_deleted, tags_within}, Lists.all_true}
+use Rattle.gc_sweep.proofs.{Deletions.deletes, Kept.{Stays, stays_start, stays_deleted, tags_within}}
 use Rattle.gc_sweep.proofs.{Lists.{list_all-drops, list_any-snoc}, Owners.{is_stale, owners_cover, owners_stale}}
 use Rattle.gc_sweep.proofs.Owners.{has_att}
 
@@ -347,7 +348,7 @@ asked gc t Cached = grind arith
 covered_start : (gc : Gc) (h : Host) (kind : Kind)
     → list_all (is_covered gc [] [] (all_sweeps gc.kinds) kind) (tags_of h kind) ≡ true
 covered_start gc h kind =
-    all_true (is_covered gc [] [] (all_sweeps gc.kinds) kind) (λ t. asked gc t kind) (tags_of h kind)
+    list_all-always (is_covered gc [] [] (all_sweeps gc.kinds) kind) (λ t. asked gc t kind) (tags_of h kind)
 
 pub work_start : (gc : Gc) (h : Host) → IsSound h → WorkKept gc h [] [] (all_sweeps gc.kinds) h
 work_start gc h sound =

@@ -13,7 +13,7 @@ use Rattle.kernel_types.specs.{Sound.{peers_back, is_owned_kind}, Terms.{is_host
 use Rattle.kernel_types.specs.declared.call.Call.TheVariants.{Begin, BridgeEnsure, GatewayEnsure, ForwardEnsure}
 use Rattle.kernel_types.specs.declared.call.{Call.TheVariants.LeaseNext, Reply.TheVariants.{Done, Leased}}
 use Rattle.kernel_types.specs.declared.object.{LinkKey.LinkKey, LinkKind.LinkKind}
-use Rattle.cni_addr.proofs.Cases.{by_test}
+use Rattle.cni_addr.proofs.{Cases.by_test, Lists.{length-filter_le, list_any-found}}
 use Rattle.kernel_types.proofs.ListLemmas.{list_any-weaker, passes-list_all}
 use Rattle.kernel_types.specs.declared.object.Tag.TheVariants as tags
 use Rattle.kernel_types.specs.declared.object.LinkKind.TheVariants as link_kinds
@@ -22,20 +22,20 @@ use Rattle.plugin_base.specs.Calls.{is_plugin_call_of}
 use Rattle.plugin_base.proofs.{KeyLists.filter-map_kept, OwnCalls.{share-own, share-lease, share-begin}}
 use Rattle.plugin_base.proofs.Refusals.{refused-same, refused-lease}
 use Rattle.gc_sweep.specs.Deletions.{deletions_of}
-use Rattle.gc_sweep.proofs.Lists.{any-found, count_append, count_without_first, fewer_filter}
+use Rattle.gc_sweep.proofs.Lists.{count_append, count_without_first}
 
 -- ---- counts
 
 count-push : {X : Type 0} (q : X → Bool) (xs : List X) (x : X)
     → length (filter q (xs ++ x ∷ [])) ≤ length (filter q xs) + 1
-count-push q xs x = let sum = count_append q xs (x ∷ []) in let one = fewer_filter q (x ∷ []) in omega arith
+count-push q xs x = let sum = count_append q xs (x ∷ []) in let one = length-filter_le q (x ∷ []) in omega arith
 
 count-pair : {X : Type 0} (q : X → Bool) (xs : List X) (x y : X) → q x ≡ false
     → length (filter q (xs ++ x ∷ y ∷ [])) ≤ length (filter q xs) + 1
 count-pair q xs x y h =
     let sum = count_append q xs (x ∷ y ∷ []) in
     let later : length (filter q (x ∷ y ∷ [])) ≡ length (filter q (y ∷ [])) = rw h refl in
-    let one = fewer_filter q (y ∷ []) in
+    let one = length-filter_le q (y ∷ []) in
     omega arith
 
 count-map : {X : Type 0} (q : X → Bool) (f : X → X) → ((x : X) → q (f x) ≡ q x) → (xs : List X)
@@ -184,7 +184,7 @@ takes-inner att host l sound is =
           sound.links.peers is in
           other-end att host.links l l.peer own (veth-of l.ns l.kind owned outer) outer peer
       | inr inner ↦
-          any-found (λ l. is_own att l.tag) (takes_inner att l) host.links l is
+          list_any-found (λ l. is_own att l.tag) (takes_inner att l) host.links l is
           (let goes = goes_with-itself l in grind (arith, own, inner, goes))
     ]
 

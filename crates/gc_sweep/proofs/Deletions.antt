@@ -4,12 +4,13 @@ use Rattle.gc_sweep.proofs.Names.{◌∙◌, arith, list_any, filter, find, with
 use Rattle.gc_sweep.proofs.Names.{goes_with, RemovesOwn, IsSound, is_own, TouchesOwn, Kind, Links, Rules, Settings}
 use Rattle.gc_sweep.proofs.Names.{Leases, Cached, Reply, Gone, Att, Host, Link, Tag, list_any-map, passes-find}
 use Rattle.gc_sweep.proofs.Names.{goes_with-itself, Share, share_of, no_objects, empty_none, deletion, att_eq-refl}
+use Rattle.cni_addr.proofs.Lists.{list_any-found}
 use Rattle.kernel_types.proofs.Deletes.{IsSound-rule_del, IsSound-setting_del, IsSound-lease_del, IsSound-cache_del}
 use Rattle.kernel_types.proofs.DropsOwn.{TouchesOwn-RemovesOwn, RemovesOwn-rule_del, RemovesOwn-setting_del}
 use Rattle.kernel_types.proofs.DropsOwn.{RemovesOwn-lease_del, RemovesOwn-cache_del, RemovesOwn-link_del}
 use Rattle.kernel_types.proofs.{ListLemmas.{without_first-none, list_any-find_none}, Removal.IsSound-link_del}
 use Rattle.gc_sweep.specs.Keep.{IsWithin}
-use Rattle.gc_sweep.proofs.{Lists.{any-found, count_found, count_without_first}, Removes.within_own, Weights.total}
+use Rattle.gc_sweep.proofs.{Lists.{count_found, count_without_first}, Removes.within_own, Weights.total}
 use Rattle.plugin_base.specs.Calls.{is_call_of}
 
 pub deletion-own : (att : Att) (kind : Kind) → is_call_of att (deletion att kind) ≡ true
@@ -71,7 +72,7 @@ deletes_found a h None is sound removes =
 deletes_found a h (Some l) is sound removes =
     let any = list_any-map (is_own a) (λ (x : Link). x.tag) h.links in
     let own = passes-find (λ x. is_own a x.tag) h.links l is in
-    let some = any-found (λ l. is_own a l.tag) (λ l. is_own a l.tag) h.links l is own in
+    let some = list_any-found (λ l. is_own a l.tag) (λ l. is_own a l.tag) h.links l is own in
     record {
       sound = sound;
       touch = TouchesOwn-RemovesOwn a h _ removes;
@@ -109,7 +110,7 @@ without-none : (att : Att) (k : Host) (o : Option Link) → find (λ l. is_own a
 without-none att k None found none = refl
 without-none att k (Some link) found none =
     absurd (let there =
-    any-found (λ l. is_own att l.tag) (λ l. is_own att l.tag) k.links link found
+    list_any-found (λ l. is_own att l.tag) (λ l. is_own att l.tag) k.links link found
     (passes-find (λ l. is_own att l.tag) k.links link found) in
     let e : true ≡ false = sym there ∙ none in cc)
 

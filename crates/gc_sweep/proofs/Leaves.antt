@@ -7,14 +7,15 @@ use Rattle.gc_sweep.proofs.Names.{is_own-tag_eq, NetList, Command, is_gc, gc_of,
 use Rattle.gc_sweep.proofs.Names.{Yes}
 use Rattle.std.proofs.lemmas.{Bool.and_parts, List.{append_assoc, append-nil}}
 use Rattle.std.specs.Prelude.{if◌then◌else◌}
+use Rattle.cni_addr.proofs.Lists.{filter-all}
 use Rattle.kernel_types.specs.{Equal.tag_eq, Sound.address_fits_tag, Terms.{is_at, is_link_of}}
 use Rattle.kernel_types.proofs.TouchRemoval.{from_one}
 use Rattle.gc_sweep.specs.{Keep.{stays, keep, IsWithin}, Sweep.{IsCollected, is_excused, AreExcused, Bounds, YesKeeps}}
 use Rattle.gc_sweep.specs.{Sweep.{AlwaysBounded, OverExcused, fault_numbers, FaultsNamed}, Trace.{Made, host_on}}
 use Rattle.gc_sweep.specs.Trace.{host_from, is_blamed, Ends, IsRun}
 use Rattle.gc_sweep.proofs.{Covered.{WorkKept, Next, is_covered, work_step, work_start}, Kept.{Stays, stays_start}}
-use Rattle.gc_sweep.proofs.{Kept.host_of_parts, Lists.{drops-filter, filter_all}, Machine.{Point, start_point}}
-use Rattle.gc_sweep.proofs.{Machine.{point_after, point_from, IsTrail}, Runs.{trail, done, early_or, early_makes_none}}
+use Rattle.gc_sweep.proofs.{Kept.host_of_parts, Lists.drops-filter, Machine.{Point, start_point, point_after}}
+use Rattle.gc_sweep.proofs.{Machine.{point_from, IsTrail}, Runs.{trail, done, early_or, early_makes_none}}
 use Rattle.gc_sweep.proofs.Runs.{early_not_yes}
 
 -- ---- a whole run
@@ -139,7 +140,7 @@ outside_stays gc (Own a) h = cc
 pub namespaces_stay : (gc : Gc) (k : Host) → IsSound k
     → filter (λ (n : NsObj). stays gc.network gc.valid n.tag) k.namespaces ≡ k.namespaces
 namespaces_stay gc k sound =
-    filter_all (λ (n : NsObj). stays gc.network gc.valid n.tag) k.namespaces
+    filter-all (λ (n : NsObj). stays gc.network gc.valid n.tag) k.namespaces
     (list_all-weaker (λ n. tag_eq n.tag Outside) (λ n. stays gc.network gc.valid n.tag)
     (λ n w. outside_stays gc n.tag w) k.namespaces sound.namespaces.tags)
 
@@ -196,21 +197,21 @@ keep_all gc es k sound clean x =
     (x.of_kind kind) in
     host_of_parts (keep gc.network gc.valid k) k
     (namespaces_stay gc k sound)
-    (filter_all (λ l. stays gc.network gc.valid l.tag) k.links
+    (filter-all (λ l. stays gc.network gc.valid l.tag) k.links
     (sym (list_all-map (stays gc.network gc.valid) (λ l. l.tag) k.links) ∙ by Links))
-    (filter_all (λ a. stays gc.network gc.valid a.tag) k.addresses
+    (filter-all (λ a. stays gc.network gc.valid a.tag) k.addresses
     (list_all-weaker (λ a. is_excused gc.network gc.valid es Links a.tag) (λ a. stays gc.network gc.valid a.tag)
     (λ a. w Links a.tag) k.addresses x.addresses))
-    (filter_all (λ a. stays gc.network gc.valid a.tag) k.routes
+    (filter-all (λ a. stays gc.network gc.valid a.tag) k.routes
     (list_all-weaker (λ a. is_excused gc.network gc.valid es Links a.tag) (λ a. stays gc.network gc.valid a.tag)
     (λ a. w Links a.tag) k.routes x.routes))
-    (filter_all (λ l. stays gc.network gc.valid l.tag) k.rules
+    (filter-all (λ l. stays gc.network gc.valid l.tag) k.rules
     (sym (list_all-map (stays gc.network gc.valid) (λ l. l.tag) k.rules) ∙ by Rules))
-    (filter_all (λ l. stays gc.network gc.valid l.tag) k.settings
+    (filter-all (λ l. stays gc.network gc.valid l.tag) k.settings
     (sym (list_all-map (stays gc.network gc.valid) (λ l. l.tag) k.settings) ∙ by Settings))
-    (filter_all (λ l. stays gc.network gc.valid l.tag) k.leases
+    (filter-all (λ l. stays gc.network gc.valid l.tag) k.leases
     (sym (list_all-map (stays gc.network gc.valid) (λ l. l.tag) k.leases) ∙ by Leases))
-    (filter_all (λ l. stays gc.network gc.valid l.tag) k.cached
+    (filter-all (λ l. stays gc.network gc.valid l.tag) k.cached
     (sym (list_all-map (stays gc.network gc.valid) (λ l. l.tag) k.cached) ∙ by Cached))
     refl
 

@@ -2,13 +2,9 @@
 use Rattle.gc_sweep.proofs.Names.{◌≡◌, ◌+◌, ◌≤◌, Bool, true, false, not, cond, ap, List, [], ◌∷◌, ◌++◌, length, Some}
 use Rattle.gc_sweep.proofs.Names.{refl, sym, ◌∙◌, subst, inl, inr, arith, map, length-append, list_any, list_all}
 use Rattle.gc_sweep.proofs.Names.{filter, find, ◌||◌, without_first, one_if, DropsOnly}
-use Rattle.std.proofs.lemmas.List.{Elements.filter-append, Folds.list_any-append, Sums.count_by-le-length}
-use Rattle.std.proofs.lemmas.List.Sums.{length-filter}
+use Rattle.std.proofs.lemmas.List.{Elements.filter-append, Folds.list_any-append}
+use Rattle.cni_addr.proofs.Lists.{filter-every, list_all-always}
 use Rattle.kernel_types.proofs.ChangeLemmas.{DropsOnly-filter, DropsOnly-nothing}
-
-pub all_true : {X : Type 0} (p : X → Bool) → ((x : X) → p x ≡ true) → (xs : List X) → list_all p xs ≡ true
-all_true p w [] = refl
-all_true p w (x ∷ xs) = grind (arith, w x, all_true p w xs)
 
 -- ---- lists that lost elements
 
@@ -24,7 +20,8 @@ pub drops-same : {X : Type 0} (old new : List X) → new ≡ old → DropsOnly (
 drops-same old new e = subst (DropsOnly (λ x. true) old) (sym e) (DropsOnly-nothing (λ x. true) old)
 
 pub drops-filter : {X : Type 0} (keep : X → Bool) (xs : List X) → DropsOnly (λ x. true) xs (filter keep xs)
-drops-filter keep xs = DropsOnly-filter (λ x. true) keep xs (all_true (λ x. keep x || true) (λ x. grind arith) xs)
+drops-filter keep xs =
+    DropsOnly-filter (λ x. true) keep xs (list_all-always (λ x. keep x || true) (λ x. grind arith) xs)
 
 pub drops-trans : {X : Type 0} (gone : X → Bool) (xs ys zs : List X) → DropsOnly gone xs ys → DropsOnly gone ys zs
     → DropsOnly gone xs zs
@@ -83,19 +80,9 @@ count_drops p gone (x ∷ xs) (y ∷ ys) d =
 
 -- ---- filters
 
-pub filter_all : {X : Type 0} (p : X → Bool) (xs : List X) → list_all p xs ≡ true → filter p xs ≡ xs
-filter_all p [] h = refl
-filter_all p (x ∷ xs) h = grind (arith, h, filter_all p xs)
-
-pub filter_every : {X : Type 0} (xs : List X) → filter (λ x. true) xs ≡ xs
-filter_every xs = filter_all (λ x. true) xs (all_true (λ x. true) (λ x. refl) xs)
-
 pub count_append : {X : Type 0} (p : X → Bool) (xs ys : List X)
     → length (filter p (xs ++ ys)) ≡ length (filter p xs) + length (filter p ys)
 count_append p xs ys = ap length (filter-append p xs ys) ∙ length-append (filter p xs) (filter p ys)
-
-pub fewer_filter : {X : Type 0} (p : X → Bool) (xs : List X) → length (filter p xs) ≤ length xs
-fewer_filter p xs = rw (length-filter p xs) (count_by-le-length p xs)
 
 -- ---- fewer, where one goes
 
@@ -108,7 +95,7 @@ count_without_first own counts w (x ∷ xs) = grind (arith, w x, count_without_f
 pub length-without_first : {X : Type 0} (own : X → Bool) (xs : List X)
     → length (without_first own xs) + one_if (list_any own xs) ≤ length xs
 length-without_first own xs =
-    rw (filter_every (without_first own xs), filter_every xs) at (count_without_first own (λ x. true) (λ x h. refl) xs)
+    rw (filter-every (without_first own xs), filter-every xs) at (count_without_first own (λ x. true) (λ x h. refl) xs)
 
 -- the element that was found counts and goes, so fewer count
 pub count_found : {X : Type 0} (own gone counts : X → Bool) (xs : List X) (y : X) → find own xs ≡ Some y → gone y ≡ true
@@ -123,7 +110,7 @@ count_found own gone counts (x ∷ xs) y f g w =
 pub length-found : {X : Type 0} (own gone : X → Bool) (xs : List X) (y : X) → find own xs ≡ Some y → gone y ≡ true
     → length (filter (λ x. not (gone x)) xs) + 1 ≤ length xs
 length-found own gone xs y f g =
-    rw (filter_every (filter (λ x. not (gone x)) xs), filter_every xs) at
+    rw (filter-every (filter (λ x. not (gone x)) xs), filter-every xs) at
     (count_found own gone (λ x. true) xs y f g refl)
 
 -- ---- some
@@ -131,8 +118,3 @@ length-found own gone xs y f g =
 pub list_any-snoc : {X : Type 0} (p : X → Bool) (xs : List X) (y : X)
     → list_any p (xs ++ y ∷ []) ≡ (list_any p xs || p y)
 list_any-snoc p xs y = let e = list_any-append p xs (y ∷ []) in grind (arith, e)
-
-pub any-found : {X : Type 0} (p q : X → Bool) (xs : List X) (y : X) → find p xs ≡ Some y → q y ≡ true
-    → list_any q xs ≡ true
-any-found p q [] y is h = cc
-any-found p q (x ∷ xs) y is h = grind (arith, is, h, any-found p q xs y)

@@ -1,6 +1,5 @@
 -- `guard`: a plugin that lets packets from one address through. It is this project's own.
-use Rattle.std.specs.{Option.{option_and_then, option_map_or}, Prelude.{◌≡◌, ℕ, List, [], ◌∷◌, codes, Option, Some}}
-use Rattle.std.specs.Prelude.{true}
+use Rattle.std.specs.{Option.{option_and_then, option_map_or}, Prelude.{ℕ, List, [], ◌∷◌, codes, Some, true}}
 use Rattle.cni_addr.specs.{AddrText.addr_of_text, Network.whole, declared.address.Addr.Addr}
 use Rattle.cni_result.specs.{Dns.no_dns, declared.{result.AddResult.AddResult, version.Version.TheVariants.V1_1}}
 use Rattle.kernel_types.specs.declared.call.{Call.{Call, TheVariants.RuleAppend}, Kind.{Kind, TheVariants.Rules}}

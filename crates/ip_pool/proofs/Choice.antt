@@ -4,15 +4,15 @@ use Rattle.std.proofs.Common.{Some, None, List, [], ◌∷◌, take, drop, Match
 use Rattle.std.proofs.lemmas.{Bool.{not-false, not-true, Decides.nat_tests}, List.take-append-drop}
 use Rattle.std.proofs.lemmas.List.Folds.{list_any-append}
 use Rattle.std.specs.List.{list_any, position_or_len}
-use Rattle.cni_addr.proofs.Lists.{list_all-none}
+use Rattle.cni_addr.proofs.Lists.{list_all-none, passes-find}
 use Rattle.cni_addr.specs.{Equal.addr_eq, Lists.distinct, declared.{address.Addr.Addr, range.Range.Range}}
 use Rattle.cni_addr.specs.declared.range.RangeSet.{RangeSet}
 use Rattle.ip_pool.specs.NextAddress.{is_between, is_in, is_candidate, is_candidate_or_none, is_below, is_passed}
 use Rattle.ip_pool.specs.NextAddress.{is_taken, range_place, HasFree, IsNextAddress, IsExhausted, IsPick}
 use Rattle.ip_pool.specs.Pool.{all_pairs, candidates_of, after_last_first, is_free, pick_of, has_free_of, is_apart}
 use Rattle.ip_pool.specs.Pool.{are_apart}
-use Rattle.ip_pool.proofs.{Addresses.{same-address, addr_eq-itself}, InOrder.{find-none, passes-find, find-member}}
-use Rattle.ip_pool.proofs.{InOrder.{find-in_order, member-passes}, Membership.list_any-candidates, Passing.never_passes}
+use Rattle.ip_pool.proofs.{Addresses.{same-address, addr_eq-itself}, InOrder.{find-none, find-member, find-in_order}}
+use Rattle.ip_pool.proofs.{InOrder.member-passes, Membership.list_any-candidates, Passing.never_passes}
 use Rattle.ip_pool.proofs.{Passing.{passed-not_itself, tried-in_order}, Places.{below_in, candidates-ascend}}
 
 -- ---- what is tried is what is listed

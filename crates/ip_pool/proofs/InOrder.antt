@@ -97,10 +97,6 @@ pub find-none : (p : Addr → Bool) (xs : List Addr) → find p xs ≡ None → 
 find-none p [] h = refl
 find-none p (x ∷ xs) h = grind (arith, find-none p xs)
 
-pub passes-find : {X : Type 0} (p : X → Bool) (xs : List X) (y : X) → find p xs ≡ Some y → p y ≡ true
-passes-find p [] y h = cc
-passes-find p (x ∷ xs) y h = grind (arith, passes-find p xs y)
-
 pub find-member : (p : Addr → Bool) (xs : List Addr) (a : Addr) → find p xs ≡ Some a → list_any (addr_eq a) xs ≡ true
 find-member p [] a h = cc
 find-member p (x ∷ xs) a h = grind (arith, addr_eq-itself a, find-member p xs a)

@@ -7,9 +7,10 @@ pub mod Places
 pub mod TakenAlone
 mod Disjoint
 mod Membership
-mod RunEdits
 mod RunMembers
 mod RunPlaces
 mod RunSearch
+mod RunsJoined
+mod RunsLeft
 mod Stretches
 mod WayRound

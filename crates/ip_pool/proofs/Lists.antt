@@ -3,7 +3,7 @@ use Rattle.std.proofs.Common.{◌≡◌, ℕ, suc, ◌+◌, ◌<◌, ◌||◌, B
 use Rattle.std.proofs.Common.{List, [], ◌∷◌, ◌++◌, length, get_or, take, drop, find, refl, ap, ◌∙◌, arith}
 use Rattle.std.proofs.{Math.Seq.{drop-append-add, take-append-add}, lemmas.{Bool.Decides.nat_tests, List.drop_more}}
 use Rattle.std.proofs.lemmas.List.{drop_all, take_all, Folds.find-append}
-use Rattle.std.specs.{List.{flat_map, list_any, after_first, position_or_len, position}, Option.{option_or, is_some}}
+use Rattle.std.specs.{List.{flat_map, list_any, after_first, position_or_len, position}, Option.option_or}
 
 -- what is sought in the lists that come next is in the first of them, or in those after it
 pub find-flat_map_drop : {X A : Type 0} (p : A → Bool) (f : X → List A) (xs : List X) (i : ℕ) (x : X) → i < length xs
@@ -101,16 +101,6 @@ list_any-no_position p xs missed = list_any-length p xs (place-none _ _ missed)
         → list_any p xs ≡ false
     list_any-length p [] h = refl
     list_any-length p (x ∷ xs) h = grind (arith, nat_tests, list_any-length p xs)
-
--- something is found where something passes
-pub is_some-find : {X : Type 0} (p : X → Bool) (xs : List X) → is_some (find p xs) ≡ list_any p xs
-is_some-find p [] = refl
-is_some-find p (x ∷ xs) = is_some-cond (p x) x (find p xs) (list_any p xs) (is_some-find p xs)
-  where
-    is_some-cond : {X : Type 0} (b : Bool) (x : X) (o : Option X) (any : Bool) → is_some o ≡ any
-        → is_some (cond b (Some x) o) ≡ (b || any)
-    is_some-cond true x o any e = refl
-    is_some-cond false x o any e = e
 
 -- the first that passes, with what stands before and after it
 pub record FirstAt {X : Type 0} (p : X → Bool) (xs : List X) (n : ℕ) : Type 0 where

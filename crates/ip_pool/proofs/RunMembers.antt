@@ -1,14 +1,15 @@
 -- Which addresses runs have, and in which order they give them.
 use Rattle.std.proofs.Common.{◌≡◌, ℕ, zero, suc, ◌+◌, ◌-◌, ◌<◌, ◌≤◌, Bool, true, false, ◌&&◌, ◌||◌, nat_lt, nat_le}
-use Rattle.std.proofs.Common.{cond, Some, None, List, [], ◌∷◌, ◌++◌, find, refl, ap, sym, subst, ◌∙◌, arith}
-use Rattle.std.proofs.lemmas.{Bool.Decides.nat_tests, List.Folds.{list_any-append, list_all-append}}
-use Rattle.std.specs.List.{list_any, list_all}
+use Rattle.std.proofs.Common.{cond, Some, None, List, [], ◌∷◌, ◌++◌, find, refl, ap, subst, ◌∙◌, arith}
+use Rattle.std.proofs.lemmas.{Bool.Decides.nat_tests, List.Folds.list_any-append}
+use Rattle.std.specs.List.{list_all}
 use Rattle.cni_addr.specs.{Codes.family_eq, Equal.addr_eq, declared.address.{Addr.Addr, Family.Family}}
-use Rattle.cni_addr.proofs.Networks.{family_eq-true}
+use Rattle.cni_addr.proofs.Lists.{find-list_any_none, list_all-append, list_any-find_none, list_any-found, passes-find}
+use Rattle.cni_addr.proofs.{Lists.passes-list_all, Networks.family_eq-true}
 use Rattle.ip_pool.specs.{AddrSets.{is_lower, ascends, next_number, IsRunEnd}, NextAddress.is_taken, Pool.run_of}
 use Rattle.ip_pool.specs.Runs.{addresses_in, addresses_of, is_in_run, is_in_runs, is_before, are_runs, ends_before}
 use Rattle.ip_pool.specs.declared.runs.Run.{Run}
-use Rattle.ip_pool.proofs.InOrder.{list_all-weaker, all_pairs-append, all_before, passes-find}
+use Rattle.ip_pool.proofs.InOrder.{list_all-weaker, all_pairs-append, all_before}
 
 -- ---- what a stretch of numbers has
 
@@ -67,13 +68,9 @@ later-addresses : (r : Run) (a : Addr) (rs : List Run) → list_all (is_before r
     → list_all (is_lower a) (addresses_of rs) ≡ true
 later-addresses r a [] before here = refl
 later-addresses r a (s ∷ rs) before here =
-    list_all-joined (is_lower a) (addresses_in s) (addresses_of rs)
+    list_all-append (is_lower a) (addresses_in s) (addresses_of rs)
     (list_all-weaker (λ b. is_in_run b s) (is_lower a) (λ b there. lower_in_later r s a b (grind arith) here there)
     (addresses_in s) (addresses-within s)) (later-addresses r a rs (grind arith) here)
-  where
-    list_all-joined : {X : Type 0} (p : X → Bool) (xs ys : List X) → list_all p xs ≡ true → list_all p ys ≡ true
-        → list_all p (xs ++ ys) ≡ true
-    list_all-joined p xs ys left right = list_all-append p xs ys ∙ rw (left, right) refl
 
 pub addresses-ascend : (rs : List Run) → are_runs rs ≡ true → ascends (addresses_of rs) ≡ true
 addresses-ascend [] runs = refl
@@ -101,7 +98,7 @@ not_in_later a r (s ∷ rs) before reaches =
     out_of_next : (a : Addr) (r s : Run) → is_before r s ≡ true → ends_before 0 a r ≡ false → is_in_run a s ≡ false
     out_of_next a r s before reaches = grind (arith, nat_tests)
 
-not_in_ended : (a : Addr) (r : Run) → ends_before 0 a r ≡ true → is_in_run a r ≡ false
+pub not_in_ended : (a : Addr) (r : Run) → ends_before 0 a r ≡ true → is_in_run a r ≡ false
 not_in_ended a r ended = grind (arith, nat_tests)
 
 -- runs that end before an address are passed by
@@ -112,49 +109,14 @@ find-past_ended a (r ∷ front) back ended =
     let out = not_in_ended a r (grind arith) in
     rw out (find-past_ended a front back (grind arith))
 
-pub none-found : {X : Type 0} (p : X → Bool) (xs : List X) → list_any p xs ≡ false → find p xs ≡ None
-none-found p [] none = refl
-none-found p (x ∷ xs) none = grind (arith, none-found p xs)
-
-pub none-has : {X : Type 0} (p : X → Bool) (xs : List X) → find p xs ≡ None → list_any p xs ≡ false
-none-has p [] missed = refl
-none-has p (x ∷ xs) missed = grind (arith, none-has p xs)
-
 -- the first run that reaches an address has it, or none has it
 pub find-reached : (a : Addr) (r : Run) (rs : List Run) → are_runs (r ∷ rs) ≡ true → ends_before 0 a r ≡ false
     → find (is_in_run a) (r ∷ rs) ≡ cond (is_in_run a r) (Some r) None
 find-reached a r rs runs reaches =
     let later : list_all (is_before r) rs ≡ true = grind arith in
-    ap (cond (is_in_run a r) (Some r)) (none-found (is_in_run a) rs (not_in_later a r rs later reaches))
+    ap (cond (is_in_run a r) (Some r)) (find-list_any_none (is_in_run a) rs (not_in_later a r rs later reaches))
 
 -- ---- how far a run goes
-
-found-any : {X : Type 0} (p q : X → Bool) (xs : List X) (y : X) → find p xs ≡ Some y → q y ≡ true → list_any q xs ≡ true
-found-any p q [] y found passes = cc
-found-any p q (x ∷ xs) y found passes = found-any_step (p x) found (found-any p q xs y)
-  where
-    found-any_step : (b : Bool) → cond b (Some x) (find p xs) ≡ Some y
-        → (find p xs ≡ Some y → q y ≡ true → list_any q xs ≡ true) → (q x || list_any q xs) ≡ true
-    found-any_step true found next =
-        let same : x ≡ y = cc in
-        let here : q x ≡ true = ap q same ∙ passes in
-        grind arith
-    found-any_step false found next =
-        let there = next found passes in
-        grind arith
-
-found-passes : {X : Type 0} (p q : X → Bool) (xs : List X) (y : X) → find p xs ≡ Some y → list_all q xs ≡ true
-    → q y ≡ true
-found-passes p q [] y found all = cc
-found-passes p q (x ∷ xs) y found all = found-passes_step (p x) found (found-passes p q xs y)
-  where
-    found-passes_step : (b : Bool) → cond b (Some x) (find p xs) ≡ Some y
-        → (find p xs ≡ Some y → list_all q xs ≡ true → q y ≡ true) → q y ≡ true
-    found-passes_step true found next =
-        let same : x ≡ y = cc in
-        let here : q x ≡ true = grind arith in
-        ap q (sym same) ∙ here
-    found-passes_step false found next = next found (grind arith)
 
 next-not_later : (r : Run) (rs : List Run) → list_all (is_before r) rs ≡ true
     → is_in_runs (next_number r.last) rs ≡ false
@@ -188,7 +150,7 @@ next-not_in a (s ∷ rs) r runs found = next-not_in_step (is_in_run a s) refl fo
         subst (λ t. (is_in_run (next_number t.last) s || is_in_runs (next_number t.last) rs) ≡ false) same (grind arith)
     next-not_in_step false is found next =
         let rest = next (grind arith) found in
-        let before : is_before s r ≡ true = found-passes (is_in_run a) (is_before s) rs r found (grind arith) in
+        let before : is_before s r ≡ true = passes-list_all (is_before s) (is_in_run a) rs r (grind arith) found in
         let out = next-not_earlier a s r before (passes-find (is_in_run a) rs r found) in
         grind arith
 
@@ -209,10 +171,10 @@ run-end a rs r runs found =
       above = grind (arith, nat_tests);
       between =
           λ b same above below. taken-runs b rs
-          ∙ found-any (is_in_run a) (is_in_run b) rs r found (between-in_run a b r here same above below);
+          ∙ list_any-found (is_in_run a) (is_in_run b) rs r found (between-in_run a b r here same above below);
       next = taken-runs (next_number r.last) rs ∙ next-not_in a rs r runs found;
     }
 
 -- no run is found where none has the address
 pub no_run-not_taken : (a : Addr) (rs : List Run) → find (is_in_run a) rs ≡ None → is_taken (addresses_of rs) a ≡ false
-no_run-not_taken a rs missed = taken-runs a rs ∙ none-has (is_in_run a) rs missed
+no_run-not_taken a rs missed = taken-runs a rs ∙ list_any-find_none (is_in_run a) rs missed

@@ -8,8 +8,8 @@ use Rattle.cni_addr.specs.declared.address.Addr.{Addr}
 use Rattle.ip_pool.specs.{Pool.all_pairs, RunEdits.{is_next, run_up_to, with_addr, part_below, part_above}}
 use Rattle.ip_pool.specs.{RunEdits.without_addr, Runs.{is_in_run, is_run, is_before, are_runs, ends_before, first_of}}
 use Rattle.ip_pool.specs.{Runs.{run_size, size_of}, declared.runs.Run.Run}
-use Rattle.ip_pool.proofs.{InOrder.all_pairs-right, RunEdits.{with_addr-past, without_addr-past}}
-use Rattle.ip_pool.proofs.RunMembers.{find-past_ended, find-reached}
+use Rattle.ip_pool.proofs.{InOrder.all_pairs-right, RunMembers.{find-past_ended, find-reached}}
+use Rattle.ip_pool.proofs.{RunsJoined.with_addr-past, RunsLeft.without_addr-past}
 
 at-all : {X : Type 0} (p : X → Bool) (xs : List X) (i : ℕ) (d : X) → list_all p xs ≡ true → i < length xs
     → p (get_or xs i d) ≡ true

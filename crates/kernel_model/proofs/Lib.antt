@@ -1,3 +1,5 @@
+pub mod RouteTests
+pub mod SoundCalls
 mod LeavingLinks
 mod OnLeavingLinks
 mod TaggedOwners

@@ -1,6 +1,6 @@
 -- What lies on links that leave, dropped link by link.
-use Rattle.std.proofs.Common.{◌≡◌, ◌+◌, ◌<◌, ℕ, Bool, true, false, not, List, [], ◌∷◌, take, get_or, length, refl, ap}
-use Rattle.std.proofs.{Common.{◌∙◌, arith}, lemmas.List.{Elements.filter_agree, Folds.list_any_more}}
+use Rattle.std.proofs.Common.{◌≡◌, ◌+◌, ◌<◌, ℕ, Bool, true, false, not, List, [], ◌∷◌, take, get_or, length, refl, ◌∙◌}
+use Rattle.std.proofs.{Common.arith, lemmas.List.{Elements.filter_agree, Folds.list_any_more}}
 use Rattle.std.specs.{List.list_any, Prelude.{filter, ◌&&◌, ◌||◌}}
 
 filter-filter : {X : Type 0} (p q : X → Bool) (xs : List X) → filter q (filter p xs) ≡ filter (λ x. p x && q x) xs
@@ -14,11 +14,6 @@ one_more false g o h = rw h refl
 none_more : (a g o : Bool) → g ≡ false → not a ≡ not (a || g && o)
 none_more true g o h = refl
 none_more false g o h = rw h refl
-
--- no link was seen
-pub keeps-all : {X : Type 0} (xs : List X) → xs ≡ filter (λ x. true) xs
-keeps-all [] = refl
-keeps-all (x ∷ xs) = ap (λ ys. x ∷ ys) (keeps-all xs)
 
 -- one more link, which leaves
 pub drops-one : {X Y : Type 0} (leaves : Y → Bool) (on : X → Y → Bool) (ys : List Y) (i : ℕ) (y : Y) → i < length ys

@@ -1,28 +1,22 @@
 -- What a look-up says of a list before a row is put at its end.
+pub use Rattle.kernel_types.specs.Keys.{addr_key, route_key, setting_key}
 use Rattle.std.proofs.Common.{◌≡◌, ℕ, Bool, true, false, ap, List, [], ◌∷◌, Option, Some, None, refl, sym, ◌∙◌, arith}
 use Rattle.std.proofs.lemmas.Option.{same_Some}
 use Rattle.std.specs.{List.list_any, Prelude.{find, not, ◌&&◌}, Str.bytes_eq}
 use Rattle.cni_addr.specs.Lists.{distinct}
 use Rattle.kernel_types.proofs.{ListLemmas.{list_any-find_none, list_any-none}, Removal.same_place}
-use Rattle.kernel_types.specs.Equal.{tag_eq, rule_eq}
-pub use Rattle.kernel_types.specs.Keys.{addr_key, route_key, setting_key}
-use Rattle.kernel_types.specs.Keys.{is_same_addr, is_same_link, is_same_route, is_same_rule}
+use Rattle.kernel_types.specs.{Equal.{tag_eq, rule_eq}, Keys.{is_same_addr, is_same_link, is_same_route, is_same_rule}}
 use Rattle.kernel_types.specs.Terms.{is_at, has_link_in, is_link_of}
-use Rattle.kernel_types.specs.declared.object.AddrObj.{AddrObj}
-use Rattle.kernel_types.specs.declared.object.Link.{Link}
-use Rattle.kernel_types.specs.declared.object.RouteObj.{RouteObj}
-use Rattle.kernel_types.specs.declared.object.Setting.{Setting}
-use Rattle.kernel_types.specs.declared.object.Tag.{Tag}
-use Rattle.kernel_types.specs.declared.object.Tag.TheVariants.{Outside, Base, Own}
-use Rattle.kernel_types.specs.declared.rule.Rule.{Rule}
-use Rattle.kernel_types.specs.contracts.object.TagPartialEq.TheImpl.{eq-value as tag-value}
-use Rattle.kernel_types.specs.contracts.rule.RulePartialEq.TheImpl.{eq-value as rule-value}
-use Rattle.kernel_types.specs.contracts.object.AddrObjPartialEq.TheImpl.{eq-value as addr_obj-value}
-use Rattle.kernel_types.specs.contracts.object.RouteObjPartialEq.TheImpl.{eq-value as route-value}
-use Rattle.kernel_types.specs.contracts.object.SettingPartialEq.TheImpl.{eq-value as setting-value}
 use Rattle.kernel_types.specs.contracts.keys.AddrKeyPartialEq.TheImpl.{eq-value as addr_key-value}
 use Rattle.kernel_types.specs.contracts.keys.RouteKeyPartialEq.TheImpl.{eq-value as route_key-value}
 use Rattle.kernel_types.specs.contracts.keys.SettingKeyPartialEq.TheImpl.{eq-value as setting_key-value}
+use Rattle.kernel_types.specs.contracts.object.AddrObjPartialEq.TheImpl.{eq-value as addr_obj-value}
+use Rattle.kernel_types.specs.contracts.object.RouteObjPartialEq.TheImpl.{eq-value as route-value}
+use Rattle.kernel_types.specs.contracts.object.SettingPartialEq.TheImpl.{eq-value as setting-value}
+use Rattle.kernel_types.specs.contracts.object.TagPartialEq.TheImpl.{eq-value as tag-value}
+use Rattle.kernel_types.specs.contracts.rule.RulePartialEq.TheImpl.{eq-value as rule-value}
+use Rattle.kernel_types.specs.declared.object.{AddrObj.AddrObj, Link.Link, RouteObj.RouteObj, Setting.Setting, Tag.Tag}
+use Rattle.kernel_types.specs.declared.{object.Tag.TheVariants.{Outside, Base, Own}, rule.Rule.Rule}
 use Rattle.object_tables.specs.Table.{has_key, has_same_key}
 use Rattle.kernel_tables.proofs.Owned.{att-same}
 

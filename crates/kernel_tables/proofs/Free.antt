@@ -4,6 +4,7 @@ use Rattle.std.proofs.{Common.{refl, sym, ◌∙◌, arith}, Math.Bool.or-false,
 use Rattle.std.specs.{List.list_any, Option.{option_map, option_map_or}, Prelude.{find, filter, map, not, ◌&&◌, ◌||◌}}
 use Rattle.std.specs.{Prelude.if◌then◌else◌, Str.bytes_eq}
 use Rattle.cni_addr.specs.{Equal.addr_eq, Lists.distinct, declared.mac.Mac.Mac}
+use Rattle.cni_addr.proofs.Lists.{none-later}
 use Rattle.kernel_types.specs.Apply.Calls.{is_own_at, link_set_of, master_is_bridge_or_none, set_link, veth_add_of}
 use Rattle.kernel_types.specs.{Apply.Calls.with_values, Keys.{is_same_addr, is_same_link, is_same_setting}, Terms.is_at}
 use Rattle.kernel_types.specs.Terms.{is_host_link, is_host_ns, has_named_ns, is_own, link_at}
@@ -17,20 +18,15 @@ use Rattle.kernel_types.specs.declared.{keys.SettingKey.SettingKey, object.{Addr
 use Rattle.kernel_types.specs.declared.object.{Link.Link, LinkKey.LinkKey, Setting.Setting, Tag.Tag}
 use Rattle.kernel_types.proofs.Cases.{host_ns-eq, other_host, is_at-itself, none-option_map}
 use Rattle.kernel_types.proofs.ListLemmas.{list_any-append_none, list_any-find_none, list_any-none}
+use Rattle.kernel_types.proofs.TouchRemoval.{one_place}
 use Rattle.object_tables.specs.{Rows.host_name, Table.{is_key, has_key}}
-use Rattle.object_tables.proofs.Places.{map-none}
-use Rattle.kernel_tables.proofs.NewLease.{pushed-out}
+use Rattle.object_tables.proofs.Lists.{map-none}
+use Rattle.kernel_tables.proofs.{Lists.none-both, NewLease.pushed-out}
 
 -- ---- at most one element passes
 
 module _ {X : Type 0} (same : X → X → Bool) (p q : X → Bool)
     (alike : (x y : X) → p x ≡ true → p y ≡ true → same x y ≡ true) where
-  alone : (x : X) (xs : List X) → p x ≡ true → distinct same (x ∷ xs) ≡ true → list_any p xs ≡ false
-  alone x xs e d = list_any-none p (same x) (λ y h. alike x y e h) xs (grind (arith, d))
-
-  none : (xs : List X) → list_any p xs ≡ false → list_any (λ y. p y && q y) xs ≡ false
-  none xs h = list_any-none (λ y. p y && q y) p (λ y g. grind (arith, g)) xs h
-
   pub any-both : (xs : List X) → distinct same xs ≡ true
       → list_any (λ x. p x && q x) xs ≡ option_map_or q (find p xs) false
   any-both [] d = refl
@@ -38,7 +34,9 @@ module _ {X : Type 0} (same : X → X → Bool) (p q : X → Bool)
     where
       by : (b : Bool) → p x ≡ b → list_any (λ y. p y && q y) xs ≡ option_map_or q (find p xs) false
           → list_any (λ y. p y && q y) (x ∷ xs) ≡ option_map_or q (find p (x ∷ xs)) false
-      by true e more = let no = none xs (alone x xs e d) in rw e (ap (λ b. q x || b) no ∙ or-false (q x))
+      by true e more =
+          let no = none-both p q xs (none-later same p alike x xs d e) in
+          rw e (ap (λ b. q x || b) no ∙ or-false (q x))
       by false e more = rw e more
 
 module _ {X : Type 0} (same : X → X → Bool) (p q : X → Bool)
@@ -52,8 +50,8 @@ module _ {X : Type 0} (same : X → X → Bool) (p q : X → Bool)
           → (p x ≡ false → map (λ y. if p y then f y else y) xs ≡ map (λ y. if p y && q y then f y else y) xs)
           → map (λ y. if p y then f y else y) (x ∷ xs) ≡ map (λ y. if p y && q y then f y else y) (x ∷ xs)
       by true e more =
-          let one = alone same p q alike x xs e d in
-          let no = none same p q alike xs one in
+          let one = none-later same p alike x xs d e in
+          let no = none-both p q xs one in
           let is : q x ≡ true = grind (arith, h, e, no) in
           rw (e, is) (ap (λ l. f x ∷ l) (map-none p f xs one ∙ sym (map-none (λ y. p y && q y) f xs no)))
       by false e more = let rest = more e in rw e (ap (λ l. x ∷ l) rest)
@@ -101,15 +99,6 @@ host-alike name x y h g =
     let named : bytes_eq y.name name ≡ true = grind (arith, g) in
     ap (λ n. is_at n y.name x) ((bytes_eq-Decides y.ns []).0 (sym (host_ns-eq y.ns) ∙ outer))
     ∙ ap (λ m. is_at [] m x) ((bytes_eq-Decides y.name name).0 named) ∙ sym (host-at name x) ∙ h
-
-pub place-alike : (ns name : List ℕ) (x y : Link) → is_at ns name x ≡ true → is_at ns name y ≡ true
-    → is_same_link y x ≡ true
-place-alike ns name x y h g =
-    let at : bytes_eq y.ns ns ≡ true = grind (arith, g) in
-    let named : bytes_eq y.name name ≡ true = grind (arith, g) in
-    ap (λ n. is_at n y.name x) ((bytes_eq-Decides y.ns ns).0 at)
-    ∙ ap (λ m. is_at ns m x) ((bytes_eq-Decides y.name name).0 named)
-    ∙ h
 
 named-free : (links : List Link) (b : Bool) (ns name alias : List ℕ) → is_host_ns ns ≡ b
     → (if b then Some name else None) ≡ Some alias
@@ -216,7 +205,7 @@ values-set att key mac mtu tx_qlen promisc allmulti old host links old_is keys o
     h.links)
     old_is
     ∙ map-both (λ a b. is_same_link b a) (is_at key.ns key.name) (λ (l : Link). is_own att l.tag)
-    (place-alike key.ns key.name) (with_values mac mtu tx_qlen promisc allmulti) host.links keys own in
+    (one_place key.ns key.name) (with_values mac mtu tx_qlen promisc allmulti) host.links keys own in
     rw (set, old_is, own) refl
 
 -- ---- addresses and settings

@@ -1,10 +1,10 @@
 -- What leaves a sound host with a link.
-use Rattle.std.proofs.Common.{◌≡◌, ◌<◌, ℕ, zero, suc, Bool, true, false, not, ap, List, [], ◌∷◌, inl, inr, Option, Some}
-use Rattle.std.proofs.{Common.{None, true≢false, refl, sym, ◌∙◌, length, arith}, lemmas.Bool.and_parts}
-use Rattle.std.proofs.lemmas.Slice.Eq.{bytes_eq-Decides}
-use Rattle.std.specs.{Cmp.{both_ways, Lexicographic.nat_list_eq_equiv}, List.{list_any, list_all, Contains}}
-use Rattle.std.specs.{Prelude.{filter, find, ◌&&◌, ◌||◌, if◌then◌else◌}, Str.bytes_eq}
-use Rattle.cni_addr.specs.Lists.{distinct, IsAmong, without_first}
+use Rattle.std.proofs.Common.{◌≡◌, ℕ, Bool, true, false, not, ap, List, Option, Some, None, true≢false, refl, sym, ◌∙◌}
+use Rattle.std.proofs.{Common.arith, lemmas.{Bool.and_parts, Slice.Eq.bytes_eq-Decides}}
+use Rattle.std.specs.{Cmp.{both_ways, Lexicographic.nat_list_eq_equiv}, List.list_any, Prelude.{filter, find, ◌&&◌}}
+use Rattle.std.specs.{Prelude.{◌||◌, if◌then◌else◌}, Str.bytes_eq}
+use Rattle.cni_addr.specs.Lists.{IsAmong, without_first}
+use Rattle.cni_addr.proofs.Lists.{all-among, any-among, filter-every, from-among}
 use Rattle.kernel_types.specs.Apply.Calls.{drop_link_of, goes_with, link_del_of, without_link, without_links}
 use Rattle.kernel_types.specs.{Equal.tag_eq, Sound.{HasTagsOn, IsSound, is_link_or_peer, is_unowned_kind}}
 use Rattle.kernel_types.specs.{Sound.{link_fits_tag, may_be_on, peer_fits, peers_back}, Terms.{has_ns_in, is_at}}
@@ -18,95 +18,12 @@ use Rattle.kernel_types.proofs.{Isolation.is_own-one, ListLemmas.{list_any-find_
 use Rattle.kernel_types.proofs.{ListLemmas.{without_first-none, passes-find}, Removal.goes_with-itself}
 use Rattle.kernel_types.proofs.{Removal.{link_del-found, same_place}, SoundHosts.{goes_with-sound, HasTagsOn-sound}}
 use Rattle.kernel_types.proofs.TouchRemoval.{is_at-symm, keeps_or_owns, owned_no_bridge}
-use Rattle.object_tables.proofs.Places.{filter-none}
+use Rattle.object_tables.proofs.Lists.{filter-none}
 use Rattle.kernel_tables.specs.Leaving.{has_end_at, is_peer, is_unowned_on, left_by, left_by_owner, left_unowned}
 use Rattle.kernel_tables.specs.Leaving.{left_with}
 use Rattle.object_tables.specs.{Rows.{owner_named, unowned_on}, Table.is_key}
+use Rattle.kernel_tables.proofs.Lists.{among-contains, filter-among, filter-twice, found-among, without_first-one}
 use Rattle.kernel_tables.proofs.Owned.{att-same, own-is}
-
--- ---- lists
-
-filter-among : {X : Type 0} (p q : X → Bool) (xs : List X) → ((x : X) → IsAmong x xs → p x ≡ q x)
-    → filter p xs ≡ filter q xs
-filter-among p q [] same = refl
-filter-among p q (x ∷ xs) same = rw (same x (inl refl), filter-among p q xs (λ y at. same y (inr at))) refl
-
-contains-more : {X : Type 0} (x y : X) (xs : List X) → Contains xs x → Contains (y ∷ xs) x
-contains-more x y xs c = let below : suc c.0 < suc (length xs) = omega (arith, c.1) in (suc c.0, below, c.2)
-
-among-contains : {X : Type 0} (x : X) (xs : List X) → IsAmong x xs → Contains xs x
-among-contains x [] at = absurd at
-among-contains x (y ∷ ys) at = elim at [
-  | inl e ↦ (let below : zero < suc (length ys) = omega arith in (zero, below, sym e))
-  | inr later ↦ contains-more x y ys (among-contains x ys later)
-]
-
-found-step : {X : Type 0} (x y : X) (xs : List X) (b : Bool) (o : Option X) → (if b then Some x else o) ≡ Some y
-    → (o ≡ Some y → IsAmong y xs) → IsAmong y (x ∷ xs)
-found-step x y xs true o h later = inl (grind (arith, h))
-found-step x y xs false o h later = inr (later h)
-
-pub found-among : {X : Type 0} (p : X → Bool) (xs : List X) (y : X) → find p xs ≡ Some y → IsAmong y xs
-found-among p [] y h = absurd (cc h)
-found-among p (x ∷ xs) y h = found-step x y xs (p x) (find p xs) h (found-among p xs y)
-
-pub any-among : {X : Type 0} (p : X → Bool) (x : X) (xs : List X) → IsAmong x xs → p x ≡ true → list_any p xs ≡ true
-any-among p x [] at h = absurd at
-any-among p x (y ∷ ys) at h = elim at [
-  | inl e ↦ (let here : p y ≡ true = ap p (sym e) ∙ h in grind (arith, here))
-  | inr later ↦ (let there = any-among p x ys later h in grind (arith, there))
-]
-
-pub all-among : {X : Type 0} (p : X → Bool) (x : X) (xs : List X) → IsAmong x xs → list_all p xs ≡ true → p x ≡ true
-all-among p x [] at h = absurd at
-all-among p x (y ∷ ys) at h =
-    elim at [ inl e ↦ ap p e ∙ grind (arith, h) | inr later ↦ all-among p x ys later (grind (arith, h)) ]
-
-pub from-among : {X : Type 0} (p : X → Bool) (c : Bool) (xs : List X) → ((x : X) → IsAmong x xs → p x ≡ true → c ≡ true)
-    → list_any p xs ≡ true → c ≡ true
-from-among p c [] w h = cc
-from-among p c (x ∷ xs) w h =
-    let here : p x ≡ true → c ≡ true = w x (inl refl) in
-    let later : list_any p xs ≡ true → c ≡ true = from-among p c xs (λ y at. w y (inr at)) in
-    grind (arith, h, here, later)
-
-pub filter-twice : {X : Type 0} (p q : X → Bool) (xs : List X)
-    → filter (λ x. not (q x)) (filter (λ x. not (p x)) xs) ≡ filter (λ x. not (p x || q x)) xs
-filter-twice p q [] = refl
-filter-twice p q (x ∷ xs) = grind (arith, filter-twice p q xs)
-
-pub keep-all : {X : Type 0} (xs : List X) → filter (λ x. true) xs ≡ xs
-keep-all [] = refl
-keep-all (x ∷ xs) = ap (λ l. x ∷ l) (keep-all xs)
-
--- where keys are distinct, the first that passes is the one of its key
-none-of : {X : Type 0} (same : X → X → Bool) (x : X) (xs : List X) → ((y : X) → same x y ≡ same y x)
-    → list_any (same x) xs ≡ false → filter (λ y. not (same y x)) xs ≡ xs
-none-of same x [] s h = refl
-none-of same x (y ∷ ys) s h = grind (arith, s y, none-of same x ys s)
-
-without_first-step : {X : Type 0} (p : X → Bool) (same : X → X → Bool) → ((x : X) → same x x ≡ true)
-    → ((x y : X) → same x y ≡ same y x) → (x : X) (xs : List X) (link : X) (b : Bool) → distinct same (x ∷ xs) ≡ true
-    → (if b then Some x else find p xs) ≡ Some link → (find p xs ≡ Some link → IsAmong link xs)
-    → (find p xs ≡ Some link → without_first p xs ≡ filter (λ y. not (same y link)) xs)
-    → (if b then xs else x ∷ without_first p xs) ≡ filter (λ y. not (same y link)) (x ∷ xs)
-without_first-step p same self s x xs link true d h among rest =
-    let e : x ≡ link = grind (arith, h) in
-    let parts = and_parts (not (list_any (same x) xs)) (distinct same xs) d in
-    let none = none-of same x xs (s x) (grind (arith, parts.0)) in
-    rw (← e) (grind (arith, self x, none))
-without_first-step p same self s x xs link false d h among rest =
-    let parts = and_parts (not (list_any (same x) xs)) (distinct same xs) d in
-    let other : same x link ≡ false = grind (arith, parts.0, any-among (same x) link xs (among h)) in
-    grind (arith, other, rest h)
-
-without_first-one : {X : Type 0} (p : X → Bool) (same : X → X → Bool) → ((x : X) → same x x ≡ true)
-    → ((x y : X) → same x y ≡ same y x) → (xs : List X) (link : X) → distinct same xs ≡ true → find p xs ≡ Some link
-    → without_first p xs ≡ filter (λ y. not (same y link)) xs
-without_first-one p same self s [] link d h = refl
-without_first-one p same self s (x ∷ xs) link d h =
-    without_first-step p same self s x xs link (p x) d h (found-among p xs link)
-    (without_first-one p same self s xs link (and_parts (not (list_any (same x) xs)) (distinct same xs) d).1)
 
 -- ---- a link and its peer
 
@@ -207,7 +124,7 @@ pub gone-unowned : {T : Type 0} (tag_of : T → Tag) (ns_of name_of : T → List
 gone-unowned tag_of ns_of name_of link xs = (λ i. filter (λ x. not (on-is link (tag_of x) (ns_of x) (name_of x) i)) xs)
 
 pub no-peer : (o : Option LinkKey) (links : List Link) → o ≡ None → links ≡ filter (λ l. not (is_peer o l)) links
-no-peer o links none = sym (ap (λ p. filter (λ l. not (is_peer p l)) links) none ∙ keep-all links)
+no-peer o links none = sym (ap (λ p. filter (λ l. not (is_peer p l)) links) none ∙ filter-every links)
 
 -- ---- the link at a place
 

@@ -1,6 +1,7 @@
 mod Added
 mod Free
 mod Leaving
+mod Lists
 mod Namespaces
 mod NewLease
 mod Opening

@@ -1,21 +1,21 @@
 -- What leaves a sound host with a namespace.
-use Rattle.std.proofs.Common.{◌≡◌, ◌<◌, ◌≤◌, ℕ, suc, Bool, true, false, not, ap, List, [], ◌∷◌, Option, Some, None}
+use Rattle.std.proofs.Common.{◌≡◌, ◌<◌, ℕ, suc, Bool, true, false, not, ap, List, [], ◌∷◌, Option, Some, None}
 use Rattle.std.proofs.{Common.{true≢false, refl, sym, subst, ◌∙◌, length, arith}, lemmas.Bool.and_parts}
 use Rattle.std.proofs.lemmas.Slice.Eq.{bytes_eq-Decides}
 use Rattle.std.specs.{List.list_any, Prelude.{filter, find, ◌&&◌, ◌||◌, if◌then◌else◌}, Str.bytes_eq}
-use Rattle.cni_addr.specs.Lists.{IsAmong, without_first}
+use Rattle.cni_addr.specs.Lists.{without_first}
+use Rattle.cni_addr.proofs.Lists.{all-among, any-among, filter-every, from-among, length-filter_le}
 use Rattle.kernel_types.specs.Apply.Calls.{goes_with, goes_with_ns, has_peer_in, ns_del_of, without_links, without_ns}
 use Rattle.kernel_types.specs.{Sound.{IsSound, peer_fits, peers_back}, Terms.{has_named_ns, is_at, is_host_ns}}
 use Rattle.kernel_types.specs.{Terms.is_peer_at, declared.{call.Reply.TheVariants.{Done, NoNs}, object.AddrObj.AddrObj}}
 use Rattle.kernel_types.specs.declared.object.{Host.Host, Link.Link, LinkKey.LinkKey, RouteObj.RouteObj}
 use Rattle.kernel_types.specs.declared.object.Setting.{Setting}
-use Rattle.kernel_types.proofs.ListLemmas.{list_any-find_none, list_any-none, list_any-weaker, passes-find}
-use Rattle.kernel_types.proofs.{Removal.{goes_with-itself, IsSound-without_link}, TouchRemoval.from_one}
-use Rattle.object_tables.proofs.Places.{filter-none}
+use Rattle.kernel_types.proofs.{ListLemmas.{list_any-find_none, list_any-weaker, passes-find}, Removal.goes_with-itself}
+use Rattle.kernel_types.proofs.{Removal.IsSound-without_link, TouchRemoval.from_one}
+use Rattle.object_tables.proofs.Lists.{filter-none}
 use Rattle.kernel_tables.specs.Leaving.{left_with}
 use Rattle.object_tables.specs.{Rows.inner_ns, Table.is_key}
-use Rattle.kernel_tables.proofs.Leaving.{all-among, any-among, filter-twice, found-among, from-among, keep-all}
-use Rattle.kernel_tables.proofs.Leaving.{left-first}
+use Rattle.kernel_tables.proofs.{Leaving.left-first, Lists.{filter-twice, found-among, none-both}}
 
 pub inner-named : (host : Host) → IsSound host → (name : List ℕ) → has_named_ns host name ≡ true
     → is_host_ns name ≡ false
@@ -81,31 +81,18 @@ module _ (g k : Link → Bool) (more : (l : Link) → g l ≡ true → k l ≡ t
     routes = lies-again (λ (r : RouteObj) l. is_at r.ns r.link l) host.links host.routes i;
   })
 
-none-both : (k at : Link → Bool) (links : List Link) → list_any k links ≡ false
-    → list_any (λ l. k l && at l) links ≡ false
-none-both k at links none = list_any-none (λ l. k l && at l) k (λ l h. (and_parts (k l) (at l) h).0) links none
-
 without-none : (k : Link → Bool) (host : Host) → list_any k host.links ≡ false → without_links k host ≡ host
 without-none k host none =
     let links = filter-none k host.links none in
     let addresses =
     (λ j. filter (λ (a : AddrObj). not (none-both k (is_at a.ns a.link) host.links none j)) host.addresses)
-    ∙ keep-all host.addresses in
+    ∙ filter-every host.addresses in
     let routes =
     (λ j. filter (λ (r : RouteObj). not (none-both k (is_at r.ns r.link) host.links none j)) host.routes)
-    ∙ keep-all host.routes in
+    ∙ filter-every host.routes in
     (λ i. record host { links = links i; addresses = addresses i; routes = routes i })
 
 -- ---- one link of the namespace after the other
-
-filter-le : {X : Type 0} (f : X → Bool) (xs : List X) → length (filter f xs) ≤ length xs
-filter-le f [] = omega arith
-filter-le f (x ∷ xs) = by (f x) (filter-le f xs)
-  where
-    by : (b : Bool) → length (filter f xs) ≤ length xs
-        → length (if b then x ∷ filter f xs else filter f xs) ≤ suc (length xs)
-    by true rest = omega (arith, rest)
-    by false rest = omega (arith, rest)
 
 pub filter-fewer : {X : Type 0} (p : X → Bool) (xs : List X) → list_any p xs ≡ true
     → length (filter (λ x. not (p x)) xs) < length xs
@@ -115,7 +102,7 @@ filter-fewer p (x ∷ xs) h = by (p x) h (filter-fewer p xs)
     by : (b : Bool) → (b || list_any p xs) ≡ true
         → (list_any p xs ≡ true → length (filter (λ y. not (p y)) xs) < length xs)
         → length (if not b then x ∷ filter (λ y. not (p y)) xs else filter (λ y. not (p y)) xs) < suc (length xs)
-    by true e less = omega (arith, filter-le (λ y. not (p y)) xs)
+    by true e less = omega (arith, length-filter_le (λ y. not (p y)) xs)
     by false e less = omega (arith, less e)
 
 peer-in : (name : List ℕ) (link : Link) → link.ns ≡ name → (o : Option LinkKey) → is_peer_at link.ns link.name o ≡ true

@@ -7,7 +7,7 @@ use Rattle.kernel_types.specs.contracts.object.LeasePartialEq.TheImpl.{eq-value 
 use Rattle.kernel_types.specs.declared.{keys.PoolKey.PoolKey, object.{Last.Last, Lease.Lease}}
 use Rattle.kernel_types.proofs.ListLemmas.{filter-push_dropped, list_any-none}
 use Rattle.object_tables.specs.Table.{has_key}
-use Rattle.object_tables.proofs.Places.{filter-none}
+use Rattle.object_tables.proofs.Lists.{filter-none}
 
 -- a lease whose address none has is not there
 pub absent-lease : (lease : Lease) (leases : List Lease)

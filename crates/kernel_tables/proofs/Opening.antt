@@ -24,6 +24,7 @@ use Rattle.kernel_types.specs.declared.object.{Setting.Setting, Tag.{Tag, TheVar
 use Rattle.kernel_types.specs.declared.rule.Rule.{Rule}
 use Rattle.kernel_types.proofs.ListLemmas.{list_any-none}
 use Rattle.object_tables.specs.{Rows.{host_name, owner_named}, Table.{is_key, has_same_key, HasEachKeyOnce}}
+use Rattle.object_tables.proofs.Noted.{any-false}
 use Rattle.kernel_tables.proofs.Added.{addr_key, addr-keyed, route_key, route-keyed, rule-same, setting_key}
 use Rattle.kernel_tables.proofs.{Added.setting-keyed, Free.{host-alike, host-named}, NewLease.same-pool, Owned.att-same}
 
@@ -48,16 +49,12 @@ once-if : {K T : Type 0} (eq : K → K → Bool) (key_of : T → Option K) (is_s
 once-if eq key_of is_same h rows once =
     distinct-finer (λ a b. is_same b a) (λ a b. has_same_key eq key_of b a) (λ x y. h y x) rows once
 
-none-any : {T : Type 0} (rows : List T) → list_any (λ (row : T). false) rows ≡ false
-none-any [] = refl
-none-any (row ∷ rows) = none-any rows
-
 -- where no row has a key
 pub once-none : {K T : Type 0} (eq : K → K → Bool) (rows : List T) → HasEachKeyOnce eq (λ row. None) rows
 once-none eq [] = refl
 once-none {K} {T} eq (row ∷ rows) =
     let none : T → Option K = λ row. None in
-    ap (λ b. not b && distinct (λ older newer. has_same_key eq none newer older) rows) (none-any rows)
+    ap (λ b. not b && distinct (λ older newer. has_same_key eq none newer older) rows) (any-false rows)
     ∙ once-none eq rows
 
 module _ (namespaces : List NsObj) (once : HasDistinctKeys is_same_namespace namespaces) where

@@ -1,6 +1,6 @@
 -- An attachment's objects, by their tag.
-use Rattle.std.proofs.Common.{◌≡◌, Bool, List, Option, Some, None, Bor, refl, arith}
-use Rattle.std.specs.{List.list_any, Option.option_copied, Prelude.{find, is_some}}
+use Rattle.std.proofs.Common.{◌≡◌, Bool, List, refl, arith}
+use Rattle.std.specs.{List.list_any, Prelude.find}
 use Rattle.cni_addr.specs.Lists.{without_first}
 use Rattle.kernel_types.specs.{Equal.att_eq, Terms.is_own}
 use Rattle.kernel_types.specs.{contracts.object.AttPartialEq.TheImpl.eq-value as att_eq-value, declared.object.Att.Att}
@@ -30,7 +30,3 @@ module _ {T : Type 0} (tag_of : T → Tag) (att : Att) (xs : List T) where
   pub find-own : find (λ x. is_key att_eq-value.it (owner_named (tag_of x)) att) xs
       ≡ find (λ x. is_own att (tag_of x)) xs
   find-own = λ i. find (λ x. own-is att_eq-value.it att-same att (tag_of x) i) xs
-
-pub some-copied : {T : Type 0} (o : Option (Bor T)) → is_some o ≡ is_some (option_copied o)
-some-copied None = refl
-some-copied (Some x) = refl

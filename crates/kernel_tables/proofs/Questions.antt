@@ -1,28 +1,24 @@
 -- What is asked of rows and answered by a look-up.
-use Rattle.std.proofs.Common.{◌≡◌, Bool, true, false, not, ap, List, [], ◌∷◌, ◌++◌, Option, Some, None, refl, sym, ◌∙◌}
-use Rattle.std.proofs.{Common.{arith, rules, ℕ}, Math.Bool.beq, lemmas.{Bool.and_parts, Slice.Eq.bytes_eq-Decides}}
+use Rattle.std.proofs.Common.{◌≡◌, Bool, true, false, ap, List, [], ◌∷◌, ◌++◌, Option, Some, None, refl, sym, ◌∙◌}
+use Rattle.std.proofs.{Common.{arith, rules, ℕ}, lemmas.{Bool.and_parts, Slice.Eq.bytes_eq-Decides}}
 use Rattle.std.specs.{List.{list_any, filter_map}, Option.{option_eq, option_map_or, option_to_list}, Prelude.filter}
 use Rattle.std.specs.{Prelude.{map, find, ◌&&◌, ◌==◌, if◌then◌else◌}, Str.bytes_eq}
-use Rattle.cni_addr.specs.{Lists.{distinct, each_key_once}, declared.mac.Mac.Mac}
-use Rattle.kernel_types.specs.Equal.{addr_eq, addr_obj_eq, att_eq, chain_eq, cidr_eq, key_eq, lease_eq, link_eq}
-use Rattle.kernel_types.specs.Equal.{link_kind_eq, mac_eq, route_eq, rule_eq, proto_eq, setting_eq, table_eq, tag_eq}
-use Rattle.kernel_types.specs.{Equal.target_eq, Keys.is_same_link, Sound.HasDistinctKeys, Terms.{is_at, is_bridge}}
-use Rattle.kernel_types.specs.Terms.{is_bridge_with, is_host_link, is_host_ns, owner_in}
+use Rattle.cni_addr.specs.{Lists.each_key_once, declared.mac.Mac.Mac}
+use Rattle.kernel_types.specs.Equal.{addr_eq, addr_obj_eq, att_eq, cidr_eq, lease_eq, link_eq, mac_eq, route_eq}
+use Rattle.kernel_types.specs.{Equal.{setting_eq, tag_eq}, Keys.is_same_link, Sound.HasDistinctKeys, Terms.is_at}
+use Rattle.kernel_types.specs.Terms.{is_bridge, is_bridge_with, is_host_link, is_host_ns, owner_in}
 use Rattle.kernel_types.specs.contracts.object.AddrObjPartialEq.TheImpl.{eq-value as address_eq-value}
 use Rattle.kernel_types.specs.contracts.object.AttPartialEq.TheImpl.{eq-value as att_eq-value}
 use Rattle.kernel_types.specs.contracts.object.LeasePartialEq.TheImpl.{eq-value as lease_eq-value}
 use Rattle.kernel_types.specs.contracts.object.RouteObjPartialEq.TheImpl.{eq-value as route_eq-value}
 use Rattle.kernel_types.specs.contracts.object.SettingPartialEq.TheImpl.{eq-value as setting_eq-value}
-use Rattle.kernel_types.specs.contracts.object.TagPartialEq.TheImpl.{eq-value as tag_eq-value}
-use Rattle.kernel_types.specs.contracts.rule.RulePartialEq.TheImpl.{eq-value as rule_eq-value}
-use Rattle.kernel_types.specs.contracts.rule.TargetPartialEq.TheImpl.{eq-value as target_eq-value}
 use Rattle.kernel_types.specs.declared.object.{AddrObj.AddrObj, Att.Att, Lease.Lease, Link.Link, RouteObj.RouteObj}
 use Rattle.kernel_types.specs.declared.object.{Setting.Setting, Tag.{Tag, TheVariants.{Outside, Base, Own}}}
-use Rattle.kernel_types.specs.declared.rule.{Rule.Rule, Target.Target}
-use Rattle.kernel_types.specs.declared.rule.Target.TheVariants as targets
 use Rattle.object_tables.specs.{Rows.{host_name, inner_ns, network_named, owner_named}, Table.is_key}
-use Rattle.kernel_types.proofs.{Cases.{host_ns-eq, tag_eq-own}, ListLemmas.list_any-none, TouchRemoval.one_place}
-use Rattle.kernel_tables.proofs.{Free.host-named, Namespaces.inner-is, Owned.{att-same, own-is}}
+use Rattle.kernel_types.proofs.{Cases.tag_eq-own, ToldByKeys.link_eq-tag}
+use Rattle.kernel_model.proofs.RouteTests.{five_tests}
+use Rattle.kernel_tables.proofs.{Free.{any-both, host-alike, host-named}, Namespaces.inner-is, Owned.{att-same, own-is}}
+use Rattle.cni_addr.proofs.Tests.{and_implied}
 
 -- ---- the owners of a network
 
@@ -80,39 +76,14 @@ module _ {T : Type 0} (tag_of : T → Tag) (network : List ℕ) where
 
 -- ---- links of the host, by their name
 
-host_link-at : (name : List ℕ) (l : Link) → is_host_link name l ≡ true → is_at [] name l ≡ true
-host_link-at name l h = grind (arith, host_ns-eq l.ns, h)
-
-one-named-step : {X : Type 0} (p t u : X → Bool) (x : X) (xs : List X) (b : Bool) → p x ≡ b → t x ≡ (p x && u x)
-    → (p x ≡ true → list_any t xs ≡ false) → list_any t xs ≡ option_map_or u (find p xs) false
-    → list_any t (x ∷ xs) ≡ option_map_or u (find p (x ∷ xs)) false
-one-named-step p t u x xs true e is none rest = rw (is, e, none e) (grind arith)
-one-named-step p t u x xs false e is none rest = rw (is, e) rest
-
-one-found : {X : Type 0} (p t u : X → Bool) (same : X → X → Bool) → ((x : X) → t x ≡ (p x && u x))
-    → ((x y : X) → p x ≡ true → p y ≡ true → same x y ≡ true) → (xs : List X) → distinct same xs ≡ true
-    → list_any t xs ≡ option_map_or u (find p xs) false
-one-found p t u same is one [] d = refl
-one-found p t u same is one (x ∷ xs) d =
-    let parts = and_parts (not (list_any (same x) xs)) (distinct same xs) d in
-    one-named-step p t u x xs (p x) refl (is x)
-    (λ h. list_any-none t (same x) (λ y g. one x y h (and_parts (p y) (u y) (sym (is y) ∙ g)).0) xs
-    (grind (arith, parts.0)))
-    (one-found p t u same is one xs parts.1)
-
 -- in a sound host one link of the host has the name: what is asked of all is asked of it
 pub one-named : (name : List ℕ) (t u : Link → Bool) → ((l : Link) → t l ≡ (is_host_link name l && u l))
     → (links : List Link) → HasDistinctKeys is_same_link links
     → list_any t links ≡ option_map_or u (find (λ l. is_key bytes_eq (host_name l) name) links) false
 one-named name t u is links d =
-    one-found (is_host_link name) t u (λ a b. is_same_link b a) is
-    (λ x y h g. one_place [] name x y (host_link-at name x h) (host_link-at name y g)) links d
+    (λ i. list_any (λ l. is l i) links)
+    ∙ any-both (λ a b. is_same_link b a) (is_host_link name) u (host-alike name) links d
     ∙ (λ i. option_map_or u (find (λ l. sym (host-named name l) i) links) false)
-
-absorbs : (a b : Bool) → (b ≡ true → a ≡ true) → b ≡ (a && b)
-absorbs a true h = rw (h refl) refl
-absorbs true false h = refl
-absorbs false false h = refl
 
 equal-place : (l link : Link) → link_eq l link ≡ true → is_at link.ns link.name l ≡ true
 equal-place l link h = grind (arith, h)
@@ -121,38 +92,27 @@ equal-place l link h = grind (arith, h)
 pub equal-named : (link : Link) → is_host_ns link.ns ≡ true → (l : Link)
     → link_eq l link ≡ (is_host_link link.name l && link_eq l link)
 equal-named link host l =
-    absorbs (is_host_link link.name l) (link_eq l link)
+    and_implied (is_host_link link.name l) (link_eq l link)
     (λ h. let at = and_parts (bytes_eq l.ns link.ns) (bytes_eq l.name link.name) (equal-place l link h) in
     let ns : is_host_ns l.ns ≡ true = ap is_host_ns ((bytes_eq-Decides l.ns link.ns).0 at.0) ∙ host in
     grind (arith, ns, at.1))
-
-last_test : (a b c d e f g h i j k l : Bool)
-    → (a && (b && (c && (d && (e && (f && (g && (h && (i && (j && (k && l))))))))))) ≡ true → l ≡ true
-last_test a b c d e f g h i j k l all = grind (arith, all)
-
-equal-tag : (l link : Link) → link_eq l link ≡ true → tag_eq l.tag link.tag ≡ true
-equal-tag l link h =
-    last_test (bytes_eq l.ns link.ns) (bytes_eq l.name link.name) (link_kind_eq l.kind link.kind)
-    (option_eq bytes_eq l.master link.master) (option_eq key_eq l.peer link.peer) (mac_eq l.mac link.mac)
-    (l.mtu == link.mtu) (beq l.hairpin link.hairpin) (beq l.promisc link.promisc) (beq l.allmulti link.allmulti)
-    (l.tx_qlen == link.tx_qlen) (tag_eq l.tag link.tag) h
 
 -- a link that is equal to the attachment's is its own too
 pub equal-owned : (att : Att) (link : Link) → link.tag ≡ Own att → (l : Link)
     → link_eq l link ≡ (is_key att_eq-value.it (owner_named l.tag) att && link_eq l link)
 equal-owned att link tag l =
-    absorbs (is_key att_eq-value.it (owner_named l.tag) att) (link_eq l link)
+    and_implied (is_key att_eq-value.it (owner_named l.tag) att) (link_eq l link)
     (λ h.
     own-is att_eq-value.it att-same att l.tag
     ∙ sym (tag_eq-own att l.tag)
     ∙ ap (tag_eq l.tag) (sym tag)
-    ∙ equal-tag l link h)
+    ∙ link_eq-tag l link h)
 
 -- a link that is equal to one elsewhere is in its namespace
 pub equal-sited : (link : Link) → is_host_ns link.ns ≡ false → (l : Link)
     → link_eq l link ≡ (is_key bytes_eq (inner_ns l.ns) link.ns && link_eq l link)
 equal-sited link inner l =
-    absorbs (is_key bytes_eq (inner_ns l.ns) link.ns) (link_eq l link)
+    and_implied (is_key bytes_eq (inner_ns l.ns) link.ns) (link_eq l link)
     (λ h.
     inner-is link.ns inner l.ns
     ∙ (and_parts (bytes_eq l.ns link.ns) (bytes_eq l.name link.name) (equal-place l link h)).0)
@@ -166,10 +126,6 @@ bridge-named name mac l = grind arith
 pub address-same : (a b : AddrObj) → address_eq-value.it a b ≡ addr_obj_eq a b
 address-same a b = grind arith
 
--- five tests, from the right and from the left
-five_tests : (a b c d e : Bool) → (a && (b && (c && (d && e)))) ≡ (a && b && c && d && e)
-five_tests a b c d e = grind arith
-
 pub route-same : (a b : RouteObj) → route_eq-value.it a b ≡ route_eq a b
 route-same a b =
     let right : route_eq-value.it a b
@@ -180,39 +136,6 @@ route-same a b =
     right
     ∙ five_tests (bytes_eq a.ns b.ns) (cidr_eq a.dst b.dst) (bytes_eq a.link b.link) (option_eq addr_eq a.gw b.gw)
     (tag_eq a.tag b.tag)
-
-tag-same : (t u : Tag) → tag_eq-value.it t u ≡ tag_eq t u
-tag-same Outside Outside = refl
-tag-same Outside Base = refl
-tag-same Outside (Own b) = refl
-tag-same Base Outside = refl
-tag-same Base Base = refl
-tag-same Base (Own b) = refl
-tag-same (Own a) Outside = refl
-tag-same (Own a) Base = refl
-tag-same (Own a) (Own b) = att-same a b
-
-target-same : (t u : Target) → target_eq-value.it t u ≡ target_eq t u
-target-same targets.Accept targets.Accept = refl
-target-same targets.Accept targets.Masquerade = refl
-target-same targets.Accept (targets.Dnat b q) = refl
-target-same targets.Masquerade targets.Accept = refl
-target-same targets.Masquerade targets.Masquerade = refl
-target-same targets.Masquerade (targets.Dnat b q) = refl
-target-same (targets.Dnat a p) targets.Accept = refl
-target-same (targets.Dnat a p) targets.Masquerade = refl
-target-same (targets.Dnat a p) (targets.Dnat b q) = refl
-
-pub rule-same : (a b : Rule) → rule_eq-value.it a b ≡ rule_eq a b
-rule-same a b =
-    (λ i.
-    table_eq a.table b.table
-    && (chain_eq a.chain b.chain
-    && (option_eq cidr_eq a.src b.src && (option_eq cidr_eq a.dst b.dst && (beq a.not_dst b.not_dst
-    && (option_eq proto_eq a.protocol b.protocol
-    && (option_eq (λ p q. p == q) a.dport b.dport
-    && (beq a.established b.established
-    && (target-same a.target b.target i && tag-same a.tag b.tag i)))))))))
 
 pub setting-same : (a b : Setting) → setting_eq-value.it a b ≡ setting_eq a b
 setting-same a b = grind arith

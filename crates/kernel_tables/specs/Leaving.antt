@@ -1,8 +1,7 @@
 -- What leaves with a link.
 use Rattle.std.specs.Prelude.{ℕ, Bool, false, ◌&&◌, ◌||◌, List, Option, Some, None, filter, not}
-use Rattle.kernel_types.specs.{Terms.{is_at, is_own, is_owned, is_peer_at}, declared.object.{AddrObj.AddrObj, Att.Att}}
-use Rattle.kernel_types.specs.declared.object.{Host.Host, Link.Link, LinkKey.LinkKey, RouteObj.RouteObj, Tag.Tag}
-use Rattle.kernel_types.specs.declared.object.Tag.TheVariants.{Outside, Base, Own}
+use Rattle.kernel_types.specs.{Terms.{is_at, is_own, is_owned, is_peer_at}, declared.object.{Att.Att, Host.Host}}
+use Rattle.kernel_types.specs.declared.object.{Link.Link, LinkKey.LinkKey, Tag.{Tag, TheVariants.{Outside, Base, Own}}}
 
 -- the link stands where the peer does
 abbrev pub is_peer : Option LinkKey → Link → Bool

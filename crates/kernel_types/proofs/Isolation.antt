@@ -304,3 +304,14 @@ KeepsWhere-RemovesUnshared test old new apart removes = record {
   leases = ap (filter (λ l. test l.tag)) removes.leases;
   cached = ap (filter (λ c. test c.tag)) removes.cached;
 }
+
+-- what is one attachment's has an owner
+pub is_own-owned : (att : Att) (tag : Tag) → is_own att tag ≡ true → is_owned tag ≡ true
+is_own-owned att (tags.Own own) is = refl
+is_own-owned att tag is = is
+
+-- what is from outside is no attachment's
+pub outside-not_own : (att : Att) (tag : Tag) → tag_eq tag tags.Outside ≡ true → is_own att tag ≡ false
+outside-not_own att tags.Outside is = refl
+outside-not_own att tags.Base is = absurd cc
+outside-not_own att (tags.Own own) is = absurd cc

@@ -4,6 +4,7 @@ pub mod Deletes
 pub mod DropsOwn
 pub mod EveryCall
 pub mod Isolation
+pub mod Lasts
 pub mod LeasedAddress
 pub mod Leases
 pub mod ListLemmas

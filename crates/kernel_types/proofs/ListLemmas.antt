@@ -1,16 +1,20 @@
 -- Laws of the definitions on lists. Nearly each is an induction that one call of `grind` closes.
 use Rattle.std.proofs.Common.{◌≡◌, ℕ, suc, ◌+◌, Bool, true, false, not, cond, ap, List, [], ◌∷◌, Option, Some, None}
-use Rattle.std.proofs.{Common.{refl, sym, ◌∙◌, length, get_or, arith}, lemmas.Bool.Decides.nat_tests}
-use Rattle.std.specs.{List.{list_any, list_all, position_or_len}, Prelude.{filter, find, map, remove, ◌&&◌, ◌||◌}}
-use Rattle.std.specs.Prelude.{if◌then◌else◌, nat_lt, position}
+use Rattle.std.proofs.Common.{refl, sym, ◌∙◌, length, get_or, arith, zero, ◌<◌, ◌++◌, ◌⊎◌, inl, inr}
+use Rattle.std.proofs.lemmas.{Bool.Decides.nat_tests, Option.{none-some, same_Some}}
+use Rattle.std.specs.{List.{slice_get, list_any, list_all, position_or_len}, Prelude.{filter, find, map, remove, ◌&&◌}}
+use Rattle.std.specs.Prelude.{◌||◌, if◌then◌else◌, nat_lt, position}
 pub use Rattle.std.proofs.lemmas.List.Folds.{list_all-map}
 use Rattle.std.proofs.lemmas.Option.{cond_some}
 use Rattle.cni_addr.specs.Lists.{distinct, without_first}
 pub use Rattle.cni_addr.proofs.Lists.{are_new, distinct-append, distinct-push, filter-push_dropped, list_all-append}
 pub use Rattle.cni_addr.proofs.Lists.{list_all-push, list_any-append_left, list_any-append_none, list_any-append_right}
-pub use Rattle.cni_addr.proofs.Lists.{list_any-map, list_any-same_test}
-pub use Rattle.ip_pool.proofs.InOrder.{list_all-filter, list_all-weaker, passes-find}
+pub use Rattle.cni_addr.proofs.Lists.{list_any-find_none, list_any-map, list_any-none, list_any-same_test, passes-find}
+pub use Rattle.cni_addr.proofs.Lists.{passes-list_all, without_first-none}
+use Rattle.cni_addr.proofs.Lists.{find-list_any_none}
+pub use Rattle.ip_pool.proofs.InOrder.{list_all-filter, list_all-weaker}
 use Rattle.ip_pool.proofs.Lists.{list_any-no_position}
+use Rattle.std.specs.List.{AllByRecursion}
 
 -- ---- the first that passes
 
@@ -25,10 +29,6 @@ remove-position_or_len p [] h = grind arith
 remove-position_or_len p (x ∷ xs) h =
     remove-step (p x) x xs (position_or_len p xs) (without_first p xs)
     (λ e. remove-position_or_len p xs (grind (arith, h, e)))
-
-pub without_first-none : {X : Type 0} (p : X → Bool) (xs : List X) → list_any p xs ≡ false → without_first p xs ≡ xs
-without_first-none p [] h = refl
-without_first-none p (x ∷ xs) h = grind (arith, without_first-none p xs)
 
 any-step : (b : Bool) (n l : ℕ) (a : Bool) → a ≡ nat_lt n l → (b || a) ≡ nat_lt (cond (not b) (1 + n) 0) (suc l)
 any-step true n l a h = grind (arith, nat_tests)
@@ -52,10 +52,6 @@ pub without_first-no_position : {X : Type 0} (p : X → Bool) (xs : List X) → 
     → without_first p xs ≡ xs
 without_first-no_position p xs h = without_first-none p xs (list_any-no_position p xs h)
 
-pub list_any-find_none : {X : Type 0} (p : X → Bool) (xs : List X) → find p xs ≡ None → list_any p xs ≡ false
-list_any-find_none p [] h = refl
-list_any-find_none p (x ∷ xs) h = grind (arith, list_any-find_none p xs)
-
 pub filter_never : {X : Type 0} (p q : X → Bool) → ((x : X) → q x ≡ true → p x ≡ false) → (xs : List X)
     → list_all q xs ≡ true → filter p xs ≡ []
 filter_never p q w [] h = refl
@@ -74,11 +70,6 @@ pub list_all-without_first : {X : Type 0} (p gone : X → Bool) (xs : List X) �
 list_all-without_first p gone [] h = refl
 list_all-without_first p gone (x ∷ xs) h = grind (arith, list_all-without_first p gone xs)
 
-pub passes-list_all : {X : Type 0} (p q : X → Bool) (xs : List X) (y : X) → list_all p xs ≡ true → find q xs ≡ Some y
-    → p y ≡ true
-passes-list_all p q [] y h g = grind arith
-passes-list_all p q (x ∷ xs) y h g = grind (arith, passes-list_all p q xs y)
-
 -- ---- some element passes
 
 pub list_any-kept : {X : Type 0} (p keep : X → Bool) → (xs : List X) → list_any p xs ≡ true
@@ -90,11 +81,6 @@ pub list_any-weaker : {X : Type 0} (p q : X → Bool) → ((x : X) → p x ≡ t
     → list_any p xs ≡ true → list_any q xs ≡ true
 list_any-weaker p q w [] h = grind arith
 list_any-weaker p q w (x ∷ xs) h = grind (arith, w x, list_any-weaker p q w xs)
-
-pub list_any-none : {X : Type 0} (p q : X → Bool) → ((x : X) → p x ≡ true → q x ≡ true) → (xs : List X)
-    → list_any q xs ≡ false → list_any p xs ≡ false
-list_any-none p q w [] h = refl
-list_any-none p q w (x ∷ xs) h = grind (arith, w x, list_any-none p q w xs)
 
 -- ---- distinct keys
 
@@ -140,10 +126,6 @@ find-position p xs i y h e =
     let at = cond_some (nat_lt (position_or_len p xs) (length xs)) (position_or_len p xs) i h in
     find-position_or_len p xs y (list_any-position_or_len p xs ∙ at.0) (e ∙ ap (λ k. get_or xs k y) (sym at.1))
 
-find-list_any_none : {X : Type 0} (p : X → Bool) (xs : List X) → list_any p xs ≡ false → find p xs ≡ None
-find-list_any_none p [] h = refl
-find-list_any_none p (x ∷ xs) h = grind (arith, find-list_any_none p xs)
-
 pub find-no_position : {X : Type 0} (p : X → Bool) (xs : List X) → position p xs ≡ None → find p xs ≡ None
 find-no_position p xs h = find-list_any_none p xs (list_any-no_position p xs h)
 
@@ -177,3 +159,25 @@ pub list_any-map_filter : {A B : Type 0} (p : B → Bool) (f : A → B) (keep : 
     → list_any p (map f (filter keep xs)) ≡ list_any (λ x. keep x && p (f x)) xs
 list_any-map_filter p f keep [] = refl
 list_any-map_filter p f keep (x ∷ xs) = grind (arith, list_any-map_filter p f keep xs)
+
+pub each-append : {X : Type 0} (P : X → Type 0) (xs ys : List X) → AllByRecursion P xs → AllByRecursion P ys
+    → AllByRecursion P (xs ++ ys)
+each-append P [] ys first later = later
+each-append P (x ∷ xs) ys first later = (first.0, each-append P xs ys first.1 later)
+
+-- ---- what stands at a place
+
+pub slice_get-middle : {X : Type 0} (xs ys : List X) (y : X) → slice_get (xs ++ y ∷ ys) (length xs) ≡ Some y
+slice_get-middle [] ys y = refl
+slice_get-middle (x ∷ xs) ys y = slice_get-middle xs ys y
+
+-- an element of a list with one more at the end is an earlier one, or that one
+pub at_snoc : {X : Type 0} (xs : List X) (y x : X) (i : ℕ) → slice_get (xs ++ y ∷ []) i ≡ Some x
+    → ((i < length xs) × (slice_get xs i ≡ Some x)) ⊎ ((i ≡ length xs) × (x ≡ y))
+at_snoc [] y x zero is = inr (refl, same_Some x y (sym is))
+at_snoc [] y x (suc i) is = absurd (none-some x is)
+at_snoc (z ∷ zs) y x zero is = inl (omega arith, is)
+at_snoc (z ∷ zs) y x (suc i) is = elim (at_snoc zs y x i is) [
+  | inl t ↦ (let less = t.0 in inl (omega arith, t.1))
+  | inr t ↦ inr (ap suc t.0, t.1)
+]

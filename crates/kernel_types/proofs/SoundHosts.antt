@@ -4,6 +4,7 @@ use Rattle.std.proofs.{Common.{length, refl, sym, ◌∙◌, ap, arith}, lemmas.
 use Rattle.std.specs.{Cmp.{both_ways, Lexicographic.nat_list_eq_equiv}, List.{list_any, list_all, Contains}}
 use Rattle.std.specs.{List.slice_index_or, Prelude.{not, filter, map, ◌&&◌, ◌||◌, if◌then◌else◌}, Str.bytes_eq}
 use Rattle.cni_addr.specs.Lists.{distinct, IsAmong}
+use Rattle.cni_addr.proofs.Lists.{all-among, from-among}
 use Rattle.kernel_types.specs.{Apply.Calls.{goes_with, goes_with_ns, has_peer_in}, Equal.{addr_eq, tag_eq}}
 use Rattle.kernel_types.specs.Sound.{IsSound, AreInPlaces, HasTagsOn, NoNamespaceOwned, may_be_on, NoAddressTwice}
 use Rattle.kernel_types.specs.Sound.{is_link_or_peer, is_in_ns_or_peer, address_fits_tag, peer_fits, peers_back}
@@ -114,11 +115,6 @@ among_at x (y ∷ ys) (suc k) lt e = inr (among_at x ys k (omega arith) e)
 pub IsAmong-Contains : {X : Type 0} (x : X) (xs : List X) → Contains xs x → IsAmong x xs
 IsAmong-Contains x xs c = among_at x xs c.0 c.1 c.2
 
-among-passes : {X : Type 0} (p : X → Bool) (x : X) (xs : List X) → IsAmong x xs → list_all p xs ≡ true → p x ≡ true
-among-passes p x [] at h = absurd at
-among-passes p x (y ∷ ys) at h =
-    elim at [ inl e ↦ ap p e ∙ grind (arith, h) | inr later ↦ among-passes p x ys later (grind (arith, h)) ]
-
 among-fails : {X : Type 0} (p : X → Bool) (x : X) (xs : List X) → IsAmong x xs → list_any p xs ≡ false → p x ≡ false
 among-fails p x [] at h = absurd at
 among-fails p x (y ∷ ys) at h =
@@ -143,15 +139,6 @@ one_among same s x y (z ∷ zs) d at_x at_y h =
       ]
     ]
 
--- what each element that passes gives, where some element does
-from_among : {X : Type 0} (p : X → Bool) (c : Bool) (xs : List X) → ((x : X) → IsAmong x xs → p x ≡ true → c ≡ true)
-    → list_any p xs ≡ true → c ≡ true
-from_among p c [] w h = cc
-from_among p c (x ∷ xs) w h =
-    let here : p x ≡ true → c ≡ true = w x (inl refl) in
-    let later : list_any p xs ≡ true → c ≡ true = from_among p c xs (λ y at. w y (inr at)) in
-    grind (arith, h, here, later)
-
 -- a link that stands at the place of another's peer names that other as its peer
 peer_names_back : (links : List Link) (l m : Link) (o : Option LinkKey)
     → distinct (λ a b. is_at b.ns b.name a) links ≡ true → IsAmong m links → peer_fits links l o ≡ true
@@ -160,7 +147,7 @@ peer_names_back links l m None keys at fits p = cc
 peer_names_back links l m (Some key) keys at fits p =
     let ns : key.ns ≡ m.ns = (bytes_eq-Decides key.ns m.ns).0 (grind (arith, p)) in
     let name : key.name ≡ m.name = (bytes_eq-Decides key.name m.name).0 (grind (arith, p)) in
-    from_among (peers_back l key) (is_peer_at l.ns l.name m.peer) links
+    from-among (peers_back l key) (is_peer_at l.ns l.name m.peer) links
     (λ x there back.
     let here : is_at m.ns m.name x ≡ true = rw (← ns, ← name) (grind (arith, back)) in
     let one : x ≡ m = one_among (λ a b. is_at b.ns b.name a) is_at-symm x m links keys there at here in
@@ -174,9 +161,9 @@ goes_with-sound host link other sound link_there other_there =
     let at_link : IsAmong link host.links = IsAmong-Contains link host.links link_there in
     let at_other : IsAmong other host.links = IsAmong-Contains other host.links other_there in
     let fits_link : peer_fits host.links link link.peer ≡ true =
-    among-passes (λ l. peer_fits host.links l l.peer) link host.links at_link sound.links.peers in
+    all-among (λ l. peer_fits host.links l l.peer) link host.links at_link sound.links.peers in
     let fits_other : peer_fits host.links other other.peer ≡ true =
-    among-passes (λ l. peer_fits host.links l l.peer) other host.links at_other sound.links.peers in
+    all-among (λ l. peer_fits host.links l l.peer) other host.links at_other sound.links.peers in
     ap (λ b. is_at link.ns link.name other || b)
     (both_ways (is_peer_at link.ns link.name other.peer) (is_peer_at other.ns other.name link.peer)
     (peer_names_back host.links other link other.peer sound.links.keys at_link fits_other)
@@ -189,7 +176,7 @@ passes_at : (p : Link → Bool) (ns name : List ℕ) (link : Link) (links : List
     → ((l : Link) → p l ≡ true → is_at ns name l ≡ true) → is_at ns name link ≡ true
     → distinct (λ a b. is_at b.ns b.name a) links ≡ true → IsAmong link links → list_any p links ≡ true → p link ≡ true
 passes_at p ns name link links at here keys among some =
-    from_among p (p link) links
+    from-among p (p link) links
     (λ x there passes.
     let same : is_at link.ns link.name x ≡ true = one_place ns name x link (at x passes) here in
     let one : x ≡ link = one_among (λ a b. is_at b.ns b.name a) is_at-symm x link links keys there among same in
@@ -263,13 +250,13 @@ pub goes_with_ns-sound : (host : Host) (name : List ℕ) (other : Link) → IsSo
 goes_with_ns-sound host name other sound other_there =
     let at_other : IsAmong other host.links = IsAmong-Contains other host.links other_there in
     let fits_other : peer_fits host.links other other.peer ≡ true =
-    among-passes (λ l. peer_fits host.links l l.peer) other host.links at_other sound.links.peers in
+    all-among (λ l. peer_fits host.links l l.peer) other host.links at_other sound.links.peers in
     ap (λ b. bytes_eq other.ns name || b)
     (both_ways (has_peer_in name other.peer) (list_any (is_peer_from name other) host.links)
     (peer_there host.links name other other.peer fits_other)
-    (from_among (is_peer_from name other) (has_peer_in name other.peer) host.links
+    (from-among (is_peer_from name other) (has_peer_in name other.peer) host.links
     (λ l at_link from.
     let fits_link : peer_fits host.links l l.peer ≡ true =
-    among-passes (λ l. peer_fits host.links l l.peer) l host.links at_link sound.links.peers in
+    all-among (λ l. peer_fits host.links l l.peer) l host.links at_link sound.links.peers in
     peer_in_its_ns l.ns l.name name other.peer (grind (arith, from))
     (peer_names_back host.links l other l.peer sound.links.keys at_other fits_link (grind (arith, from))))))

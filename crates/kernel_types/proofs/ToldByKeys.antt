@@ -1,12 +1,13 @@
 -- The tests of the lists tell which objects have equal keys.
-use Rattle.std.proofs.{Common.{◌≡◌, Bool, true, ap, refl, subst, ◌∙◌}, lemmas.Bool.and_parts}
+use Rattle.std.proofs.{Common.{◌≡◌, Bool, true, ap, refl, subst, ◌∙◌, arith}, Math.Bool.beq, lemmas.Bool.and_parts}
 use Rattle.std.proofs.lemmas.Slice.Eq.{bytes_eq-Decides}
-use Rattle.std.specs.{Cmp.unsigned_Decides, Prelude.{◌&&◌, ◌==◌}, Str.bytes_eq}
+use Rattle.std.specs.{Cmp.unsigned_Decides, Option.option_eq, Prelude.{◌&&◌, ◌==◌}, Str.bytes_eq}
 use Rattle.ip_pool.proofs.Addresses.{addr_eq-itself, same-address}
 use Rattle.cni_addr.specs.declared.address.Cidr.{Cidr}
-use Rattle.kernel_types.specs.{Equal.{addr_eq, cidr_eq}, Keys.{TellsKeys, addr_key, is_same_addr, is_same_route}}
-use Rattle.kernel_types.specs.{Keys.{is_same_setting, route_key, setting_key}, declared.keys.AddrKey.AddrKey}
-use Rattle.kernel_types.specs.declared.keys.{RouteKey.RouteKey, SettingKey.SettingKey}
+use Rattle.kernel_types.specs.{Equal.{addr_eq, cidr_eq, key_eq, link_eq, link_kind_eq, mac_eq, tag_eq}, Keys.TellsKeys}
+use Rattle.kernel_types.specs.Keys.{addr_key, is_same_addr, is_same_route, is_same_setting, route_key, setting_key}
+use Rattle.kernel_types.specs.declared.keys.{AddrKey.AddrKey, RouteKey.RouteKey, SettingKey.SettingKey}
+use Rattle.kernel_types.specs.declared.object.Link.{Link}
 
 both : (a b : Bool) → a ≡ true → b ≡ true → (a && b) ≡ true
 both a b h k = ap (λ c. c && b) h ∙ k
@@ -45,7 +46,7 @@ cidr-itself c =
     both (addr_eq c.addr c.addr) (c.prefix == c.prefix) (addr_eq-itself c.addr)
     ((unsigned_Decides c.prefix c.prefix).1 refl)
 
-cidr-equal : (c d : Cidr) → cidr_eq c d ≡ true → c ≡ d
+pub cidr-equal : (c d : Cidr) → cidr_eq c d ≡ true → c ≡ d
 cidr-equal c d same =
     let parts = and_parts (addr_eq c.addr d.addr) (c.prefix == d.prefix) same in
     λ i.
@@ -94,3 +95,16 @@ settings-told new s = (
   setting_key-equal (setting_key s) (setting_key new),
   λ equal. subst (λ k. same_setting_key (setting_key s) k ≡ true) equal (setting_key-itself (setting_key s)),
 )
+
+-- ---- a link's tag, by the test of whole links
+
+last_test : (a b c d e f g h i j k l : Bool)
+    → (a && (b && (c && (d && (e && (f && (g && (h && (i && (j && (k && l))))))))))) ≡ true → l ≡ true
+last_test a b c d e f g h i j k l all = grind (arith, all)
+
+pub link_eq-tag : (l link : Link) → link_eq l link ≡ true → tag_eq l.tag link.tag ≡ true
+link_eq-tag l link h =
+    last_test (bytes_eq l.ns link.ns) (bytes_eq l.name link.name) (link_kind_eq l.kind link.kind)
+    (option_eq bytes_eq l.master link.master) (option_eq key_eq l.peer link.peer) (mac_eq l.mac link.mac)
+    (l.mtu == link.mtu) (beq l.hairpin link.hairpin) (beq l.promisc link.promisc) (beq l.allmulti link.allmulti)
+    (l.tx_qlen == link.tx_qlen) (tag_eq l.tag link.tag) h

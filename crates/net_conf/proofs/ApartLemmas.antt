@@ -7,6 +7,7 @@ use Rattle.std.proofs.lemmas.List.{Kept.IsNonDecreasingBy-filter, Sorted.{IsPerm
 use Rattle.std.proofs.lemmas.List.Sums.{AllPass-from_list_all, list_all-from_AllPass}
 use Rattle.std.specs.{Cmp.both_ways, List.{list_all, Sorted.IsNonDecreasingBy}, Prelude.{◌&&◌, ◌||◌, ◌==◌, nat_lt}}
 use Rattle.std.specs.Prelude.{nat_le, min, max}
+use Rattle.cni_addr.proofs.Lists.{list_all-always}
 use Rattle.cni_addr.specs.{Codes.{family_code, family_eq}, declared.address.Family.{Family, TheVariants.{V4, V6}}}
 use Rattle.cni_addr.specs.declared.range.Range.{Range}
 use Rattle.ip_pool.specs.Pool.{is_apart, are_apart}
@@ -134,10 +135,6 @@ apart-neither r s p q =
       | inr six ↦ grind (arith, nat_tests, six, q)
     ])
 
-list_all-of_each : {X : Type 0} (p : X → Bool) (xs : List X) → ((x : X) → p x ≡ true) → list_all p xs ≡ true
-list_all-of_each p [] each = refl
-list_all-of_each p (x ∷ xs) each = rw (each x) (list_all-of_each p xs each)
-
 -- a test that the others pass is to be made of those alone
 list_all-of_those : {X : Type 0} (p q : X → Bool) (xs : List X) → ((x : X) → q x ≡ false → p x ≡ true)
     → list_all p xs ≡ list_all p (filter q xs)
@@ -180,7 +177,7 @@ apart-by_family (r ∷ rs) =
             rw (not_four, six) (ap₂ (λ a b. a && b) here later
             ∙ regroup_second (list_all (is_apart r) sixes) (are_apart fours) (are_apart sixes))
         | inr not_six ↦
-            let here = list_all-of_each (is_apart r) rs (λ s. apart-neither r s not_four not_six) in
+            let here = list_all-always (is_apart r) (λ s. apart-neither r s not_four not_six) rs in
             rw (not_four, not_six, here) later
       ]
     ]

@@ -5,7 +5,7 @@ use Rattle.std.proofs.lemmas.{Bool.Decides.nat_tests, List.{append_assoc, get_or
 use Rattle.std.specs.{List.list_any, Prelude.{filter, map, ◌&&◌, ◌==◌, if◌then◌else◌, is_some}}
 use Rattle.object_tables.specs.Places.{first_of, rows_of, row_at, passes, emptied, emptied_at, places_from}
 use Rattle.object_tables.specs.Places.{places_where, passing}
-use Rattle.object_tables.proofs.Places.{any-first, filter-later, places_from-later}
+use Rattle.object_tables.proofs.{Candidates.{passing-set, places_from-set}, Places.any-first}
 
 emptied-fails : {T : Type 0} (t : T → Bool) (o : Option T) → passes t (emptied t o) ≡ false
 emptied-fails t None = refl
@@ -14,35 +14,6 @@ emptied-fails t (Some x) = by (t x) refl
     by : (b : Bool) → t x ≡ b → passes t (if b then None else Some x) ≡ false
     by true e = refl
     by false e = e
-
--- a place takes what doesn't pass
-places_from-set : {T : Type 0} (t : T → Bool) (n i : ℕ) (o : Option T) → passes t o ≡ false → (xs : List (Option T))
-    → places_from t n (set xs i o) ≡ filter (λ q. not (q == n + i)) (places_from t n xs)
-places_from-set t n i o fails [] = refl
-places_from-set t n zero o fails (x ∷ xs) =
-    let z : n + 0 ≡ n = omega arith in
-    let more : n < n + 1 = omega arith in
-    let same : (n == n) ≡ true = grind (arith, nat_tests) in
-    rw z (grind (arith, fails, filter-later n (places_from t (n + 1) xs) (places_from-later t n (n + 1) more xs), same))
-places_from-set t n (suc i) o fails (x ∷ xs) =
-    let e : n + suc i ≡ n + 1 + i = omega arith in
-    let other : (n == n + 1 + i) ≡ false = grind (arith, nat_tests) in
-    rw e (grind (arith, places_from-set t (n + 1) i o fails xs, other))
-
-row_at-set : {T : Type 0} (t : T → Bool) (o : Option T) → passes t o ≡ false → (xs : List (Option T)) (i q : ℕ)
-    → passes t (row_at (set xs i o) q) ≡ (passes t (row_at xs q) && not (q == i))
-row_at-set t o fails [] i q = refl
-row_at-set t o fails (x ∷ xs) zero zero = grind (arith, fails)
-row_at-set t o fails (x ∷ xs) zero (suc q) = grind (arith, nat_tests)
-row_at-set t o fails (x ∷ xs) (suc i) zero = grind (arith, nat_tests)
-row_at-set t o fails (x ∷ xs) (suc i) (suc q) =
-    let e : (suc q == suc i) ≡ (q == i) = grind (arith, nat_tests) in
-    grind (arith, row_at-set t o fails xs i q, e)
-
-passing-set : {T : Type 0} (t : T → Bool) (xs : List (Option T)) (i : ℕ) (o : Option T) → passes t o ≡ false
-    → (cs : List ℕ) → passing t (set xs i o) cs ≡ filter (λ q. not (q == i)) (passing t xs cs)
-passing-set t xs i o fails [] = refl
-passing-set t xs i o fails (c ∷ cs) = grind (arith, passing-set t xs i o fails cs, row_at-set t o fails xs i c)
 
 filter-gone : (c : ℕ) (b : Bool) (ps : List ℕ)
     → filter (λ q. not (q == c)) (if b then c ∷ ps else ps) ≡ filter (λ q. not (q == c)) ps

@@ -6,14 +6,15 @@ use Rattle.std.proofs.lemmas.Slice.Eq.{bytes_eq-Decides}
 use Rattle.std.specs.{Cmp.Lexicographic.nat_list_eq_equiv, List.list_any, Option.{option_copied, option_map_or}}
 use Rattle.std.specs.{Prelude.{find, unwrap_or}, Str.bytes_eq}
 use Rattle.cni_addr.specs.{Equal.addr_eq, Lists.{distinct, without_first}, declared.address.Addr.Addr}
+use Rattle.cni_addr.proofs.Lists.{list_any-found, none-later}
 use Rattle.indexmap.specs.IndexMap.{IndexMap}
 use Rattle.ip_pool.specs.{AddrSets.AddrSet, NextAddress.is_taken}
 use Rattle.ip_pool.proofs.Addresses.{same-address, addr_eq-itself}
 use Rattle.kernel_types.specs.{Keys.is_same_lease, Sound.HasDistinctKeys, Terms.{addresses_in, is_lease_at}}
 use Rattle.kernel_types.specs.declared.object.Lease.{Lease}
-use Rattle.kernel_types.proofs.ListLemmas.{list_any-map_filter, list_any-none}
+use Rattle.kernel_types.proofs.ListLemmas.{list_any-map_filter}
 use Rattle.object_tables.specs.Leased.{kept_for, AreLeased}
-use Rattle.object_tables.proofs.{KeysOnce.none-earlier, Places.not_passing}
+use Rattle.object_tables.proofs.{KeysOnce.none-earlier, Lists.not_passing}
 
 -- the set that is kept, or the empty one
 pub kept-chosen : (o : Option (Bor AddrSet)) (none : Bor AddrSet) → none.now.addresses ≡ []
@@ -23,21 +24,8 @@ kept-chosen (Some set) none h = refl
 
 -- ---- one goes
 
-found-step : {X : Type 0} (own t : X → Bool) (x l : X) (xs : List X) → (find own xs ≡ Some l → list_any t xs ≡ true)
-    → t l ≡ true → (b : Bool) → own x ≡ b → cond b (Some x) (find own xs) ≡ Some l → list_any t (x ∷ xs) ≡ true
-found-step own t x l xs later h true e f = let is : x ≡ l = cc in grind (arith, ap t is ∙ h)
-found-step own t x l xs later h false e f = grind (arith, later f)
-
-found-any : {X : Type 0} (own t : X → Bool) (xs : List X) (l : X) → find own xs ≡ Some l → t l ≡ true
-    → list_any t xs ≡ true
-found-any own t [] l f h = cc
-found-any own t (x ∷ xs) l f h = found-step own t x l xs (λ g. found-any own t xs l g h) h (own x) refl f
-
 module _ {X : Type 0} (same : X → X → Bool) (own p : X → Bool)
     (key : (x y : X) → p x ≡ true → p y ≡ true → same x y ≡ true) where
-  none-later : (x : X) (xs : List X) → distinct same (x ∷ xs) ≡ true → p x ≡ true → list_any p xs ≡ false
-  none-later x xs d h = list_any-none p (same x) (λ y i. key x y h i) xs (grind (arith, d))
-
   left-step : (x l : X) (xs : List X) → distinct same (x ∷ xs) ≡ true
       → (find own xs ≡ Some l → list_any p (without_first own xs) ≡ (list_any p xs && not (p l)))
       → (b : Bool) → own x ≡ b → cond b (Some x) (find own xs) ≡ Some l
@@ -46,12 +34,14 @@ module _ {X : Type 0} (same : X → X → Bool) (own p : X → Bool)
       let is : x ≡ l = cc in subst (λ m. list_any p xs ≡ (list_any p (x ∷ xs) && not (p m))) is (gone (p x) refl)
     where
       gone : (b : Bool) → p x ≡ b → list_any p xs ≡ ((b || list_any p xs) && not b)
-      gone true h = none-later x xs d h
+      gone true h = none-later same p key x xs d h
       gone false h = grind arith
   left-step x l xs d later false e f = stays (p x) refl
     where
       stays : (b : Bool) → p x ≡ b → (b || list_any p (without_first own xs)) ≡ ((b || list_any p xs) && not (p l))
-      stays true h = sym (ap not (not_passing (p l) (list_any p xs) (found-any own p xs l f) (none-later x xs d h)))
+      stays true h =
+          let none = none-later same p key x xs d h in
+          sym (ap not (not_passing (p l) (list_any p xs) (list_any-found own p xs l f) none))
       stays false h = later f
 
   pub any-left : (xs : List X) (l : X) → distinct same xs ≡ true → find own xs ≡ Some l

@@ -1,6 +1,8 @@
 pub mod Kept
 pub mod KeysOnce
+pub mod Lists
+pub mod Noted
 pub mod Places
 mod Along
-mod Noted
+mod Candidates
 mod Owners

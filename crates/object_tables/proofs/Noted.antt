@@ -1,15 +1,16 @@
 -- What the indexes of a table find when a row comes.
 use Rattle.std.proofs.Common.{◌≡◌, ℕ, Bool, true, false, cond, ap, List, [], ◌∷◌, ◌++◌, Option, Some, None, inl, inr}
-use Rattle.std.proofs.{Common.{true≢false, refl, sym, ◌∙◌, length, arith}, lemmas.List.Elements.filter_agree}
+use Rattle.std.proofs.{Common.{true≢false, refl, sym, ◌∙◌, length, arith}, lemmas.Bool.not-true}
+use Rattle.std.proofs.lemmas.List.Elements.{filter_agree}
 use Rattle.std.specs.{Cmp.IsEquivalence, List.{list_any, list_all}, Map.lookup, Option.{option_map_or, option_to_list}}
-use Rattle.std.specs.{Prelude.{◌&&◌, ◌||◌, if◌then◌else◌, is_some, nat_lt, not}, VecDeque.deque_items}
+use Rattle.std.specs.{Prelude.{◌&&◌, if◌then◌else◌, nat_lt, not}, VecDeque.deque_items}
 use Rattle.std.specs.declared.collections.VecDeque.{VecDeque}
-use Rattle.indexmap.specs.IndexMap.{IndexMap, get}
 use Rattle.cni_addr.proofs.Lists.{list_any-same_test}
-use Rattle.object_tables.specs.{Places.{first_of, rows_of, row_at, passes, passing}, Table.{is_key, is_noted, has_key}}
+use Rattle.indexmap.specs.IndexMap.{IndexMap, get}
+use Rattle.object_tables.specs.{Places.{rows_of, row_at, passes, passing}, Table.{is_key, is_noted, has_key}}
 use Rattle.object_tables.specs.{Table.{has_same_key, place_of, AreTrails, IsIndex}, Trails.trail_of}
-use Rattle.object_tables.proofs.Places.{any-first, Finds-kept, Finds-keyed, Finds-trailed, Finds-trimmed, Trims}
-use Rattle.object_tables.proofs.Places.{rows_of-push_none}
+use Rattle.object_tables.proofs.{Along.any-along, Candidates.{Finds-kept, Finds-keyed, Finds-trailed, Finds-trimmed}}
+use Rattle.object_tables.proofs.{Candidates.Trims, Places.rows_of-push_none}
 
 is_key-same : {K : Type 0} (eq : K → K → Bool) → IsEquivalence eq → (own q : K) → eq own q ≡ true → (key : Option K)
     → is_key eq key q ≡ is_key eq key own
@@ -26,24 +27,9 @@ absent-keys eq laws key_of rows (Some own) absent q is =
     (λ row. is_key-same eq laws own q is (key_of row)) rows
     ∙ absent own refl
 
-any-false : {T : Type 0} (rows : List T) → list_any (λ r. false) rows ≡ false
+pub any-false : {T : Type 0} (rows : List T) → list_any (λ r. false) rows ≡ false
 any-false [] = refl
 any-false (row ∷ rows) = any-false rows
-
-any-passing : {T : Type 0} (t : T → Bool) (places : List (Option T)) (cs : List ℕ)
-    → list_any (λ p. passes t (row_at places p)) cs ≡ is_some (first_of (passing t places cs))
-any-passing t places [] = refl
-any-passing t places (c ∷ cs) = by (passes t (row_at places c)) (any-passing t places cs)
-  where
-    by : (b : Bool) → list_any (λ p. passes t (row_at places p)) cs ≡ is_some (first_of (passing t places cs))
-        → (b || list_any (λ p. passes t (row_at places p)) cs)
-        ≡ is_some (first_of (if b then c ∷ passing t places cs else passing t places cs))
-    by true rest = refl
-    by false rest = rest
-
-not-true : (b : Bool) → not b ≡ true → b ≡ false
-not-true true h = absurd (true≢false (sym h))
-not-true false h = refl
 
 pub no_row : {K T : Type 0} (eq : K → K → Bool) (key_of : T → Option K) (row : T) (q : K)
     → passes (has_key eq key_of q) None ≡ true → is_key eq (key_of row) q ≡ true
@@ -84,8 +70,7 @@ module _ {K T S : Type 0} (eq : K → K → Bool) (key_of : T → Option K) (pla
   any-noted own =
       let t = has_key eq key_of own in
       let kept : IsIndex eq key_of (places ++ None ∷ []) index = Finds-kept None f (λ q. refl) (λ q. refl) in
-      any-passing t (places ++ None ∷ []) (place_of eq index own)
-      ∙ any-first t (places ++ None ∷ []) _ (sym (kept.exact own))
+      any-along t (places ++ None ∷ []) (place_of eq index own) (kept.exact own)
       ∙ ap (list_any t) (rows_of-push_none places)
 
   any-same : (k : Option K) → is_noted eq key_of (places ++ None ∷ []) index k

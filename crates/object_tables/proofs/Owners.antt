@@ -4,7 +4,7 @@ use Rattle.std.proofs.{Common.{sym, ◌∙◌, length, get_or, take}, lemmas.{Gr
 use Rattle.std.proofs.lemmas.List.{get_or_at, length-append, take_more, Elements.filter_map-append}
 use Rattle.std.specs.{List.filter_map, Option.option_to_list, Prelude.{filter, fold, if◌then◌else◌}}
 use Rattle.cni_addr.specs.Lists.{push_unless_there}
-use Rattle.object_tables.specs.Places.{passes, places_from, places_where, row_at, rows_at, rows_of}
+use Rattle.object_tables.specs.Places.{places_from, places_where, row_at, rows_at, rows_of}
 
 one_row : {T : Type 0} (places : List (Option T)) (p : ℕ) → rows_at places (p ∷ []) ≡ option_to_list (row_at places p)
 one_row places p = by (row_at places p) refl

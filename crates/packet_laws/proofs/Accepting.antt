@@ -5,14 +5,16 @@ use Rattle.packet_laws.proofs.Names.{Addr, Cached, IpEntry, addresses_of_result,
 use Rattle.packet_laws.proofs.Names.{addr_eq, chain_eq, Att, Host, Tag, Outside, Base, Own, Rule, NetList, any_match}
 use Rattle.packet_laws.proofs.Names.{fate_of, matches, matches_in, IsPacket, Packet, list_named, Plan, given_by_list}
 use Rattle.std.proofs.lemmas.Bool.{or_left, or_right}
+use Rattle.cni_addr.proofs.Lists.{any-among}
 use Rattle.kernel_types.specs.declared.rule.Chain.TheVariants as chains
 use Rattle.packet_laws.specs.{Complete.IsAttached, Packets.{has_address, has_firewall, has_ip_masq, is_firewall}}
 use Rattle.packet_laws.specs.Packets.{lets_through}
-use Rattle.packet_laws.proofs.{Equal.{addr-same, chain-same, equal-addr}, Lists.{among-any, among-map, any-among}}
-use Rattle.packet_laws.proofs.{Lists.map-among, Matching.{from-matches, replies-matches}, Settled.IsSettled}
-use Rattle.packet_laws.proofs.{Settled.{cached-object, keeper, rule-of}, WantedRules.{forward-wanted, wanted-forward}}
-use Rattle.packet_laws.proofs.Ways.{IsOnItsWay, accepted-moved, moved, on_its_way, one-moved}
+use Rattle.packet_laws.proofs.{Equal.{chain-same, equal-addr}, Lists.{among-map, some-among, map-among}}
+use Rattle.packet_laws.proofs.{Matching.{from-matches, replies-matches}, Settled.{IsSettled, cached-object, keeper}}
+use Rattle.packet_laws.proofs.{Settled.rule-of, WantedRules.{forward-wanted, wanted-forward}, Ways.IsOnItsWay}
+use Rattle.packet_laws.proofs.Ways.{accepted-moved, moved, on_its_way, one-moved}
 use Rattle.std.specs.Cmp.Derive.{one_truth}
+use Rattle.ip_pool.proofs.Addresses.{same-address}
 
 -- ---- an accepted packet has an attachment that lets it through
 
@@ -26,7 +28,7 @@ has-firewall p att t list tag listed is =
 has-address : (cached : Cached) (ip : IpEntry) (addr : Addr) → IsAmong ip cached.result.ips → ip.address.addr ≡ addr
     → has_address cached addr ≡ true
 has-address cached ip addr at is =
-    among-any (addr_eq addr) ip.address.addr (addresses_of_result cached.result)
+    any-among (addr_eq addr) ip.address.addr (addresses_of_result cached.result)
     (map-among (λ (i : IpEntry). i.address.addr) ip cached.result.ips at) (equal-addr addr ip.address.addr (sym is))
 
 -- the address of the rule is the packet's source, or its destination where it is established
@@ -40,9 +42,9 @@ matched-address att ip packet q r one way is (inl replies) =
     (sym (replies-matches att ip.address.addr q)
     ∙ subst (λ x. matches_in chains.Forward q x ≡ true) replies is) in
     let established : packet.established ≡ true = sym way.established ∙ by.1 in
-    inr (established, addr-same ip.address.addr q.dst by.0 ∙ ap (λ (x : Packet). x.dst) (way.stands established))
+    inr (established, same-address ip.address.addr q.dst by.0 ∙ ap (λ (x : Packet). x.dst) (way.stands established))
 matched-address att ip packet q r one way is (inr from) =
-    inl (addr-same ip.address.addr q.src
+    inl (same-address ip.address.addr q.src
     (sym (from-matches att ip.address.addr q one) ∙ subst (λ x. matches_in chains.Forward q x ≡ true) from is)
     ∙ way.src)
 
@@ -58,7 +60,7 @@ lets-by cached ip packet at (inr dst) =
 accepted-let : (p : Plan) (host : Host) → IsSettled p host → (packet q : Packet) → IsPacket q → IsOnItsWay packet q
     → any_match chains.Forward host.rules q ≡ true → list_any (lets_through p packet) host.cached ≡ true
 accepted-let p host s packet q one way is =
-    let found = any-among (matches_in chains.Forward q) host.rules is in
+    let found = some-among (matches_in chains.Forward q) host.rules is in
     let r = found.0 in
     let of = rule-of p host s r found.1 in
     let a = of.attached in
@@ -71,7 +73,7 @@ accepted-let p host s packet q one way is =
     let lets =
     lets-by a.cached by.1.ip packet by.1.there
     (matched-address of.att by.1.ip packet q r one way found.2 by.1.is) in
-    among-any (lets_through p packet) object.0 host.cached object.1
+    any-among (lets_through p packet) object.0 host.cached object.1
     (and_from (has_firewall p object.0.tag) _ (has-firewall p of.att object.0.tag a.list object.2 a.is.listed by.0)
     (ap (λ (x : Cached). has_address x packet.src || (packet.established && has_address x packet.dst)) object.3
     ∙ lets))
@@ -99,9 +101,9 @@ firewall-of p (Own att) is = firewall-listed p att (list_named p.lists att.netwo
 ip-of : (cached : Cached) (addr : Addr) → has_address cached addr ≡ true
     → (ip : IpEntry) × IsAmong ip cached.result.ips × (ip.address.addr ≡ addr)
 ip-of cached addr is =
-    let found = any-among (addr_eq addr) (addresses_of_result cached.result) is in
+    let found = some-among (addr_eq addr) (addresses_of_result cached.result) is in
     let of = among-map (λ (i : IpEntry). i.address.addr) found.0 cached.result.ips found.1 in
-    (of.0, of.1, sym of.2 ∙ sym (addr-same addr found.0 found.2))
+    (of.0, of.1, sym of.2 ∙ sym (same-address addr found.0 found.2))
 
 either-let : (a e d : Bool) → (a || (e && d)) ≡ true → (a ≡ true) ⊎ ((e ≡ true) × (d ≡ true))
 either-let true e d h = inl refl
@@ -131,13 +133,13 @@ let-rule p host s packet q one way att list cached attached is lets =
           let ip = ip-of cached packet.src src in
           let is_src : addr_eq ip.0.address.addr q.src ≡ true =
           equal-addr ip.0.address.addr q.src (ip.2 ∙ sym way.src) in
-          among-any (matches_in chains.Forward q) (accept_from att ip.0.address.addr) host.rules (there ip.0 ip.1).0
+          any-among (matches_in chains.Forward q) (accept_from att ip.0.address.addr) host.rules (there ip.0 ip.1).0
           (from-matches att ip.0.address.addr q one ∙ is_src)
       | inr dst ↦
           let ip = ip-of cached packet.dst dst.1 in
           let is_dst : addr_eq ip.0.address.addr q.dst ≡ true =
           equal-addr ip.0.address.addr q.dst (ip.2 ∙ sym (ap (λ (x : Packet). x.dst) (way.stands dst.0))) in
-          among-any (matches_in chains.Forward q) (accept_replies_to att ip.0.address.addr) host.rules
+          any-among (matches_in chains.Forward q) (accept_replies_to att ip.0.address.addr) host.rules
           (there ip.0 ip.1).1
           (replies-matches att ip.0.address.addr q
           ∙ and_from (addr_eq ip.0.address.addr q.dst) q.established is_dst (way.established ∙ dst.0))
@@ -146,7 +148,7 @@ let-rule p host s packet q one way att list cached attached is lets =
 let-accepted : (p : Plan) (host : Host) → IsSettled p host → (packet q : Packet) → IsPacket q → IsOnItsWay packet q
     → list_any (lets_through p packet) host.cached ≡ true → any_match chains.Forward host.rules q ≡ true
 let-accepted p host s packet q one way is =
-    let found = any-among (lets_through p packet) host.cached is in
+    let found = some-among (lets_through p packet) host.cached is in
     let c = found.0 in
     let parts =
     and_parts (has_firewall p c.tag)

@@ -1,11 +1,10 @@
 -- Rules and leases are the same by the test only where they are equal.
 use Rattle.packet_laws.proofs.Names.{◌≡◌, ℕ, Bool, true, List, Option, Some, None, refl, sym, ◌∙◌, ap, nat_eq, arith}
-use Rattle.packet_laws.proofs.Names.{and_parts, each_key_once, Addr, Cidr, Family, family_eq-true, addr_eq, chain_eq}
-use Rattle.packet_laws.proofs.Names.{family_eq, lease_eq, proto_eq, rule_eq, Lease, Tag, Chain, Rule, Target}
+use Rattle.packet_laws.proofs.Names.{and_parts, each_key_once, Addr, addr_eq, chain_eq, lease_eq, proto_eq, rule_eq}
+use Rattle.packet_laws.proofs.Names.{Lease, Tag, Chain, Rule, Target}
 use Rattle.std.proofs.{Common.eqb-true, lemmas.Slice.Eq.bytes_eq-Decides}
 use Rattle.std.specs.{Cmp.{booleans_Decides, partial_equiv_from_equiv}, Option.option_eq}
 use Rattle.cni_addr.specs.KeyLaws.{HasFirstOfEachKey}
-use Rattle.cni_addr.specs.declared.address.Family.TheVariants as families
 use Rattle.cni_addr.proofs.KeyLists.{each_key_once-first_of_each}
 use Rattle.cni_result.specs.declared.cached.Proto.{Proto}
 use Rattle.cni_result.specs.declared.cached.Proto.TheVariants as protos
@@ -13,15 +12,12 @@ use Rattle.kernel_types.specs.{Equal.{cidr_eq, table_eq, target_eq}, declared.ru
 use Rattle.kernel_types.specs.declared.rule.Chain.TheVariants as chains
 use Rattle.kernel_types.specs.declared.rule.Table.TheVariants as tables
 use Rattle.kernel_types.specs.declared.rule.Target.TheVariants as targets
-use Rattle.kernel_types.proofs.Isolation.{tag_eq-same}
+use Rattle.kernel_types.proofs.{Isolation.tag_eq-same, ToldByKeys.cidr-equal}
 use Rattle.plugin_base.specs.KeyLaws.{rule_key-laws}
 use Rattle.packet_laws.proofs.Lists.{IsSame}
+use Rattle.ip_pool.proofs.Addresses.{addr_eq-itself, same-address}
 
 -- ---- what has a number
-
-pub family-itself : (f : Family) → family_eq f f ≡ true
-family-itself families.V4 = refl
-family-itself families.V6 = refl
 
 proto-same : (p q : Proto) → proto_eq p q ≡ true → p ≡ q
 proto-same protos.Tcp protos.Tcp h = refl
@@ -59,32 +55,15 @@ option-same same w None (Some y) h = cc
 option-same same w (Some x) None h = cc
 option-same same w (Some x) (Some y) h = ap Some (w x y h)
 
-pub addr-same : (a b : Addr) → addr_eq a b ≡ true → a ≡ b
-addr-same a b h =
-    let parts = and_parts (family_eq a.family b.family) (nat_eq a.bits b.bits) h in
-    let family = family_eq-true a.family b.family parts.0 in
-    let bits = eqb-true a.bits b.bits parts.1 in
-    λ i. record { family = family i; bits = bits i }
-
-pub addr-itself : (a : Addr) → addr_eq a a ≡ true
-addr-itself a = grind (arith, family-itself a.family)
-
 pub equal-addr : (a b : Addr) → a ≡ b → addr_eq a b ≡ true
-equal-addr a b e = ap (addr_eq a) (sym e) ∙ addr-itself a
-
-cidr-same : (c d : Cidr) → cidr_eq c d ≡ true → c ≡ d
-cidr-same c d h =
-    let parts = and_parts (addr_eq c.addr d.addr) (nat_eq c.prefix d.prefix) h in
-    let addr = addr-same c.addr d.addr parts.0 in
-    let prefix = eqb-true c.prefix d.prefix parts.1 in
-    λ i. record { addr = addr i; prefix = prefix i }
+equal-addr a b e = ap (addr_eq a) (sym e) ∙ addr_eq-itself a
 
 target-same : (t u : Target) → target_eq t u ≡ true → t ≡ u
 target-same targets.Accept targets.Accept h = refl
 target-same targets.Masquerade targets.Masquerade h = refl
 target-same (targets.Dnat a p) (targets.Dnat b q) h =
     let parts = and_parts (addr_eq a b) (nat_eq p q) h in
-    let addr = addr-same a b parts.0 in
+    let addr = same-address a b parts.0 in
     let port = eqb-true p q parts.1 in
     λ i. targets.Dnat (addr i) (port i)
 target-same targets.Accept u h = cc
@@ -106,8 +85,8 @@ rule-equal a b h0 =
     let h9 = and_parts _ _ h8.1 in
     let table = table-same a.table b.table h1.0 in
     let chain = chain-same a.chain b.chain h2.0 in
-    let src = option-same cidr_eq cidr-same a.src b.src h3.0 in
-    let dst = option-same cidr_eq cidr-same a.dst b.dst h4.0 in
+    let src = option-same cidr_eq cidr-equal a.src b.src h3.0 in
+    let dst = option-same cidr_eq cidr-equal a.dst b.dst h4.0 in
     let not_dst = (booleans_Decides a.not_dst b.not_dst).0 h5.0 in
     let protocol = option-same proto_eq proto-same a.protocol b.protocol h6.0 in
     let dport = option-same nat_eq eqb-true a.dport b.dport h7.0 in
@@ -144,6 +123,6 @@ lease_of_parts n m a b t u en ea et = cc
 pub lease-equal : (a b : Lease) → lease_eq a b ≡ true → a ≡ b
 lease-equal a b h =
     let network : a.network ≡ b.network = (bytes_eq-Decides a.network b.network).0 (grind (arith, h)) in
-    let addr : a.addr ≡ b.addr = addr-same a.addr b.addr (grind (arith, h)) in
+    let addr : a.addr ≡ b.addr = same-address a.addr b.addr (grind (arith, h)) in
     let tag : a.tag ≡ b.tag = tag_eq-same a.tag b.tag (grind (arith, h)) in
     lease_of_parts a.network b.network a.addr b.addr a.tag b.tag network addr tag

@@ -2,23 +2,21 @@
 use Rattle.packet_laws.proofs.Names.{◌≡◌, ℕ, Bool, true, false, List, [], ◌∷◌, ◌++◌, Option, Some, None, refl, sym, ◌∙◌}
 use Rattle.packet_laws.proofs.Names.{ap, subst, inl, inr, append-nil, same_Some, list_any, if◌then◌else◌, IsAmong, Addr}
 use Rattle.packet_laws.proofs.Names.{Cached, PortMapping, takes_mappings, addresses_of_result, AreCandidates, lease_eq}
-use Rattle.packet_laws.proofs.Names.{rule_eq, cached_in, is_own, Att, CachedObj, Own, own-own, Chained, NetList}
-use Rattle.packet_laws.proofs.Names.{share_of, given_by_list, sets_of, list_named, host_of, Plan, IsPart, are_in}
+use Rattle.packet_laws.proofs.Names.{rule_eq, cached_in, is_own, Att, CachedObj, Own, own-own, NetList, share_of}
+use Rattle.packet_laws.proofs.Names.{given_by_list, sets_of, list_named, host_of, Plan, IsPart, are_in}
 use Rattle.packet_laws.proofs.Names.{EveryLegalHistoryIsGuaranteed, among-part}
 use Rattle.std.specs.Prelude.{is_some}
-use Rattle.cni_result.specs.declared.result.AddResult.{AddResult}
+use Rattle.cni_addr.proofs.Lists.{all-among}
 use Rattle.cni_errors.specs.CommandFields.{att_of}
 use Rattle.cni_verbs.specs.{Mappings.mappings_of, Script.leases_in}
-use Rattle.plugin_chain.specs.Wanted.{all_chained_results, cached_of, chained_result, first_plugin_result}
-use Rattle.plugin_chain.specs.Wanted.{result_of_add, wanted}
-use Rattle.plugin_chain.proofs.GivenAddresses.{chained-ips}
+use Rattle.plugin_chain.specs.Wanted.{cached_of, first_plugin_result, result_of_add, wanted}
+use Rattle.plugin_chain.proofs.GivenAddresses.{all_chained-ips}
 use Rattle.pod_file.specs.declared.command.Command.{Command}
 use Rattle.pod_workers.specs.{Legal.Legal, World.{World, after, replies_of}, declared.plan.Entry.Entry}
 use Rattle.pod_laws.specs.{CachedResults.IsResultOfItsAdd, Guaranteed.IsWellKept}
 use Rattle.packet_laws.specs.{Complete.{IsAttached, IsComplete, wanted_of}, Packets.has_ip_masq}
-use Rattle.packet_laws.proofs.{Equal.{lease-equal, rule-equal}, Lists.{all-among, any-among, filter-among}}
-use Rattle.packet_laws.proofs.{Settled.{IsSettled, IsSettledFor, rules_for}, WantedRules.{chained_rules, first-rules}}
-use Rattle.packet_laws.proofs.WantedRules.{rules_by}
+use Rattle.packet_laws.proofs.{Equal.{lease-equal, rule-equal}, Lists.{some-among, filter-among}, Settled.IsSettled}
+use Rattle.packet_laws.proofs.{Settled.{IsSettledFor, rules_for}, WantedRules.{chained_rules, first-rules, rules_by}}
 use Rattle.pod_workers.proofs.Hosts.GoesWell.{list_named-listed}
 
 -- ---- what is asked for is what the cached result wants
@@ -26,12 +24,8 @@ use Rattle.pod_workers.proofs.Hosts.GoesWell.{list_named-listed}
 are_in-among : {X : Type 0} (same : X → X → Bool) → ((x y : X) → same x y ≡ true → x ≡ y) → (objects all : List X)
     → are_in same objects all ≡ true → (x : X) → IsAmong x objects → IsAmong x all
 are_in-among same equal objects all is x at =
-    let found = any-among (λ y. same y x) all (all-among (λ z. list_any (λ y. same y z) all) x objects is at) in
+    let found = some-among (λ y. same y x) all (all-among (λ z. list_any (λ y. same y z) all) x objects at is) in
     subst (λ y. IsAmong y all) (equal found.0 x found.2) found.1
-
-all_chained-ips : (cs : List Chained) (r : AddResult) → (all_chained_results cs r).ips ≡ r.ips
-all_chained-ips [] r = refl
-all_chained-ips (c ∷ cs) r = all_chained-ips cs (chained_result c r) ∙ chained-ips c r
 
 added-ips : (list : NetList) (att : Att) (netns : List ℕ) (addrs : List Addr)
     → (result_of_add list att netns addrs).ips ≡ (first_plugin_result list att netns addrs).ips

@@ -1,27 +1,15 @@
 -- Lists: where an element stands, what is found first, and lists in which no two elements are the same.
 use Rattle.packet_laws.proofs.Names.{◌≡◌, ◌⊎◌, Bool, true, false, List, [], ◌∷◌, ◌++◌, map, Option, Some, None, refl}
-use Rattle.packet_laws.proofs.Names.{sym, ◌∙◌, ap, subst, inl, inr, arith, and_parts, both_ways, none-some, same_Some}
-use Rattle.packet_laws.proofs.Names.{list_all, list_any, filter, find, flat_map, if◌then◌else◌, IsAmong, distinct}
-use Rattle.packet_laws.proofs.Names.{each_key_once, IsPart, among-part}
+use Rattle.packet_laws.proofs.Names.{sym, ◌∙◌, ap, subst, inl, inr, arith, both_ways, none-some, same_Some, list_any}
+use Rattle.packet_laws.proofs.Names.{filter, find, flat_map, if◌then◌else◌, IsAmong, distinct, each_key_once, IsPart}
+use Rattle.packet_laws.proofs.Names.{among-part}
 use Rattle.std.proofs.lemmas.{Bool.cases_Bool, List.Folds.find-append}
 use Rattle.std.specs.{Option.option_or, Prelude.fold}
+use Rattle.cni_addr.proofs.Lists.{any-among}
 use Rattle.cni_addr.specs.Lists.{push_unless_there}
+use Rattle.pod_laws.proofs.Added.Prefixes.{among-right}
 
 -- ---- an element that passes
-
-pub among-any : {X : Type 0} (p : X → Bool) (x : X) (xs : List X) → IsAmong x xs → p x ≡ true → list_any p xs ≡ true
-among-any p x [] at is = absurd at
-among-any p x (y ∷ ys) at is = elim at [
-  | inl here ↦ (let e = ap p here in grind (arith, is, e))
-  | inr later ↦ (let rest = among-any p x ys later is in grind (arith, rest))
-]
-
-pub all-among : {X : Type 0} (p : X → Bool) (x : X) (xs : List X) → list_all p xs ≡ true → IsAmong x xs → p x ≡ true
-all-among p x [] all at = absurd at
-all-among p x (y ∷ ys) all at = elim at [
-  | inl here ↦ ap p here ∙ (and_parts (p y) (list_all p ys) all).0
-  | inr later ↦ all-among p x ys (and_parts (p y) (list_all p ys) all).1 later
-]
 
 -- the first that passes
 pub record IsFirst {X : Type 0} (p : X → Bool) (xs : List X) (x : X) : Type 0 where
@@ -69,11 +57,12 @@ among-middle x (z ∷ zs) ys = inr (among-middle x zs ys)
 pub first-among : {X : Type 0} (p : X → Bool) (xs : List X) (x : X) → IsFirst p xs x → IsAmong x xs
 first-among p xs x f = subst (IsAmong x) (sym f.are) (among-middle x f.before f.after)
 
-pub any-among : {X : Type 0} (p : X → Bool) (xs : List X) → list_any p xs ≡ true → (x : X) × IsAmong x xs × (p x ≡ true)
-any-among p [] is = cc
-any-among p (y ∷ ys) is = elim (cases_Bool (p y)) [
+pub some-among : {X : Type 0} (p : X → Bool) (xs : List X) → list_any p xs ≡ true
+    → (x : X) × IsAmong x xs × (p x ≡ true)
+some-among p [] is = cc
+some-among p (y ∷ ys) is = elim (cases_Bool (p y)) [
   | inl here ↦ (y, inl refl, here)
-  | inr not ↦ (let rest = any-among p ys (grind (arith, is, not)) in (rest.0, inr rest.1, rest.2))
+  | inr not ↦ (let rest = some-among p ys (grind (arith, is, not)) in (rest.0, inr rest.1, rest.2))
 ]
 
 find-some_of : {X : Type 0} (p : X → Bool) (b : Bool) (y : X) (ys : List X)
@@ -90,10 +79,6 @@ any-found p (y ∷ ys) is = find-some_of p (p y) y ys (λ not. any-found p ys (g
 pub among-left : {X : Type 0} (x : X) (xs ys : List X) → IsAmong x xs → IsAmong x (xs ++ ys)
 among-left x [] ys at = absurd at
 among-left x (z ∷ zs) ys at = elim at [ inl here ↦ inl here | inr later ↦ inr (among-left x zs ys later) ]
-
-pub among-right : {X : Type 0} (x : X) (xs ys : List X) → IsAmong x ys → IsAmong x (xs ++ ys)
-among-right x [] ys at = at
-among-right x (z ∷ zs) ys at = inr (among-right x zs ys at)
 
 pub among-either : {X : Type 0} (x : X) (xs ys : List X) → IsAmong x (xs ++ ys) → IsAmong x xs ⊎ IsAmong x ys
 among-either x [] ys at = inr at
@@ -158,10 +143,6 @@ filter-among p x (y ∷ ys) at is = if-among (p y) x y (filter p ys) (elim at [
   | inr later ↦ inr (filter-among p x ys later is)
 ])
 
-pub filter-all : {X : Type 0} (p : X → Bool) (xs : List X) → list_all p xs ≡ true → filter p xs ≡ xs
-filter-all p [] all = refl
-filter-all p (x ∷ xs) all = grind (arith, all, filter-all p xs)
-
 -- the first that passes is kept where all that pass are
 find-kept : {X : Type 0} (p keep : X → Bool) (b c : Bool) (y : X) (ys : List X) → (b ≡ true → c ≡ true)
     → find p (filter keep ys) ≡ find p ys → p y ≡ b
@@ -186,11 +167,11 @@ pub record IsSame {X : Type 0} (same : X → X → Bool) : Type 0 where
 pub any-same : {X : Type 0} (same : X → X → Bool) → IsSame same → (x : X) (xs : List X) → list_any (same x) xs ≡ true
     → IsAmong x xs
 any-same same s x xs is =
-    let found = any-among (same x) xs is in subst (λ y. IsAmong y xs) (sym (s.equal x found.0 found.2)) found.1
+    let found = some-among (same x) xs is in subst (λ y. IsAmong y xs) (sym (s.equal x found.0 found.2)) found.1
 
 pub same-any : {X : Type 0} (same : X → X → Bool) → IsSame same → (x : X) (xs : List X) → IsAmong x xs
     → list_any (same x) xs ≡ true
-same-any same s x xs at = among-any (same x) x xs at (s.itself x)
+same-any same s x xs at = any-among (same x) x xs at (s.itself x)
 
 -- a part that has all of a list in which no two are the same is that list
 part-rest : {X : Type 0} (same : X → X → Bool) → IsSame same → (x y : X) (xs ys : List X) → x ≡ y
@@ -244,7 +225,7 @@ once-step : {X : Type 0} (p : X → Bool) (same : X → X → Bool) → IsSame s
     → list_any (same x) kept ≡ b
     → find p (if b then kept else kept ++ x ∷ []) ≡ option_or (find p kept) (if p x then Some x else None)
 once-step p same s true kept x there =
-    once-there p (p x) kept x (λ is. any-found p kept (among-any p x kept (any-same same s x kept there) is))
+    once-there p (p x) kept x (λ is. any-found p kept (any-among p x kept (any-same same s x kept there) is))
 once-step p same s false kept x none = find-append p kept (x ∷ [])
 
 once-kept : {X : Type 0} (p : X → Bool) (same : X → X → Bool) → IsSame same → (kept xs : List X)

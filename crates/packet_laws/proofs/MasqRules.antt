@@ -7,21 +7,21 @@ use Rattle.packet_laws.proofs.Names.{masquerade_out, masquerade_rules, multicast
 use Rattle.kernel_types.specs.declared.rule.Chain.TheVariants as chains
 use Rattle.packet_probe.specs.Fate.{masquerades}
 use Rattle.packet_laws.specs.Packets.{is_outward}
-use Rattle.packet_laws.proofs.{Equal.{addr-same, rule-same}, Lists.find-each_key_once, Matching.inner-matches}
-use Rattle.packet_laws.proofs.Matching.{outer-matches}
+use Rattle.packet_laws.proofs.{Equal.rule-same, Lists.find-each_key_once, Matching.{inner-matches, outer-matches}}
+use Rattle.ip_pool.proofs.Addresses.{same-address}
 
 -- ---- the two rules of one address match nothing from another
 
 pub inner-from : (att : Att) (g : Given) (q : Packet) → IsPacket q
     → matches_in chains.Masq q (no_masquerade_in_subnet att g) ≡ true → g.address.addr ≡ q.src
 inner-from att g q one h =
-    addr-same g.address.addr q.src
+    same-address g.address.addr q.src
     (and_parts (addr_eq g.address.addr q.src) (contains g.subnet q.dst) (sym (inner-matches att g q one) ∙ h)).0
 
 pub outer-from : (att : Att) (g : Given) (q : Packet) → IsPacket q
     → matches_in chains.Masq q (masquerade_out att g) ≡ true → g.address.addr ≡ q.src
 outer-from att g q one h =
-    addr-same g.address.addr q.src
+    same-address g.address.addr q.src
     (and_parts (addr_eq g.address.addr q.src) (not (contains (multicast g.address.addr.family) q.dst))
     (sym (outer-matches att g q one) ∙ h)).0
 
@@ -70,7 +70,7 @@ many-says att q (g ∷ gs) one many =
     says-more att q g gs one
     ∙ no-more (addr_eq g.address.addr q.src) (contains g.subnet q.dst)
     (contains (multicast g.address.addr.family) q.dst) (says (found_in att q gs))
-    (λ same. ap (λ (a : Addr). contains (multicast a.family) q.dst) (addr-same g.address.addr q.src same) ∙ many)
+    (λ same. ap (λ (a : Addr). contains (multicast a.family) q.dst) (same-address g.address.addr q.src same) ∙ many)
     (many-says att q gs one many)
 
 -- so where the packet comes from this address the rest says nothing more
@@ -102,7 +102,7 @@ says-source att q (g ∷ gs) one =
     ∙ decided same (contains g.subnet q.dst) (contains (multicast g.address.addr.family) q.dst)
     (says (found_in att q gs))
     (λ is many. many-says att q gs one
-    (ap (λ (a : Addr). contains (multicast a.family) q.dst) (sym (addr-same g.address.addr q.src is)) ∙ many))
+    (ap (λ (a : Addr). contains (multicast a.family) q.dst) (sym (same-address g.address.addr q.src is)) ∙ many))
     ∙ ap (λ rest. if same then is_outward g q.dst else rest) (says-source att q gs one)
     ∙ sym (source-by q same g (source_in q gs))
 

@@ -6,17 +6,19 @@ use Rattle.packet_laws.proofs.Names.{is_own, Given, Att, Host, Lease, Own, Rule,
 use Rattle.packet_laws.proofs.Names.{first_match, is_masqueraded, matches, matches_in, IsPacket, Fate, Packet}
 use Rattle.packet_laws.proofs.Names.{masquerade_of, masquerade_out, masquerade_rules, no_masquerade_in_subnet, share_of}
 use Rattle.packet_laws.proofs.Names.{given_by_list, sets_of, Plan, IsPart, among-part}
+use Rattle.cni_addr.proofs.Lists.{any-among}
 use Rattle.kernel_types.specs.Terms.{lease_of}
 use Rattle.kernel_types.specs.declared.rule.Chain.TheVariants as chains
 use Rattle.pod_laws.proofs.Parts.{part-drops}
 use Rattle.packet_laws.specs.{Complete.IsAttached, Packets.{IsMasqueradedAsListed, IsOnlyLessee, has_ip_masq}}
 use Rattle.packet_laws.specs.Packets.{is_outward}
-use Rattle.packet_laws.proofs.{Equal.{addr-itself, rule-same, rules_once}, Lists.{among-any, among-filter, among-map}}
-use Rattle.packet_laws.proofs.Lists.{any-found, filter-among, find-filter, map-among, part-whole}
-use Rattle.packet_laws.proofs.{MasqRules.{inner-from, outer-from, says, says-masq, source_in}, PluginRules.IsMasqRule}
-use Rattle.packet_laws.proofs.{PluginRules.{is_in, masq-rule}, Settled.{IsRuleOf, IsSettled, IsSettledFor, lessee}}
-use Rattle.packet_laws.proofs.{Settled.{rule-of, rules_for}, WantedRules.masq-wanted, Ways.{IsOnItsWay, dst-moved}}
-use Rattle.packet_laws.proofs.Ways.{masqueraded-moved, moved, on_its_way, one-moved}
+use Rattle.packet_laws.proofs.{Equal.{rule-same, rules_once}, Lists.{among-filter, among-map, any-found, filter-among}}
+use Rattle.packet_laws.proofs.{Lists.{find-filter, map-among, part-whole}, MasqRules.{inner-from, outer-from, says}}
+use Rattle.packet_laws.proofs.{MasqRules.{says-masq, source_in}, PluginRules.{IsMasqRule, is_in, masq-rule}}
+use Rattle.packet_laws.proofs.Settled.{IsRuleOf, IsSettled, IsSettledFor, lessee, rule-of, rules_for}
+use Rattle.packet_laws.proofs.{WantedRules.masq-wanted, Ways.{IsOnItsWay, dst-moved, masqueraded-moved, moved}}
+use Rattle.packet_laws.proofs.Ways.{on_its_way, one-moved}
+use Rattle.ip_pool.proofs.Addresses.{addr_eq-itself}
 
 -- ---- leases
 
@@ -69,7 +71,7 @@ leases-only host att other addr only at =
     let there =
     subst (IsAmong (lease_of other addr)) only
     (filter-among (λ (l : Lease). addr_eq l.addr addr) (lease_of other addr) host.leases at
-    (addr-itself addr)) in
+    (addr_eq-itself addr)) in
     elim there [ inl e ↦ ap (λ (l : Lease). l.tag) e | inr none ↦ absurd none ]
 
 -- ---- a rule of Masq that matches is the only lessee's
@@ -163,8 +165,8 @@ source-there : (q : Packet) (gs : List Given) (g : Given) → IsAmong g gs → g
     → (one : Given) × (source_in q gs ≡ Some one)
 source-there q gs g at is =
     any-found (λ (x : Given). addr_eq x.address.addr q.src) gs
-    (among-any (λ (x : Given). addr_eq x.address.addr q.src) g gs at
-    (ap (addr_eq g.address.addr) (sym is) ∙ addr-itself g.address.addr))
+    (any-among (λ (x : Given). addr_eq x.address.addr q.src) g gs at
+    (ap (addr_eq g.address.addr) (sym is) ∙ addr_eq-itself g.address.addr))
 
 -- of a packet that is this one on its way, and that no rule of a published port masquerades
 lessee-fate : CandidatesAreGiven → (p : Plan) (host : Host) → IsSettled p host → (packet q : Packet) (fate : Fate)

@@ -5,12 +5,13 @@ use Rattle.packet_laws.proofs.Names.{PortMapping, accept_from, accept_replies_to
 use Rattle.packet_laws.proofs.Names.{Att, asks, matches_in, IsPacket, Packet, masquerade_out, multicast}
 use Rattle.packet_laws.proofs.Names.{no_masquerade_in_subnet, dnat_of}
 use Rattle.cni_addr.specs.Network.{whole}
-use Rattle.cni_addr.proofs.Networks.{contains_between, contains_whole}
+use Rattle.cni_addr.proofs.Networks.{contains_between, contains_whole, family_eq-itself}
 use Rattle.kernel_types.specs.declared.rule.Chain.TheVariants as chains
 use Rattle.packet_probe.specs.Fate.{is_of_family, is_to}
 use Rattle.packet_laws.specs.Packets.{is_for}
-use Rattle.packet_laws.proofs.Equal.{addr-same, equal-addr, family-itself}
+use Rattle.packet_laws.proofs.Equal.{equal-addr}
 use Rattle.std.specs.Cmp.Derive.{one_truth}
+use Rattle.ip_pool.proofs.Addresses.{same-address}
 
 -- ---- one network
 
@@ -19,14 +20,14 @@ network-part : (c : Cidr) (a : Addr) (f : Family) → a.family ≡ f → (is_of_
 network-part c a f same =
     one_truth (is_of_family f c && contains c a) (contains c a) (λ h. (and_parts (is_of_family f c) (contains c a) h).1)
     (λ inside. and_from (is_of_family f c) (contains c a)
-    (ap (λ g. family_eq g f) (((contains_between c a).0 inside).0 ∙ same) ∙ family-itself f) inside)
+    (ap (λ g. family_eq g f) (((contains_between c a).0 inside).0 ∙ same) ∙ family_eq-itself f) inside)
 
 -- that of one address has no other
 whole-part : (a b : Addr) (f : Family) → b.family ≡ f → (is_of_family f (whole a) && contains (whole a) b) ≡ addr_eq a b
 whole-part a b f same =
     network-part (whole a) b f same
     ∙ one_truth (contains (whole a) b) (addr_eq a b) (λ inside. equal-addr a b ((contains_whole a b).0 inside))
-    (λ is. (contains_whole a b).1 (addr-same a b is))
+    (λ is. (contains_whole a b).1 (same-address a b is))
 
 -- ---- published ports
 
@@ -122,6 +123,6 @@ outer-matches att g q one =
     (λ same.
     let family =
     multicast-family g.address.addr.family
-    ∙ ap (λ (a : Addr). a.family) (addr-same g.address.addr q.src same)
+    ∙ ap (λ (a : Addr). a.family) (same-address g.address.addr q.src same)
     ∙ one.family in
-    ap (λ f. family_eq f q.dst.family) family ∙ family-itself q.dst.family)
+    ap (λ f. family_eq f q.dst.family) family ∙ family_eq-itself q.dst.family)

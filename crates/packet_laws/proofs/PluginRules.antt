@@ -11,8 +11,9 @@ use Rattle.net_conf.specs.declared.chained.PortmapConf.{PortmapConf}
 use Rattle.plugin_laws.proofs.Chains.{firewall-stand, masquerade-stand, of_bridge, of_firewall, of_portmap}
 use Rattle.plugin_laws.proofs.Chains.{portmap-stand}
 use Rattle.portmap.specs.Portmap.{from_host, mapping_rules, masquerades_of, rules_for}
-use Rattle.packet_laws.proofs.{Equal.{rule-same, rules_once}, Lists.{among-either, among-flat, among-left, among-right}}
-use Rattle.packet_laws.proofs.Lists.{any-same, flat-among, same-any}
+use Rattle.packet_laws.proofs.{Equal.{rule-same, rules_once}, Lists.{among-either, among-flat, among-left, any-same}}
+use Rattle.packet_laws.proofs.Lists.{flat-among, same-any}
+use Rattle.pod_laws.proofs.Added.Prefixes.{among-right}
 
 abbrev pub is_in : Chain → Rule → Bool
 is_in chain r = chain_eq r.chain chain

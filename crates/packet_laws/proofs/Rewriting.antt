@@ -5,13 +5,14 @@ use Rattle.packet_laws.proofs.Names.{option_and_then, option_map, option_map_or,
 use Rattle.packet_laws.proofs.Names.{family_eq-true, IpEntry, addresses_of_result, addr_eq, chain_eq, family_eq, Host}
 use Rattle.packet_laws.proofs.Names.{Rule, asks, fate_at, fate_of, first_match, matches, matches_in, sent_by, Fate}
 use Rattle.packet_laws.proofs.Names.{Packet, first_of_family, given_by_list, Plan, dnat_of, host_ip_allows}
+use Rattle.cni_addr.proofs.{Lists.any-among, Networks.family_eq-itself}
 use Rattle.kernel_types.specs.declared.rule.Chain.TheVariants as chains
 use Rattle.plugin_base.specs.Families.{is_of_family}
 use Rattle.packet_laws.specs.Packets.{IsPublished, IsRewrittenAsPublished, PublishedPort, has_ip_masq, is_for, left}
 use Rattle.packet_laws.specs.Packets.{rule_by, sent}
-use Rattle.packet_laws.proofs.{Equal.{addr-same, chain-same, family-itself}, Lists.{among-any, any-found, first-among}}
-use Rattle.packet_laws.proofs.{Lists.first-found, Matching.dnat-matches, Settled.{IsSettled, rule-of}}
-use Rattle.packet_laws.proofs.WantedRules.{dnat-wanted, wanted-dnat}
+use Rattle.packet_laws.proofs.{Equal.chain-same, Lists.{any-found, first-among, first-found}, Matching.dnat-matches}
+use Rattle.packet_laws.proofs.{Settled.{IsSettled, rule-of}, WantedRules.{dnat-wanted, wanted-dnat}}
+use Rattle.ip_pool.proofs.Addresses.{same-address}
 
 -- ---- the first address of a family
 
@@ -75,8 +76,8 @@ allowed-by : (packet : Packet) (o : Option Addr) (addr : Addr) → asks (λ ip. 
     → addr.family ≡ packet.dst.family → host_ip_allows o addr ≡ true
 allowed-by packet None addr fits family = refl
 allowed-by packet (Some ip) addr fits family =
-    let same : ip.family ≡ addr.family = ap (λ (x : Addr). x.family) (addr-same ip packet.dst fits) ∙ sym family in
-    ap (λ f. family_eq f addr.family) same ∙ family-itself addr.family
+    let same : ip.family ≡ addr.family = ap (λ (x : Addr). x.family) (same-address ip packet.dst fits) ∙ sym family in
+    ap (λ f. family_eq f addr.family) same ∙ family_eq-itself addr.family
 
 published-family : (p : Plan) (host : Host) (packet : Packet) (port : PublishedPort) → IsPublished p host packet port
     → port.addr.family ≡ packet.dst.family
@@ -89,7 +90,7 @@ published-matches : (p : Plan) (host : Host) (packet : Packet) (port : Published
 published-matches p host packet port b =
     let family : family_eq port.addr.family packet.dst.family ≡ true =
     ap (λ f. family_eq f packet.dst.family) (published-family p host packet port b)
-    ∙ family-itself packet.dst.family in
+    ∙ family_eq-itself packet.dst.family in
     dnat-matches port.att port.mapping port.addr packet
     ∙ and_from (family_eq port.addr.family packet.dst.family) (is_for packet port.mapping) family b.fits
 
@@ -134,7 +135,7 @@ rewritten-by p host s packet None none =
     left (λ port b.
     let found =
     any-found (matches_in chains.Dnat packet) host.rules
-    (among-any (matches_in chains.Dnat packet) (rule_by port) host.rules
+    (any-among (matches_in chains.Dnat packet) (rule_by port) host.rules
     (published-there p host s packet port b) (published-matches p host packet port b)) in
     none-some found.0 (sym none ∙ found.1)) refl
 rewritten-by p host s packet (Some r) is =
@@ -150,7 +151,7 @@ rewritten-by p host s packet (Some r) is =
       stands = first.are ∙ ap (λ x. first.before ++ x ∷ first.after) by.rule;
       none_before = λ other b at.
           both_ways (list_any (matches_in chains.Dnat packet) first.before) first.none_before
-          (among-any (matches_in chains.Dnat packet) (rule_by other) first.before at
+          (any-among (matches_in chains.Dnat packet) (rule_by other) first.before at
           (published-matches p host packet other b));
     }) refl refl refl)
 

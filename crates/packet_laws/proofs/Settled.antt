@@ -5,9 +5,10 @@ use Rattle.packet_laws.proofs.Names.{same_Some, list_any, option_map, find, if�
 use Rattle.packet_laws.proofs.Names.{takes_mappings, addresses_of_result, AreCandidates, cached_in, is_own, Att}
 use Rattle.packet_laws.proofs.Names.{CachedObj, Host, Lease, Tag, Outside, Base, Own, Rule, own-own, NetList, share_of}
 use Rattle.packet_laws.proofs.Names.{given_by_list, sets_of, Plan, IsPart, among-part}
+use Rattle.cni_addr.proofs.Lists.{all-among, any-among}
 use Rattle.kernel_types.specs.{Sound.IsSound, Terms.{has_objects, is_owned}}
 use Rattle.packet_laws.specs.{Complete.{IsAttached, wanted_of}, Packets.has_ip_masq}
-use Rattle.packet_laws.proofs.{Lists.{all-among, among-any, filter-among}, WantedRules.rules_by}
+use Rattle.packet_laws.proofs.{Lists.filter-among, WantedRules.rules_by}
 use Rattle.kernel_types.proofs.Isolation.{is_own-one}
 
 -- ---- a settled host
@@ -68,11 +69,11 @@ some_cached-objects host att is = grind (arith, is)
 
 pub rule-of : (p : Plan) (host : Host) → IsSettled p host → (r : Rule) → IsAmong r host.rules → IsRuleOf p host r
 rule-of p host s r at =
-    let own = owner r.tag (all-among (λ (x : Rule). is_owned x.tag) r host.rules s.sound.rules.tags at) in
+    let own = owner r.tag (all-among (λ (x : Rule). is_owned x.tag) r host.rules at s.sound.rules.tags) in
     let mine = own-own own.0 r.tag own.1 in
     let a =
     s.attached own.0
-    (some_rule-objects host own.0 (among-any (λ (x : Rule). is_own own.0 x.tag) r host.rules at mine)) in
+    (some_rule-objects host own.0 (any-among (λ (x : Rule). is_own own.0 x.tag) r host.rules at mine)) in
     record {
       att = own.0;
       tag = own.1;
@@ -87,13 +88,13 @@ pub lessee : (p : Plan) (host : Host) → IsSettled p host → (att : Att) (l : 
     → l.tag ≡ Own att → Attached p host att
 lessee p host s att l at tag =
     s.attached att (some_lease-objects host att
-    (among-any (λ (x : Lease). is_own att x.tag) l host.leases at (own-own att l.tag tag)))
+    (any-among (λ (x : Lease). is_own att x.tag) l host.leases at (own-own att l.tag tag)))
 
 pub keeper : (p : Plan) (host : Host) → IsSettled p host → (att : Att) (c : CachedObj) → IsAmong c host.cached
     → c.tag ≡ Own att → Attached p host att
 keeper p host s att c at tag =
     s.attached att (some_cached-objects host att
-    (among-any (λ (x : CachedObj). is_own att x.tag) c host.cached at (own-own att c.tag tag)))
+    (any-among (λ (x : CachedObj). is_own att x.tag) c host.cached at (own-own att c.tag tag)))
 
 -- the cached object of an attachment
 found-object : (cs : List CachedObj) (p : CachedObj → Bool) (cached : Cached)

@@ -5,6 +5,7 @@ use Rattle.packet_laws.proofs.Names.{PortMapping, IpEntry, takes_mappings, accep
 use Rattle.packet_laws.proofs.Names.{firewall_rules, chain_eq, Given, Att, Chain, Rule, list_all-weaker, Chained}
 use Rattle.packet_laws.proofs.Names.{first_of_family, masquerade_rules, dnat_of, host_ip_allows, portmap_rules}
 use Rattle.std.proofs.lemmas.List.Elements.{filter-append}
+use Rattle.cni_addr.proofs.Lists.{all-among, any-among, filter-all}
 use Rattle.kernel_types.specs.declared.rule.Chain.TheVariants as chains
 use Rattle.kernel_types.proofs.ListLemmas.{filter_never}
 use Rattle.net_conf.specs.declared.{chained.Chained.TheVariants.{Portmap, Firewall, Tuning}, first.First.First}
@@ -12,10 +13,11 @@ use Rattle.net_conf.specs.declared.first.First.TheVariants.{Bridge, Ptp, Macvlan
 use Rattle.plugin_base.proofs.KeyLists.{list_all-flat}
 use Rattle.plugin_chain.specs.{Plugins.{chained_plugin_of, plugin_of}, Wanted.rules_of}
 use Rattle.packet_laws.specs.Packets.{has_ip_masq, is_firewall}
-use Rattle.packet_laws.proofs.Lists.{all-among, among-any, among-either, among-flat, among-right, any-among, filter-all}
-use Rattle.packet_laws.proofs.{Lists.flat-among, PluginRules.{IsDnatRule, IsForwardRule, dnat-rule, dnat-there}}
-use Rattle.packet_laws.proofs.PluginRules.{firewall-chains, forward-rule, from-there, is_in, is_of_port}
-use Rattle.packet_laws.proofs.PluginRules.{masquerade-chains, portmap-chains, replies-there}
+use Rattle.packet_laws.proofs.{Lists.{among-either, among-flat, some-among, flat-among}, PluginRules.IsDnatRule}
+use Rattle.packet_laws.proofs.PluginRules.{IsForwardRule, dnat-rule, dnat-there, firewall-chains, forward-rule}
+use Rattle.packet_laws.proofs.PluginRules.{from-there, is_in, is_of_port, masquerade-chains, portmap-chains}
+use Rattle.packet_laws.proofs.PluginRules.{replies-there}
+use Rattle.pod_laws.proofs.Added.Prefixes.{among-right}
 
 -- ---- all rules of an attachment
 
@@ -46,7 +48,7 @@ unfolding chained_plugin_of
 dnat-of (Portmap conf) att mappings ips r at chain = dnat-rule conf att mappings ips r at chain
 dnat-of (Firewall conf) att mappings ips r at chain =
     absurd (both_ways (is_in chains.Forward r) (apart chains.Dnat chains.Forward r chain refl)
-    (all-among (is_in chains.Forward) r (firewall_rules att ips) (firewall-chains att ips) at))
+    (all-among (is_in chains.Forward) r (firewall_rules att ips) at (firewall-chains att ips)))
 dnat-of (Tuning conf) att mappings ips r at chain = absurd at
 
 pub dnat-wanted : (ip_masq : Bool) (att : Att) (given : List Given) (mappings : List PortMapping) (ips : List IpEntry)
@@ -57,8 +59,8 @@ dnat-wanted ip_masq att given mappings ips chained r at chain =
     elim (among-either r (masquerade_rules ip_masq att given) (chained_rules att mappings ips chained) at) [
       | inl first ↦
           absurd (both_ways (is_in chains.Masq r) (apart chains.Dnat chains.Masq r chain refl)
-          (all-among (is_in chains.Masq) r (masquerade_rules ip_masq att given)
-          (masquerade-chains ip_masq att given) first))
+          (all-among (is_in chains.Masq) r (masquerade_rules ip_masq att given) first
+          (masquerade-chains ip_masq att given)))
       | inr later ↦
           (let of = among-flat (λ c. rules_of c att mappings ips) r chained later in
           dnat-of of.0 att mappings ips r of.2 chain)
@@ -81,7 +83,7 @@ pub wanted-dnat : (ip_masq : Bool) (att : Att) (given : List Given) (mappings : 
     → IsAmong m mappings → first_of_family f ips ≡ Some ip → host_ip_allows m.host_ip ip.address.addr ≡ true
     → IsAmong (dnat_of att m ip.address.addr) (rules_by ip_masq att given mappings ips chained)
 wanted-dnat ip_masq att given mappings ips chained m f ip takes mapped first allows =
-    let by = any-among takes_mappings chained takes in
+    let by = some-among takes_mappings chained takes in
     among-right (dnat_of att m ip.address.addr) (masquerade_rules ip_masq att given)
     (chained_rules att mappings ips chained)
     (flat-among (λ c. rules_of c att mappings ips) (dnat_of att m ip.address.addr) by.0 chained by.1
@@ -97,7 +99,7 @@ forward-of (Portmap conf) att mappings ips r at chain =
     absurd (both_ways (is_of_port r)
     (ap₂ (λ x y. x || y) (apart chains.Forward chains.Dnat r chain refl)
     (apart chains.Forward chains.HostMasq r chain refl))
-    (all-among is_of_port r (portmap_rules conf att mappings ips) (portmap-chains conf att mappings ips) at))
+    (all-among is_of_port r (portmap_rules conf att mappings ips) at (portmap-chains conf att mappings ips)))
 forward-of (Firewall conf) att mappings ips r at chain = (refl, forward-rule att ips r at)
 forward-of (Tuning conf) att mappings ips r at chain = absurd at
 
@@ -109,12 +111,12 @@ forward-wanted ip_masq att given mappings ips chained r at chain =
     elim (among-either r (masquerade_rules ip_masq att given) (chained_rules att mappings ips chained) at) [
       | inl first ↦
           absurd (both_ways (is_in chains.Masq r) (apart chains.Forward chains.Masq r chain refl)
-          (all-among (is_in chains.Masq) r (masquerade_rules ip_masq att given)
-          (masquerade-chains ip_masq att given) first))
+          (all-among (is_in chains.Masq) r (masquerade_rules ip_masq att given) first
+          (masquerade-chains ip_masq att given)))
       | inr later ↦
           (let of = among-flat (λ c. rules_of c att mappings ips) r chained later in
           let by = forward-of of.0 att mappings ips r of.2 chain in
-          (among-any is_firewall of.0 chained of.1 by.0, by.1))
+          (any-among is_firewall of.0 chained of.1 by.0, by.1))
     ]
 
 firewall-of : (c : Chained) (att : Att) (mappings : List PortMapping) (ips : List IpEntry) (ip : IpEntry)
@@ -132,7 +134,7 @@ pub wanted-forward : (ip_masq : Bool) (att : Att) (given : List Given) (mappings
     → IsAmong (accept_from att ip.address.addr) (rules_by ip_masq att given mappings ips chained)
     × IsAmong (accept_replies_to att ip.address.addr) (rules_by ip_masq att given mappings ips chained)
 wanted-forward ip_masq att given mappings ips chained ip is there =
-    let by = any-among is_firewall chained is in
+    let by = some-among is_firewall chained is in
     let both = firewall-of by.0 att mappings ips ip by.2 there in
     let into :
     (r : Rule) → IsAmong r (rules_of by.0 att mappings ips)

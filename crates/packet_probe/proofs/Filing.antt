@@ -1,9 +1,9 @@
 -- What rules that are filed by their keys tell.
-use Rattle.std.proofs.Common.{◌≡◌, ℕ, ◌+◌, ◌≤◌, Bool, true, false, cond, List, [], ◌∷◌, ◌++◌, length, Option, Some}
-use Rattle.std.proofs.{Common.{None, refl, sym, ap, ◌∙◌, subst, arith}, lemmas.Bool.{and_right, cond-true, or_parts}}
-use Rattle.std.specs.{Cmp.{Equal-is, tied_then}, List.{list_all, list_any, position_or_len}, Ordering.is_eq}
-use Rattle.std.specs.Prelude.{◌&&◌, ◌||◌, min, is_some, unwrap_or, position, if◌then◌else◌}
-use Rattle.std.specs.declared.cmp.Ordering.TheVariants.{Equal}
+use Rattle.std.proofs.Common.{◌≡◌, ℕ, ◌+◌, Bool, true, false, cond, List, [], ◌∷◌, ◌++◌, length, Option, Some, None}
+use Rattle.std.proofs.{Common.{refl, sym, ap, ◌∙◌, subst}, Math.Bool.and-true, lemmas.Bool.{and_right, cond-true}}
+use Rattle.std.proofs.lemmas.Bool.{or_parts}
+use Rattle.std.specs.{Cmp.{Equal-is, tied_then}, List.{list_any, position_or_len}, Ordering.is_eq, Prelude.{◌&&◌, ◌||◌}}
+use Rattle.std.specs.Prelude.{min, is_some, unwrap_or, if◌then◌else◌}
 use Rattle.kernel_types.proofs.ListLemmas.{list_all-push, list_all-weaker}
 use Rattle.kernel_types.specs.declared.rule.{Chain.Chain, Rule.Rule}
 use Rattle.packet_probe.proofs.{KindMatches.matches_in-kind, KindOrder.{exact_key, exact_kind, kind-itself}}
@@ -91,10 +91,6 @@ one-found found same b own other (k ∷ ks) some =
     found-step (same k) (found k) (list_any same ks) (list_any found ks) b (own k) (other k)
     (one-found found same b own other ks) (none-found found same other ks) some
 
-and_true : (a : Bool) → (a && true) ≡ a
-and_true true = refl
-and_true false = refl
-
 found-own : (chain : Chain) (p : Packet) (r : Rule) → p.src.family ≡ p.dst.family
     → is_found_at chain p (kind_of r) r ≡ matches_in chain p r
 found-own chain p r same =
@@ -102,7 +98,7 @@ found-own chain p r same =
     let tied = is_eq (values_cmp (values_of r) (values_at kind p)) in
     ap (λ (b : Bool). admits chain kind p && b)
     (sym (tied_then (values_cmp (values_of r) (values_at kind p)) (kind_cmp kind kind))
-    ∙ ap (λ (b : Bool). tied && b) (ap is_eq (kind-itself kind)) ∙ and_true tied)
+    ∙ ap (λ (b : Bool). tied && b) (ap is_eq (kind-itself kind)) ∙ and-true tied)
     ∙ sym (matches_in-kind chain p r same)
 
 found-other : (chain : Chain) (p : Packet) (r : Rule) (kind : Kind) → is_eq (kind_cmp (kind_of r) kind) ≡ false

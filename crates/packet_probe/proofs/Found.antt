@@ -1,20 +1,11 @@
 -- What the first rule that matches says.
-use Rattle.std.proofs.Common.{◌≡◌, Bool, true, List, [], ◌∷◌, Option, Some, None, refl, sym, ap, ◌∙◌, arith}
-use Rattle.std.proofs.lemmas.Bool.{and_parts}
+use Rattle.std.proofs.{Common.{◌≡◌, Bool, true, List, Option, Some, ap, ◌∙◌}, lemmas.Bool.and_parts}
 use Rattle.std.specs.{List.list_any, Option.option_copied, Prelude.{◌&&◌, find, is_some}}
-use Rattle.kernel_types.proofs.ListLemmas.{passes-find}
+use Rattle.cni_addr.proofs.{Lists.{is_some-find, passes-find}, Options.is_some-option_copied}
 use Rattle.kernel_types.specs.{Equal.chain_eq, declared.rule.{Chain.Chain, Rule.Rule}}
-use Rattle.packet_probe.specs.Fate.{fits_use, fits_way, first_match, leads_into, matches, matches_in, speaks_of}
+use Rattle.packet_probe.specs.Fate.{fits_use, fits_way, first_match, leads_into, matches, matches_in}
 use Rattle.packet_probe.specs.declared.packet.Packet.{Packet}
 use denote.Ref.{Bor}
-
-is_some-find : {X : Type 0} (p : X → Bool) (xs : List X) → is_some (find p xs) ≡ list_any p xs
-is_some-find p [] = refl
-is_some-find p (x ∷ xs) = grind (arith, is_some-find p xs)
-
-is_some-option_copied : {X : Type 0} (o : Option (Bor X)) → is_some o ≡ is_some (option_copied o)
-is_some-option_copied None = refl
-is_some-option_copied (Some x) = refl
 
 -- some element passes where a first is found
 pub some_found : {X : Type 0} (p : X → Bool) (xs : List X) (o : Option (Bor X)) → option_copied o ≡ find p xs

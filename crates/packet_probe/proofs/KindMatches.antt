@@ -1,6 +1,6 @@
 -- A packet matches a rule where the rule's kind admits it and it has the rule's values at that kind.
 use Rattle.std.proofs.Common.{◌≡◌, ◌==◌, ◌&&◌, ◌||◌, ℕ, Bool, true, false, not, Option, Some, None, refl, sym, ap, ◌∙◌}
-use Rattle.std.proofs.lemmas.Bool.{and_right}
+use Rattle.std.proofs.{Math.Bool.{and-true, and_comm}, lemmas.Bool.and_right}
 use Rattle.std.specs.{Cmp.nat_eq_equiv, Option.option_map_or, Ordering.is_eq, Prelude.{is_some, unwrap_or}}
 use Rattle.std.specs.Prelude.{if◌then◌else◌}
 use Rattle.cni_addr.proofs.Networks.{family_eq-true}
@@ -13,28 +13,9 @@ use Rattle.packet_probe.proofs.{KindOrder.values-tied, Networks.contains-first_b
 use Rattle.packet_probe.specs.{Fate.{asks, is_from, is_of_family, is_to, leads_into, matches_in}, Kinds.admits}
 use Rattle.packet_probe.specs.Kinds.{bits_at, bits_of, first_bits, inside, is_past, kind_of, network_in_numbers}
 use Rattle.packet_probe.specs.Kinds.{outside, prefix_of, target_family, values_at, values_cmp, values_of}
-use Rattle.packet_probe.specs.declared.{kinds.{Network.Network, Prefix.Prefix}, packet.Packet.Packet}
+use Rattle.packet_probe.specs.declared.{kinds.Prefix.Prefix, packet.Packet.Packet}
 
 -- ---- tests in another order
-
-and_swap : (s a b : Bool) → (s && (a && b)) ≡ (a && (s && b))
-and_swap true a b = refl
-and_swap false true b = refl
-and_swap false false b = refl
-
-and_true : (a : Bool) → (a && true) ≡ a
-and_true true = refl
-and_true false = refl
-
-and_assoc : (a b c : Bool) → ((a && b) && c) ≡ (a && (b && c))
-and_assoc true b c = refl
-and_assoc false b c = refl
-
-and_comm : (a b : Bool) → (a && b) ≡ (b && a)
-and_comm true true = refl
-and_comm true false = refl
-and_comm false true = refl
-and_comm false false = refl
 
 -- each network's family beside the network
 by_network : (f g l s d rest : Bool) → ((f && (g && l)) && ((s && d) && rest)) ≡ ((f && s) && ((g && d) && (l && rest)))
@@ -59,7 +40,7 @@ by_kind true true g l w e s d q u = within g l w e s d q u
     last true s d q u = λ i. s && (d && (turned i))
       where
         turned : (u && (q && true)) ≡ (q && u)
-        turned = ap (λ (b : Bool). u && b) (and_true q) ∙ and_comm u q
+        turned = ap (λ (b : Bool). u && b) (and-true q) ∙ and_comm u q
     last false s d q u =
         and_right s (d && (u && (q && false)))
         (and_right d (u && (q && false)) (and_right u (q && false) (and_right q false refl)))
@@ -99,12 +80,12 @@ dst-part false (Some c) a =
     alike (family_eq c.addr.family a.family) (contains c a) (network_bits c == first_bits a c.prefix)
     (λ one. contains-first_bits c a (family_eq-true c.addr.family a.family one))
     ∙ ap (λ (b : Bool). b && network_bits c == first_bits a c.prefix)
-    (sym (and_true (family_eq c.addr.family a.family)))
+    (sym (and-true (family_eq c.addr.family a.family)))
 dst-part true None a = refl
 dst-part true (Some c) a =
     alike (family_eq c.addr.family a.family) (not (contains c a)) (not (network_bits c == first_bits a c.prefix))
     (λ one. ap not (contains-first_bits c a (family_eq-true c.addr.family a.family one)))
-    ∙ sym (and_true (family_eq c.addr.family a.family && not (network_bits c == first_bits a c.prefix)))
+    ∙ sym (and-true (family_eq c.addr.family a.family && not (network_bits c == first_bits a c.prefix)))
 
 -- ---- the rest
 

@@ -1,11 +1,11 @@
 -- The order of kinds and values tells all apart.
-use Rattle.std.proofs.Common.{◌≡◌, ◌==◌, ◌&&◌, ℕ, Bool, true, false, Option, Some, None, refl, sym, ap, ◌∙◌}
+use Rattle.std.proofs.Common.{◌≡◌, ◌==◌, ◌&&◌, ℕ, Bool, true, false, Option, Some, None, refl, ap, ◌∙◌}
 use Rattle.std.proofs.lemmas.{Cmp.tied_itself, Map.Lookups.{CmpEqualImpliesEq, exact_unsigned}}
 use Rattle.std.specs.{Cmp.{both_tied, nat_cmp_total, unsigned_ties}, Option.option_cmp, Ordering.{bool_cmp, is_eq}}
 use Rattle.std.specs.{Ordering.{nat_cmp, ordering_then}, declared.cmp.Ordering.{Ordering, TheVariants.{Less, Equal}}}
 use Rattle.std.specs.declared.cmp.Ordering.TheVariants.{Greater}
-use Rattle.packet_probe.specs.Kinds.{Key, key_cmp, kind_cmp, network_cmp, prefix_cmp, values_cmp}
-use Rattle.packet_probe.specs.declared.kinds.{Kind.Kind, Network.Network, Prefix.Prefix, Values.Values}
+use Rattle.packet_probe.specs.{Kinds.{key_cmp, kind_cmp, network_cmp, prefix_cmp, values_cmp}, declared.kinds.Kind.Kind}
+use Rattle.packet_probe.specs.declared.kinds.{Network.Network, Prefix.Prefix, Values.Values}
 
 -- ---- what compares as equal is equal
 

@@ -1,7 +1,7 @@
 -- Networks by their first addresses.
-use Rattle.std.proofs.Common.{◌≡◌, ◌==◌, ◌&&◌, Bool, true, false, ℕ, ◌+◌, ◌-◌, ◌*◌, ◌/◌, ◌%◌, ◌^◌, ◌<◌, ◌≤◌, refl, sym}
-use Rattle.std.proofs.{Common.{ap, ◌∙◌, arith}, lemmas.{Bool.{and_parts, eq-eqb, eqb-true}, Nat.pow_pos}}
-use Rattle.std.specs.Prelude.{min}
+use Rattle.std.proofs.Common.{◌≡◌, ◌==◌, true, ℕ, ◌+◌, ◌-◌, ◌*◌, ◌/◌, ◌%◌, ◌^◌, ◌<◌, ◌≤◌, sym, ap, ◌∙◌, arith}
+use Rattle.std.proofs.lemmas.{Bool.{and_parts, eq-eqb, eqb-true}, Nat.pow_pos}
+use Rattle.std.specs.{Cmp.Derive.one_truth, Prelude.min}
 use Rattle.cni_addr.proofs.Networks.{contains_between}
 use Rattle.cni_addr.specs.{Codes.family_eq, Network.{contains, last_of, network_bits, network_of, network_size}}
 use Rattle.cni_addr.specs.{Value.longest_prefix, declared.address.{Addr.Addr, Cidr.Cidr, Family.Family}}
@@ -26,12 +26,6 @@ above_start n x s start = omega arith
 
 below_end : (n x s : ℕ) → 0 < s → n ≡ x - x % s → x ≤ n + (s - 1)
 below_end n x s some start = omega arith
-
-pub same_by : (a b : Bool) → (a ≡ true → b ≡ true) → (b ≡ true → a ≡ true) → a ≡ b
-same_by true true there back = refl
-same_by true false there back = sym (there refl)
-same_by false true there back = back refl
-same_by false false there back = refl
 
 -- ---- a network and an address of one family
 
@@ -64,6 +58,6 @@ start-inside c a same starts =
 pub contains-first_bits : (c : Cidr) (a : Addr) → c.addr.family ≡ a.family
     → contains c a ≡ (network_bits c == first_bits a c.prefix)
 contains-first_bits c a same =
-    same_by (contains c a) (network_bits c == first_bits a c.prefix)
+    one_truth (contains c a) (network_bits c == first_bits a c.prefix)
     (λ inside. eq-eqb (network_bits c) (first_bits a c.prefix) (inside-start c a same inside))
     (λ starts. start-inside c a same (eqb-true (network_bits c) (first_bits a c.prefix) starts))

@@ -1,9 +1,9 @@
 -- The place of the first element that passes.
-use Rattle.std.proofs.Common.{◌≡◌, ℕ, suc, ◌+◌, ◌<◌, ◌≤◌, Bool, true, false, not, cond, List, [], ◌∷◌, ◌++◌, length}
-use Rattle.std.proofs.{Common.{Option, Some, None, refl, sym, ap, ap₂, ◌∙◌, arith}, lemmas.Bool.{and_parts, ltb-false}}
+use Rattle.std.proofs.Common.{◌≡◌, ℕ, suc, ◌+◌, ◌≤◌, Bool, true, false, not, cond, List, [], ◌∷◌, ◌++◌, length, Option}
+use Rattle.std.proofs.{Common.{Some, None, refl, sym, ap, ap₂, ◌∙◌, arith}, lemmas.Bool.{and_parts, ltb-false}}
 use Rattle.std.proofs.lemmas.{Iterator.Adapters.position_from-zero, Option.{slice_get_past, slice_get_read}}
-use Rattle.std.specs.{List.{list_all, position_from, position_or_len, slice_get}, Option.option_copied, Prelude.◌&&◌}
-use Rattle.std.specs.{Prelude.{◌||◌, min, is_some, unwrap_or, nat_lt, position, if◌then◌else◌}, Slice.IsItemAt}
+use Rattle.std.specs.{List.{list_all, position_from, position_or_len, slice_get}, Option.option_copied, Prelude.◌||◌}
+use Rattle.std.specs.{Prelude.{min, is_some, unwrap_or, nat_lt, position, if◌then◌else◌}, Slice.IsItemAt}
 use denote.Ref.{Bor}
 
 -- ---- the place, or the length where none passes

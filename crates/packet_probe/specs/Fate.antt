@@ -1,6 +1,6 @@
 -- What becomes of a packet, by the rules of a host. This is this project's own, after iptables: a packet goes by the
 -- chains in the order of its way, and in a chain the first rule that matches decides.
-use Rattle.std.specs.{List.list_any, Option.option_map_or, Prelude.{ℕ, Bool, true, false, not, ◌&&◌, ◌||◌, ◌==◌, List}}
+use Rattle.std.specs.{List.list_any, Option.option_map_or, Prelude.{Bool, true, false, not, ◌&&◌, ◌||◌, ◌==◌, List}}
 use Rattle.std.specs.Prelude.{find, Option, Some, None, option_and_then, if◌then◌else◌}
 use Rattle.cni_addr.specs.{Network.contains, declared.address.{Addr.Addr, Cidr.Cidr, Family.Family}}
 use Rattle.kernel_types.specs.{Equal.{chain_eq, family_eq, proto_eq}, declared.{object.Host.Host, rule.Chain.Chain}}

@@ -1,8 +1,8 @@
 -- What rules ask of a packet, in numbers: the kind of a rule says which parts of a packet it asks for, its values what
 -- these are to be. A packet matches a rule where it has the values at the kind, and the kind admits it.
 use Rattle.std.specs.{Option.{option_cmp, option_map_or}, Ordering.{bool_cmp, is_eq, nat_cmp, ordering_then}, Prelude.ℕ}
-use Rattle.std.specs.Prelude.{Bool, true, false, not, ◌&&◌, ◌||◌, ◌==◌, List, Option, Some, None, is_some, option_map}
-use Rattle.std.specs.{Prelude.{unwrap_or, if◌then◌else◌}, declared.cmp.Ordering.Ordering}
+use Rattle.std.specs.Prelude.{Bool, not, ◌&&◌, ◌||◌, ◌==◌, Option, Some, None, is_some, unwrap_or, if◌then◌else◌}
+use Rattle.std.specs.declared.cmp.Ordering.{Ordering}
 pub use Rattle.cni_addr.specs.Codes.{family_code}
 use Rattle.cni_addr.specs.Network.{network_bits}
 use Rattle.cni_addr.specs.declared.address.Addr.{Addr}

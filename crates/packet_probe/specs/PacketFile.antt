@@ -1,6 +1,6 @@
 -- A packet file, which is this project's own: a list of packets. A packet is wrong as a whole, whatever in it is.
-use Rattle.std.specs.Prelude.{ℕ, ◌+◌, ◌&&◌, List, [], length, codes, Bool, true, false, nat_le, nat_lt, if◌then◌else◌}
-use Rattle.std.specs.Prelude.{Result, Ok, Err, ok_or}
+use Rattle.std.specs.Prelude.{ℕ, ◌+◌, ◌&&◌, List, [], length, codes, Bool, false, nat_le, nat_lt, if◌then◌else◌, Result}
+use Rattle.std.specs.Prelude.{Ok, Err, ok_or}
 use Rattle.serde_json.specs.Data.{Data, array, Items, no_items, item}
 use Rattle.cni_addr.specs.{AddrText.addr_of_text, declared.address.Addr.Addr}
 use Rattle.cni_json.specs.{Each.each_after, Fields.{text_field, bool_field, u64_field, member_or, object_or, needed}}

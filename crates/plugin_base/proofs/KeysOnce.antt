@@ -4,10 +4,10 @@ use Rattle.std.proofs.{Common.{ap₂, refl, subst, sym, ◌∙◌}, lemmas.List.
 use Rattle.std.proofs.lemmas.List.Sums.{fold_push}
 use Rattle.std.specs.{BTreeSet.{BTreeSet, contains}, Cmp.{IsPartialEquivalence, IsTotalOrder, both_tied}}
 use Rattle.std.specs.Cmp.{eq_by_cmp_equiv, nat_eq_equiv, on_per, partial_equiv_from_equiv, unsigned_ties}
-use Rattle.std.specs.{List.list_any, Ordering.{eq_by_cmp, is_eq, nat_cmp}, Prelude.{◌==◌, ◌&&◌, ◌||◌, if◌then◌else◌}}
-use Rattle.std.specs.{Prelude.not, declared.cmp.Ordering.Ordering}
+use Rattle.std.specs.{List.list_any, Ordering.{eq_by_cmp, is_eq, nat_cmp}, Prelude.{◌==◌, if◌then◌else◌, not}}
+use Rattle.std.specs.declared.cmp.Ordering.{Ordering}
 use Rattle.cni_addr.specs.Lists.{push_unless_there, each_key_once}
-use Rattle.cni_addr.proofs.KeyLists.{list_any-each_key_once}
+use Rattle.cni_addr.proofs.{KeyLists.list_any-each_key_once, Tests.{and_implied, one_more}}
 use Rattle.plugin_base.specs.EachKey.{AreKeysOf, Marked, marked_cmp}
 
 eqb-itself : (m n : ℕ) → m ≡ n → (m == n) ≡ true
@@ -42,15 +42,10 @@ module _ {X K : Type 0} (cmp : K → K → Ordering) (total : IsTotalOrder cmp) 
       (λ i new x. sym (by_key new x ∙ (eq_by_cmp_equiv total).symm (key_of x) (key_of new)) i)
       (on_per key_of (partial_equiv_from_equiv (eq_by_cmp_equiv total)))
 
-  implied : (p q : Bool) → (q ≡ true → p ≡ true) → q ≡ (p && q)
-  implied true q h = refl
-  implied false true h = sym (h refl)
-  implied false false h = refl
-
   -- what stands for two objects compares as equal just where they have one key
   same_marked : (new x : X) → same new x ≡ is_eq (marked_cmp cmp (marked x) (marked new))
   same_marked new x =
-      implied (mark_of x == mark_of new) (same new x) (λ h. eqb-itself (mark_of x) (mark_of new) (by_mark new x h))
+      and_implied (mark_of x == mark_of new) (same new x) (λ h. eqb-itself (mark_of x) (mark_of new) (by_mark new x h))
       ∙ both_tied (mark_of x == mark_of new) (same new x) (nat_cmp (mark_of x) (mark_of new))
       (cmp (key_of x) (key_of new)) (unsigned_ties (mark_of x) (mark_of new)) (by_key new x)
 
@@ -69,20 +64,15 @@ module _ {X K : Type 0} (cmp : K → K → Ordering) (total : IsTotalOrder cmp) 
       once_pushed same xs x ∙ turned_over (list_any (same x) once) once (once ++ x ∷ [])
       ∙ ap (λ (b : Bool). if b then once ++ x ∷ [] else once) (sym (is ∙ ap not there))
 
-  at_end : (here before : Bool) → cond here true before ≡ (before || (here || false))
-  at_end true true = refl
-  at_end true false = refl
-  at_end false true = refl
-  at_end false false = refl
-
   pub keys_next : (old new : BTreeSet (Marked K)) (x : X)
       → ((q : Marked K)
-      → contains (marked_cmp cmp) new q ≡ cond (is_eq (marked_cmp cmp (marked x) q)) true (contains (marked_cmp cmp) old q))
+      → contains (marked_cmp cmp) new q
+      ≡ cond (is_eq (marked_cmp cmp (marked x) q)) true (contains (marked_cmp cmp) old q))
       → (xs : List X) → AreKeysOf cmp marked same old xs → AreKeysOf cmp marked same new (xs ++ x ∷ [])
   keys_next old new x updated xs are y =
       updated (marked y)
       ∙ ap₂ (λ here before. cond here true before) (sym (same_marked y x)) (are y)
-      ∙ at_end (same y x) (list_any (same y) xs) ∙ sym (list_any-append (same y) xs (x ∷ []))
+      ∙ one_more (same y x) (list_any (same y) xs) ∙ sym (list_any-append (same y) xs (x ∷ []))
 
 -- ---- the next of a list
 

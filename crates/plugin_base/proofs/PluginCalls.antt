@@ -5,16 +5,16 @@ use Rattle.std.proofs.{Common.{refl, sym, ◌∙◌, subst, arith}, lemmas.{Bool
 use Rattle.std.specs.{Cmp.Lexicographic.nat_list_eq_equiv, List.{list_any, list_all}, Prelude.if◌then◌else◌}
 use Rattle.cni_addr.specs.{Lists.each_key_once, declared.address.{Addr.Addr, Cidr.Cidr, Family.TheVariants.{V4, V6}}}
 use Rattle.cni_result.specs.declared.{cached.PortMapping.PortMapping, result.{IpEntry.IpEntry, RouteEntry.RouteEntry}}
-use Rattle.kernel_types.specs.{Apply.Calls.{is_own_at, is_same_addr, is_same_route, set_link}, Terms.is_link_of}
-use Rattle.kernel_types.specs.{Terms.is_own, declared.call.Call.{Call, TheVariants.{BridgeEnsure, GatewayEnsure}}}
-use Rattle.kernel_types.specs.declared.call.Call.TheVariants.{ForwardEnsure, VethAdd, MacvlanAdd, LinkSet, AddrAdd}
-use Rattle.kernel_types.specs.declared.call.{Call.TheVariants.{RouteAdd, RuleAppend}, Given.Given, Kind.Kind}
-use Rattle.kernel_types.specs.declared.object.{Att.Att, Link.Link, LinkKey.LinkKey, Tag.{Tag, TheVariants.Own}}
-use Rattle.kernel_types.specs.declared.rule.Rule.{Rule}
-use Rattle.kernel_types.proofs.{Cases.{att_eq-refl, tag_eq-own, tag_eq-refl}, ListLemmas.list_all-weaker}
-use Rattle.kernel_types.proofs.ListLemmas.{list_any-weaker}
+use Rattle.kernel_types.specs.{Allowed.IsAllowed, Apply.Calls.{is_own_at, is_same_addr, is_same_route, set_link}}
+use Rattle.kernel_types.specs.{Terms.{is_link_of, is_own}, declared.call.Call.{Call, TheVariants.BridgeEnsure}}
+use Rattle.kernel_types.specs.declared.call.Call.TheVariants.{GatewayEnsure, LeaseNext, ForwardEnsure, VethAdd}
+use Rattle.kernel_types.specs.declared.call.Call.TheVariants.{MacvlanAdd, LinkSet, AddrAdd, RouteAdd, RuleAppend}
+use Rattle.kernel_types.specs.declared.{call.{Given.Given, Kind.Kind}, object.{Att.Att, Host.Host, Link.Link}}
+use Rattle.kernel_types.specs.declared.{object.{LinkKey.LinkKey, Tag.{Tag, TheVariants.Own}}, rule.Rule.Rule}
+use Rattle.kernel_types.proofs.{Cases.{att_eq-refl, tag_eq-own, tag_eq-refl}, Lasts.moves_last}
+use Rattle.kernel_types.proofs.ListLemmas.{list_all-weaker, list_any-weaker}
 use Rattle.kernel_types.specs.declared.call.Kind.TheVariants as kinds
-use Rattle.plugin_base.specs.{Calls.{has_kind, is_of_kinds, is_plugin_call_of}, Families.has_family}
+use Rattle.plugin_base.specs.{Calls.{has_kind, is_of_kinds, is_plugin_call_of, IsWellFormedCall}, Families.has_family}
 use Rattle.plugin_base.specs.PluginCalls.{at_most_one, changes_links, has_inner, is_later_call, is_none_or, lies_on}
 use Rattle.plugin_base.specs.{PluginCalls.{makes_interface, set_links_once, stands_on}, PluginLaws.AreCallsAfter}
 use Rattle.plugin_base.specs.{PluginLaws.AreChainedCalls, Plugins.{ChainedPlugin, FirstPlugin}, Shapes.address_at}
@@ -145,7 +145,7 @@ fit-masquerades ks links bridge att netns given false kind = refl
 
 -- ---- a chained plugin
 
-at_most-one_step : (b : Bool) (calls : List Call) → b ≡ false → at_most_one changes_links calls ≡ true
+pub at_most-one_step : (b : Bool) (calls : List Call) → b ≡ false → at_most_one changes_links calls ≡ true
     → (if b then not (list_any changes_links calls) else at_most_one changes_links calls) ≡ true
 at_most-one_step b calls h g = rw h g
 
@@ -234,3 +234,14 @@ later-as_many netns s [] h = refl
 later-as_many netns s (x ∷ xs) h =
     let both = and_parts (is_later_call netns x) (list_all (is_later_call netns) xs) h in
     later-as_many netns (share_after_call s x) xs both.1 ∙ one-as_many netns s x both.0
+
+-- none is a lease
+pub plugin-moves_none : (att : Att) (call : Call) → is_plugin_call_of att call ≡ true → moves_last call ≡ false
+plugin-moves_none att (LeaseNext a b d) own = cc
+plugin-moves_none att _ own = refl
+
+-- any other call is allowed where it is well formed
+pub allowed-well_formed : (host : Host) (call : Call) → moves_last call ≡ false → IsWellFormedCall call
+    → IsAllowed host call
+allowed-well_formed host (LeaseNext att number set) still formed = absurd cc
+allowed-well_formed host _ still formed = formed

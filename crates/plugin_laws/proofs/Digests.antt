@@ -6,9 +6,9 @@ use Rattle.cni_addr.specs.MacText.{IsMac}
 use Rattle.hex.specs.Hex.{IsBytes}
 use Rattle.kernel_types.specs.{Names.{digest_of, host_mac_of, inner_mac_of}, declared.object.Att.Att}
 use Rattle.link_names.specs.Names.{link_mac_of, local_mac}
-use Rattle.plugin_laws.proofs.Lists.{all-append}
 use Rattle.sha2.proofs.Facts256.{length-sha256}
 use Rattle.sha2.specs.Sha256.{digest_bytes, sha256}
+use Rattle.kernel_types.proofs.ListLemmas.{each-append}
 
 abbrev AreBytes : List ℕ → Type 0
 AreBytes bytes = AllByRecursion (λ b. b < 256) bytes
@@ -35,7 +35,7 @@ digest-bytes : (words : List ℕ) (n : ℕ) → AreBytes (digest_bytes words n)
 unfolding digest_bytes
 digest-bytes words zero = tt
 digest-bytes words (suc n) =
-    all-append (λ b. b < 256) (digest_bytes words n) (to_be_bytes w32 (slice_index words n)) (digest-bytes words n)
+    each-append (λ b. b < 256) (digest_bytes words n) (to_be_bytes w32 (slice_index words n)) (digest-bytes words n)
     (word-bytes (slice_index words n))
 
 sha256-bytes : (message : List ℕ) → AreBytes (sha256 message)

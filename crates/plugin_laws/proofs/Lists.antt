@@ -1,11 +1,6 @@
 -- What holds of each element of a list, and of what is found there.
-use Rattle.std.proofs.Common.{◌≡◌, Bool, true, false, cond, List, [], ◌∷◌, ◌++◌, Option, Some, None, refl}
+use Rattle.std.proofs.Common.{◌≡◌, Bool, true, false, cond, List, [], ◌∷◌, Option, Some, None, refl}
 use Rattle.std.specs.{List.AllByRecursion, Prelude.{IfSome, find}}
-
-pub all-append : {X : Type 0} (P : X → Type 0) (xs ys : List X) → AllByRecursion P xs → AllByRecursion P ys
-    → AllByRecursion P (xs ++ ys)
-all-append P [] ys first later = later
-all-append P (x ∷ xs) ys first later = (first.0, all-append P xs ys first.1 later)
 
 find-here : {X : Type 0} (P : X → Type 0) (p : X → Bool) (x : X) (b : Bool) (more : Option X) → p x ≡ b → P x
     → IfSome more (λ y. P y × (p y ≡ true)) → IfSome (cond b (Some x) more) (λ y. P y × (p y ≡ true))

@@ -17,8 +17,9 @@ use Rattle.plugin_base.specs.{Results.inner_interface, Shapes.default_route}
 use Rattle.plugin_chain.proofs.PluginLaws.{formed_ipam}
 use Rattle.plugin_chain.specs.{Plugins.plugin_of, Wanted.{first_plugin_result, first_result, ipam_of, result_of_add}}
 use Rattle.plugin_laws.proofs.{AddressResults.{IsIpamResult, ipam-result}, ChainedResults.all-readable}
-use Rattle.plugin_laws.proofs.{Interfaces.{inner-is, pair-is, bridge-is}, Lists.{all-append, find-all, if_some-weaker}}
+use Rattle.plugin_laws.proofs.{Interfaces.{inner-is, pair-is, bridge-is}, Lists.{find-all, if_some-weaker}}
 use Rattle.plugin_laws.specs.Laws.{ResultsAreReadable}
+use Rattle.kernel_types.proofs.ListLemmas.{each-append}
 
 -- ---- routes
 
@@ -50,8 +51,8 @@ bridge-routes : (adds : Bool) (ipam : AddResult) → IsIpamResult ipam
 bridge-routes adds ipam is =
     let v4 = added_default adds ipam.routes (first_of_family V4 ipam.ips) in
     let v6 = added_default adds ipam.routes (first_of_family V6 ipam.ips) in
-    all-append IsRouteEntry ipam.routes (v4 ++ v6) is.routes
-    (all-append IsRouteEntry v4 v6 (added-routes adds ipam.routes _ (family-entry V4 ipam.ips is.ips))
+    each-append IsRouteEntry ipam.routes (v4 ++ v6) is.routes
+    (each-append IsRouteEntry v4 v6 (added-routes adds ipam.routes _ (family-entry V4 ipam.ips is.ips))
     (added-routes adds ipam.routes _ (family-entry V6 ipam.ips is.ips)))
 
 -- ---- the first plugin

@@ -1,14 +1,7 @@
 -- What a look for the first element of a name says of the names of all.
-use Rattle.std.proofs.Common.{◌≡◌, ◌∙◌, ℕ, Bool, List, [], ◌∷◌, Option, Some, None, Bor, arith, find, refl, sym, ap}
+use Rattle.std.proofs.Common.{◌≡◌, ◌∙◌, ℕ, Bool, List, Option, Bor, find, sym, ap}
 use Rattle.std.specs.{List.list_any, Option.{is_some, option_copied}, Str.bytes_eq}
-
-some-find : {X : Type 0} (test : X → Bool) (xs : List X) → is_some (find test xs) ≡ list_any test xs
-some-find test [] = refl
-some-find test (x ∷ xs) = grind (arith, some-find test xs)
-
-some-copied : {X : Type 0} (found : Option (Bor X)) → is_some (option_copied found) ≡ is_some found
-some-copied None = refl
-some-copied (Some x) = refl
+use Rattle.cni_addr.proofs.{Lists.is_some-find, Options.is_some-option_copied}
 
 -- some element has the name just where one was found
 pub named-found : {X : Type 0} (xs : List X) (name_of : X → List ℕ) (name asked : List ℕ) (found : Option (Bor X))
@@ -16,7 +9,7 @@ pub named-found : {X : Type 0} (xs : List X) (name_of : X → List ℕ) (name as
     → list_any (λ x. bytes_eq (name_of x) name) xs ≡ b
 named-found xs name_of name asked found b same looked some =
     ap (λ n. list_any (λ x. bytes_eq (name_of x) n) xs) (sym same)
-    ∙ sym (some-find (λ x. bytes_eq (name_of x) asked) xs)
+    ∙ sym (is_some-find (λ x. bytes_eq (name_of x) asked) xs)
     ∙ sym (ap is_some looked)
-    ∙ some-copied found
+    ∙ sym (is_some-option_copied found)
     ∙ sym some

@@ -1,11 +1,10 @@
 -- The calls that a plugin of a registry may give are a plugin's calls: well formed, for the attachment, of its kinds.
 use Rattle.std.proofs.Common.{◌≡◌, ◌∙◌, Bool, true, false, is_none, List, Option, Some, None, refl, sym}
 use Rattle.std.proofs.lemmas.Bool.{and_parts, not-true}
-use Rattle.kernel_types.specs.{Allowed.{IsInnerLink, IsVethPair}, Terms.{is_own, is_owned}, declared.call.Call.Call}
-use Rattle.kernel_types.specs.declared.call.Call.TheVariants.{VethAdd, MacvlanAdd, AddrAdd, RouteAdd, RuleAppend}
-use Rattle.kernel_types.specs.declared.{call.{Call.TheVariants.SettingSet, Kind.Kind}, object.{Att.Att, Link.Link}}
-use Rattle.kernel_types.specs.declared.object.Tag.{Tag, TheVariants.Own}
-use Rattle.kernel_types.proofs.Isolation.{is_own-one}
+use Rattle.kernel_types.specs.{Allowed.{IsInnerLink, IsVethPair}, declared.call.Call.{Call, TheVariants.VethAdd}}
+use Rattle.kernel_types.specs.declared.call.Call.TheVariants.{MacvlanAdd, AddrAdd, RouteAdd, RuleAppend, SettingSet}
+use Rattle.kernel_types.specs.declared.{call.Kind.Kind, object.{Att.Att, Link.Link}}
+use Rattle.kernel_types.proofs.Isolation.{is_own-one, is_own-owned}
 use Rattle.plugin_base.specs.Calls.{IsWellFormedCall, is_of_kinds, is_plugin_call_of}
 use Rattle.plugin_registry.specs.Own.{IsPluginCall, is_own_call, is_own_inner_link, is_own_pair}
 
@@ -28,10 +27,6 @@ own-makes att ks (RuleAppend rule) is = refl
 own-makes att ks (SettingSet setting) is = refl
 own-makes att ks call is = is
 
-owned : (att : Att) (tag : Tag) → is_own att tag ≡ true → is_owned tag ≡ true
-owned att (Own own) is = refl
-owned att tag is = is
-
 alone : {X : Type 0} (peer : Option X) → is_none peer ≡ true → peer ≡ None
 alone None is = refl
 alone (Some x) is = absurd cc
@@ -46,7 +41,7 @@ own-pair att host_end inner_end is =
     record {
       host_kind = (and_parts _ _ kinds).0;
       inner_kind = (and_parts _ _ kinds).1;
-      owned = owned att host_end.tag own_host;
+      owned = is_own-owned att host_end.tag own_host;
       same_tag = is_own-one att inner_end.tag own_inner ∙ sym (is_own-one att host_end.tag own_host);
       to_inner = (and_parts _ _ peers).0;
       to_host = (and_parts _ _ peers).1;
@@ -60,7 +55,7 @@ own-inner att link is =
     let (fits, rest) = and_parts _ _ rest in
     record {
       fits = fits;
-      owned = owned att link.tag own;
+      owned = is_own-owned att link.tag own;
       alone = alone link.peer (and_parts _ _ rest).0;
       inner = not-true _ (and_parts _ _ rest).1;
     }
@@ -69,11 +64,11 @@ pub own-well_formed : (att : Att) (ks : List Kind) (call : Call) → is_own_call
     → IsWellFormedCall call
 own-well_formed att ks (VethAdd host_end inner_end) is = own-pair att host_end inner_end (and_parts _ _ is).0
 own-well_formed att ks (MacvlanAdd link) is = own-inner att link (and_parts _ _ is).0
-own-well_formed att ks (AddrAdd obj) is = owned att obj.tag (and_parts _ _ is).0
-own-well_formed att ks (RouteAdd obj) is = owned att obj.tag (and_parts _ _ is).0
-own-well_formed att ks (RuleAppend rule) is = owned att rule.tag (and_parts _ _ is).0
+own-well_formed att ks (AddrAdd obj) is = is_own-owned att obj.tag (and_parts _ _ is).0
+own-well_formed att ks (RouteAdd obj) is = is_own-owned att obj.tag (and_parts _ _ is).0
+own-well_formed att ks (RuleAppend rule) is = is_own-owned att rule.tag (and_parts _ _ is).0
 own-well_formed att ks (SettingSet setting) is =
-    let (own, inner) = and_parts _ _ (and_parts _ _ is).0 in (owned att setting.tag own, not-true _ inner)
+    let (own, inner) = and_parts _ _ (and_parts _ _ is).0 in (is_own-owned att setting.tag own, not-true _ inner)
 own-well_formed att ks call is = absurd cc
 
 pub own-for_attachment : (att : Att) (ks : List Kind) (call : Call) → is_own_call att ks call ≡ true

@@ -1,6 +1,6 @@
 -- Plugins and their objects, place by place: what is left of the requests of an ADD are those of the places that are
 -- left.
-use Rattle.std.proofs.Common.{◌≡◌, ◌⊎◌, inl, inr, ℕ, zero, suc, ◌+◌, ◌-◌, ◌≤◌, List, [], ◌∷◌, ◌++◌, length, map, take}
+use Rattle.std.proofs.Common.{◌≡◌, ◌⊎◌, inl, inr, ℕ, suc, ◌+◌, ◌-◌, ◌≤◌, List, [], ◌∷◌, ◌++◌, length, map, take}
 use Rattle.std.proofs.Common.{slice_index_or, slice_range, Some, None, Result, Ok, refl, sym, ap, ap₂, ◌∙◌}
 use Rattle.std.proofs.{Common.{append_assoc, append-nil, length-append, arith}, Math.Seq.take-append_seam}
 use Rattle.std.proofs.{Math.Seq.take-length, lemmas.List.{length-map, Sums.fold-append}}

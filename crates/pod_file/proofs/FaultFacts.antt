@@ -2,7 +2,8 @@
 use Rattle.std.proofs.Common.{◌≡◌, ℕ, ◌+◌, ◌-◌, ◌<◌, ◌≤◌, ◌==◌, Bool, true, false, cond, List, [], ◌∷◌, ◌++◌, refl, sym}
 use Rattle.std.proofs.{Common.{ap, ap₂, ◌∙◌, arith}, lemmas.{Bool.Decides.nat_tests, List.Folds.list_any-append}}
 use Rattle.std.specs.{Cmp.unsigned_ties, List.list_any, Ordering.{is_eq, nat_cmp}, Prelude.◌||◌}
-use Rattle.pod_file.proofs.IndexFacts.{HasOneMore, at_end}
+use Rattle.cni_addr.proofs.Tests.{one_more}
+use Rattle.pod_file.proofs.IndexFacts.{HasOneMore}
 use Rattle.pod_file.specs.Faults.{are_after}
 
 -- the set has this number
@@ -33,7 +34,7 @@ before-more old new numbers number from_1 before more made =
     ∙ more made
     ∙ ap₂ (λ here rest. cond here true rest) (sym (unsigned_ties (number - 1) made) ∙ call_after number made from_1)
     (sym (are_after-has made old) ∙ before made)
-    ∙ at_end (number == made + 1) (list_any (λ k. k == made + 1) numbers)
+    ∙ one_more (number == made + 1) (list_any (λ k. k == made + 1) numbers)
     ∙ sym (list_any-append (λ k. k == made + 1) numbers (number ∷ []))
 
 -- no call has the number 0

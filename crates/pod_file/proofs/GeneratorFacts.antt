@@ -8,7 +8,7 @@ use Rattle.std.proofs.lemmas.Slice.Eq.{bytes_eq-Decides}
 use Rattle.std.specs.{List.{list_any, list_all, range_with_len}, Prelude.{◌&&◌, if◌then◌else◌, filter, All, Result, Ok}}
 use Rattle.std.specs.{Prelude.{decimal, ⊤}, Str.bytes_eq}
 use Rattle.std.proofs.lemmas.List.Folds as folds
-use Rattle.cni_addr.proofs.Lists.{list_all-append}
+use Rattle.cni_addr.proofs.Lists.{list_all-append, length-filter_le}
 use Rattle.cni_addr.specs.Lists.{distinct}
 use Rattle.kernel_types.specs.{Opening.AreNamespaceNames, Terms.is_host_ns}
 use Rattle.pod_file.proofs.{CommandFacts.{AreCommands, count-all_numbered}, OpeningFacts.{opening_with-ok, no_links}}
@@ -33,15 +33,6 @@ unfolding containers
 length-containers n = length-map-range_with_len container_of 1 n
 
 -- ---- few commands
-
-filter_step : {X : Type 0} (b : Bool) (x : X) (kept xs : List X) → length kept ≤ length xs
-    → length (cond b (x ∷ kept) kept) ≤ suc (length xs)
-filter_step true x kept xs h = omega arith
-filter_step false x kept xs h = omega arith
-
-length-filter-le : {X : Type 0} (p : X → Bool) (xs : List X) → length (filter p xs) ≤ length xs
-length-filter-le p [] = omega arith
-length-filter-le p (x ∷ xs) = filter_step (p x) x (filter p xs) xs (length-filter-le p xs)
 
 count_of_five : (a b d g k : List Command)
     → length (in_file_order (a ∷ b ∷ d ∷ g ∷ k ∷ [])) ≡ length a + length b + length d + length g + length k
@@ -77,8 +68,8 @@ rounds_for-few cs few =
     omega (
       arith,
       count-rounds_for cs,
-      length-filter-le (λ (c : Container). c.number % 2 == 0) cs,
-      length-filter-le (λ (c : Container). c.number % 4 == 1) cs,
+      length-filter_le (λ (c : Container). c.number % 2 == 0) cs,
+      length-filter_le (λ (c : Container). c.number % 4 == 1) cs,
     ) in
     grind (arith, nat_tests, within)
 

@@ -1,29 +1,18 @@
 -- One more key in a set that tells what a list has.
-use Rattle.std.proofs.Common.{◌≡◌, ℕ, Bool, true, false, cond, List, [], ◌∷◌, ◌++◌, refl, subst, sym, ap₂, ◌∙◌}
-use Rattle.std.proofs.lemmas.{List.Folds.list_any-append, Slice.Eq.bytes_eq-Decides}
-use Rattle.std.specs.Cmp.{both_tied, nat_eq_equiv, unsigned_ties, Lexicographic.{slice_cmp, texts_ties}}
-use Rattle.std.specs.{List.list_any, Ordering.{is_eq, nat_cmp}, Prelude.{◌==◌, ◌&&◌, ◌||◌}, Str.bytes_eq}
-use Rattle.std.specs.declared.cmp.Ordering.{Ordering}
+use Rattle.std.proofs.Common.{◌≡◌, ℕ, Bool, true, cond, List, [], ◌∷◌, ◌++◌, refl, subst, sym, ap₂, ◌∙◌}
+use Rattle.std.proofs.{Math.Bool.and_comm, lemmas.{List.Folds.list_any-append, Slice.Eq.bytes_eq-Decides}}
+use Rattle.std.specs.Cmp.{both_tied, nat_eq_equiv, unsigned_ties, Derive.one_truth, Lexicographic.slice_cmp}
+use Rattle.std.specs.{Cmp.Lexicographic.texts_ties, List.list_any, Ordering.{is_eq, nat_cmp}, Prelude.{◌==◌, ◌&&◌}}
+use Rattle.std.specs.{Str.bytes_eq, declared.cmp.Ordering.Ordering}
+use Rattle.cni_addr.proofs.Tests.{and_implied, one_more}
 use Rattle.kernel_types.specs.{Terms.is_at, declared.object.Link.Link}
 use Rattle.pod_file.specs.Indexed.{EndedName, HasNames, HasPlaces, LinkPlace, end_of, link_place_cmp, name_cmp}
 
 pub bytes_eq-swap : (s t : List ℕ) → bytes_eq s t ≡ true → bytes_eq t s ≡ true
 bytes_eq-swap s t same = (bytes_eq-Decides t s).1 (sym ((bytes_eq-Decides s t).0 same))
 
-same_by : (a b : Bool) → (a ≡ true → b ≡ true) → (b ≡ true → a ≡ true) → a ≡ b
-same_by true true there back = refl
-same_by true false there back = sym (there refl)
-same_by false true there back = back refl
-same_by false false there back = refl
-
 bytes_eq-flip : (s t : List ℕ) → bytes_eq s t ≡ bytes_eq t s
-bytes_eq-flip s t = same_by (bytes_eq s t) (bytes_eq t s) (bytes_eq-swap s t) (bytes_eq-swap t s)
-
-pub at_end : (here before : Bool) → cond here true before ≡ (before || (here || false))
-at_end true true = refl
-at_end true false = refl
-at_end false true = refl
-at_end false false = refl
+bytes_eq-flip s t = one_truth (bytes_eq s t) (bytes_eq t s) (bytes_eq-swap s t) (bytes_eq-swap t s)
 
 -- one more key in a set in this order
 abbrev pub HasOneMore : {K : Type 0} → (K → K → Ordering) → (has more : K → Bool) → K → Type 0
@@ -33,11 +22,6 @@ HasOneMore {K} cmp has more key = (q : K) → more q ≡ cond (is_eq (cmp key q)
 ends_equal : (s t : List ℕ) → bytes_eq s t ≡ true → (end_of s == end_of t) ≡ true
 ends_equal s t same =
     subst (λ u. (end_of s == end_of u) ≡ true) ((bytes_eq-Decides s t).0 same) (nat_eq_equiv.refl (end_of s))
-
-and_implied : (p q : Bool) → (q ≡ true → p ≡ true) → q ≡ (p && q)
-and_implied true q h = refl
-and_implied false true h = sym (h refl)
-and_implied false false h = refl
 
 names_tie : (s t : List ℕ) → bytes_eq s t ≡ is_eq (name_cmp (end_of s, s) (end_of t, t))
 names_tie s t =
@@ -52,18 +36,12 @@ places_tie ns name ms other =
     both_tied (bytes_eq name other) (bytes_eq ns ms) (name_cmp (end_of name, name) (end_of other, other))
     (slice_cmp nat_cmp ns ms) (names_tie name other) (texts_ties ns ms)
 
-and-turned : (a b : Bool) → (a && b) ≡ (b && a)
-and-turned true true = refl
-and-turned true false = refl
-and-turned false true = refl
-and-turned false false = refl
-
 pub names-more : (has more : EndedName → Bool) (names : List (List ℕ)) (name : List ℕ) → HasNames has names
     → HasOneMore name_cmp has more (end_of name, name) → HasNames more (names ++ name ∷ [])
 names-more has more names name old new q =
     new (end_of q, q)
     ∙ ap₂ (λ here before. cond here true before) (sym (names_tie name q) ∙ bytes_eq-flip name q) (old q)
-    ∙ at_end (bytes_eq q name) (list_any (bytes_eq q) names)
+    ∙ one_more (bytes_eq q name) (list_any (bytes_eq q) names)
     ∙ sym (list_any-append (bytes_eq q) names (name ∷ []))
 
 pub places-more : (has more : LinkPlace → Bool) (links : List Link) (link : Link) → HasPlaces has links
@@ -72,7 +50,7 @@ pub places-more : (has more : LinkPlace → Bool) (links : List Link) (link : Li
 places-more has more links link old new ns name =
     new ((end_of name, name), ns)
     ∙ ap₂ (λ here before. cond here true before)
-    (sym (places_tie link.ns link.name ns name) ∙ and-turned (bytes_eq link.name name) (bytes_eq link.ns ns))
+    (sym (places_tie link.ns link.name ns name) ∙ and_comm (bytes_eq link.name name) (bytes_eq link.ns ns))
     (old ns name)
-    ∙ at_end (is_at ns name link) (list_any (is_at ns name) links)
+    ∙ one_more (is_at ns name link) (list_any (is_at ns name) links)
     ∙ sym (list_any-append (is_at ns name) links (link ∷ []))

@@ -1,5 +1,5 @@
+pub mod Added
 pub mod Parts
-mod Added
 mod Apart
 mod AskedFor
 mod Bounded

@@ -2,6 +2,7 @@
 pub mod Indexed
 pub mod Kept
 pub mod KeptAtBegin
+pub mod KeptByNumber
 pub mod Positions
 pub mod ReadyByIndex
 pub mod RoundDone

@@ -4,6 +4,7 @@ pub mod LastRows
 pub mod Numbered
 pub mod StepAnswers
 pub mod StepEnds
+pub mod StepFields
 pub mod StepRows
 pub mod StepShapes
 pub mod StepShares

@@ -1,6 +1,6 @@
 -- What an undisturbed run reports is determined by what it was told.
-use Rattle.std.proofs.Common.{◌≡◌, ◌≢◌, ◌∙◌, ℕ, List, [], ◌++◌, refl, sym, ap, ap₂, subst, arith, inl, inr, Bool, cond}
-use Rattle.std.proofs.{Common.{Option, Some, None, IfSome, slice_get}, lemmas.Map.Keys.any_passes_from_place}
+use Rattle.std.proofs.Common.{◌≡◌, ◌≢◌, ◌∙◌, ℕ, List, [], ◌++◌, refl, sym, ap, ap₂, subst, inl, inr, Bool, cond, Option}
+use Rattle.std.proofs.{Common.{Some, None, IfSome, slice_get}, lemmas.Map.Keys.any_passes_from_place}
 use Rattle.std.proofs.lemmas.Option.{none-some}
 use Rattle.std.specs.List.{list_any}
 use Rattle.cni_io.specs.Files.{StoredFiles}

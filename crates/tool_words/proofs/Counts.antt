@@ -8,14 +8,11 @@ use Rattle.std.proofs.lemmas.{Slice.Eq.bytes_eq-Decides, Str.Parse.{digit_at, nu
 use Rattle.std.proofs.lemmas.Str.Parse.{without_leading_plus_none}
 use Rattle.std.specs.Str.Parse.{IsNumeral, digits_value, without_leading_plus}
 use Rattle.clap.specs.Walk.{Text}
+use Rattle.cni_addr.proofs.Options.{none_of}
 use Rattle.tool_words.specs.{Command.{most_lists, most_pods}, Source.{IsSourceWithin, IsStopWithin, asks_generator}}
 use Rattle.tool_words.specs.Source.{asks_session, begins_plainly, count_of, files_of, generated_of, is_alone, is_count}
 use Rattle.tool_words.specs.{Source.{session_of, source_of}, declared.source.{Named.Named, Source.Source}}
 use Rattle.tool_words.specs.declared.source.Source.TheVariants.{Files, Generated, Session}
-
-none_of : {A : Type 0} (o : Option A) → ((x : A) → o ≡ Some x → ⊥) → None ≡ o
-none_of None apart = refl
-none_of (Some x) apart = absurd (apart x refl)
 
 counts : (n : ℕ) → 1 ≤ n → n ≤ most_pods → is_count n ≡ true
 counts n least most = grind (arith, nat_tests)
@@ -46,7 +43,7 @@ decimal_count text n is =
 
 none_decimal : (text : List ℕ) → ((n : ℕ) → 1 ≤ n → n ≤ most_pods → text ≡ decimal n → ⊥) → None ≡ count_of text
 none_decimal text apart =
-    none_of (count_of text) λ n e. let (is, least, most) = decimal_count text n e in apart n least most is
+    sym (none_of (count_of text) (λ n e. let (is, least, most) = decimal_count text n e in apart n least most is))
 
 plain_decimal : (n : ℕ) → 1 ≤ n → n ≤ most_pods → begins_plainly (decimal n) ≡ true
 plain_decimal n least most =

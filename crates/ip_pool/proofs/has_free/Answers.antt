@@ -1,7 +1,8 @@
 use Rattle.std.proofs.Common.{◌≡◌, find, ap, ◌∙◌}
 use Rattle.std.specs.{List.flat_map, Option.is_some}
 use Rattle.ip_pool.specs.Pool.{candidates_in, candidates_of, is_free, has_free_of}
-use Rattle.ip_pool.proofs.{Choice.has_free-matches, Lists.is_some-find}
+use Rattle.cni_addr.proofs.Lists.{is_some-find}
+use Rattle.ip_pool.proofs.Choice.{has_free-matches}
 use Rattle.ip_pool.proofs.has_free.Goals as goal
 
 pub returns : goal.returns

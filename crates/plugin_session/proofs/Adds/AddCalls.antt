@@ -4,7 +4,6 @@ use Rattle.plugin_session.proofs.Names.{Ok, Err, refl, sym, ap, subst, ◌∙◌
 use Rattle.plugin_session.proofs.Names.{◌<◌, and_parts, append-nil, none-some, same_Some, list_all, Addr, NoMemory}
 use Rattle.plugin_session.proofs.Names.{Cached, IsAllowed, IsSound, Call, CachePut, LeaseNext, Kind, Att, Host, Command}
 use Rattle.plugin_session.proofs.Names.{Added, Over, State, after_leases, leases_in, replies}
-use Rattle.plugin_base.specs.Calls.{IsWellFormedCall}
 use Rattle.plugin_registry.specs.Own.{is_own_call}
 use Rattle.plugin_registry.proofs.OwnCalls.{own-well_formed}
 use Rattle.plugin_session.specs.{Adds.{CallEndsAs, GoesStep, StepEndsAs, Steps}, Journal.{JournalView, Went}}
@@ -14,7 +13,8 @@ use Rattle.plugin_session.specs.declared.step.StepEnd.TheVariants as steps
 use Rattle.plugin_session.proofs.Adds.AddSteps.{IsShort, call-ready, call-step, goes-short, goes-then, left-of}
 use Rattle.plugin_session.proofs.Removals.KindEnds.{GoesTo, StaysReady}
 use Rattle.session_laws.proofs.Courses.QuietRuns.{IsQuiet, leases_none, quiet-after_leases, quiet-run}
-use Rattle.session_laws.proofs.Courses.Ready.{moves_last}
+use Rattle.kernel_types.proofs.Lasts.{moves_last}
+use Rattle.plugin_base.proofs.PluginCalls.{allowed-well_formed}
 
 -- ---- the calls of a plugin
 
@@ -22,11 +22,6 @@ use Rattle.session_laws.proofs.Courses.Ready.{moves_last}
 pub record IsMakeable (call : Call) : Type 0 where
   pub allowed : (host : Host) → IsAllowed host call
   pub moves_none : moves_last call ≡ false
-
-allowed-well_formed : (host : Host) (call : Call) → moves_last call ≡ false → IsWellFormedCall call
-    → IsAllowed host call
-allowed-well_formed host (LeaseNext att number set) still formed = absurd cc
-allowed-well_formed host _ still formed = formed
 
 own-moves_none : (att : Att) (ks : List Kind) (call : Call) → is_own_call att ks call ≡ true → moves_last call ≡ false
 own-moves_none att ks (LeaseNext a number set) own = absurd cc

@@ -6,7 +6,7 @@ use Rattle.plugin_session.proofs.Names.{same_Some, bytes_eq-Decides, unwrap_or, 
 use Rattle.std.proofs.{Common.{◌&&◌, ◌==◌, Decides}, lemmas.Bool.{and_from, Decides.{Decides-eqb, same_from_decides}}}
 use Rattle.std.proofs.lemmas.{List.{take_all, take_more}, Map.Text.is_eq-slice_cmp, Option.slice_get_within}
 use Rattle.kernel_types.specs.Equal.{att_eq}
-use Rattle.kernel_types.proofs.{Cases.att_eq-refl, Isolation.att_eq-same}
+use Rattle.kernel_types.proofs.{Cases.att_eq-refl, Isolation.att_eq-same, ListLemmas.at_snoc}
 use Rattle.std.specs.{BTreeMap.BTreeMap, Cmp.{tied_then, Lexicographic.slice_cmp}, Ordering.{is_eq, nat_cmp}}
 use Rattle.std.specs.Ordering.{ordering_then}
 use Rattle.std.specs.BTreeMap as tree
@@ -48,17 +48,6 @@ none-numbered known none = record {
   below = λ c i k is. absurd (none-some k (sym (none c i) ∙ is));
   apart = λ c i d j k is also. absurd (none-some k (sym (none c i) ∙ is));
 }
-
--- an element of a list with one more at the end is an earlier one, or that one
-at_snoc : {X : Type 0} (xs : List X) (y x : X) (i : ℕ) → slice_get (xs ++ y ∷ []) i ≡ Some x
-    → ((i < length xs) × (slice_get xs i ≡ Some x)) ⊎ ((i ≡ length xs) × (x ≡ y))
-at_snoc [] y x zero is = inr (refl, same_Some x y (sym is))
-at_snoc [] y x (suc i) is = absurd (none-some x is)
-at_snoc (z ∷ zs) y x zero is = inl (omega arith, is)
-at_snoc (z ∷ zs) y x (suc i) is = elim (at_snoc zs y x i is) [
-  | inl t ↦ (let less = t.0 in inl (omega arith, t.1))
-  | inr t ↦ inr (ap suc t.0, t.1)
-]
 
 -- each task has the number of its names, with one task more
 each-snoc : (tasks : List Task) (numbers : List ℕ) (known : List ℕ → List ℕ → Option ℕ) (t : Task) (k : ℕ)

@@ -12,7 +12,7 @@ use Rattle.pod_laws.proofs.Names.{before_leases, deleting, at_call_before, advan
 use Rattle.pod_laws.proofs.Names.{kinds_of, sets_of, first_laws, Legal, Placed, commands_of, list_for, World, after}
 use Rattle.pod_laws.proofs.Names.{entry_of, host_of, after_entry, replies_of, reply_to, Entry, Plan, after-append}
 use Rattle.pod_laws.proofs.Names.{replies_of-other, other_number, by-cache, by-deletion, host-made}
-use Rattle.gc_sweep.proofs.Lists.{any-found}
+use Rattle.cni_addr.proofs.Lists.{list_any-found}
 use Rattle.plugin_base.specs.PluginCalls.{is_ensured}
 use Rattle.pod_workers.proofs.Hosts.Replies.{by-begin, by-lease, by-call_after}
 use Rattle.pod_laws.specs.Moments.{is_of, own_entries}
@@ -56,7 +56,7 @@ ensured host name None mtu promisc found done =
 ensured host name (Some link) mtu promisc found done =
     let there : is_host_link name link ≡ true = passes-find (is_host_link name) host.links link found in
     let bridge : is_bridge link.kind ≡ true = done-bridge (is_bridge link.kind) link.tag done in
-    any-found (is_host_link name) (is_host_bridge name) host.links link found (grind (arith, there, bridge))
+    list_any-found (is_host_link name) (is_host_bridge name) host.links link found (grind (arith, there, bridge))
 
 in-bridge : (bridge name : List ℕ) (host : Host) → bytes_eq name bridge ≡ true → has_host_bridge host name ≡ true
     → has_host_bridge host bridge ≡ true

@@ -22,7 +22,7 @@ grows-more xs ys = (ys, refl, tt)
 grows-on : {X : Type 0} (xs ys zs : List X) → GrowsAtEnd xs ys → GrowsAtEnd ys zs → GrowsAtEnd xs zs
 grows-on xs ys zs h g = (h.0 ++ g.0, g.1 ∙ ap (λ l. l ++ g.0) h.1 ∙ append_assoc xs h.0 g.0, tt)
 
-among-right : {X : Type 0} (x : X) (xs ys : List X) → IsAmong x ys → IsAmong x (xs ++ ys)
+pub among-right : {X : Type 0} (x : X) (xs ys : List X) → IsAmong x ys → IsAmong x (xs ++ ys)
 among-right x [] ys h = h
 among-right x (z ∷ zs) ys h = inr (among-right x zs ys h)
 

@@ -1,25 +1,19 @@
 -- What is cached of an attachment is the result of its last ADD that began.
 use Rattle.pod_laws.proofs.Names.{◌≡◌, ℕ, List, [], ◌∷◌, map, Some, None, refl, sym, ◌∙◌, ap, inl, inr, same_Some}
-use Rattle.pod_laws.proofs.Names.{none-some, option_map, Addr, Cached, AddResult, IpEntry, att_of, mappings_of}
+use Rattle.pod_laws.proofs.Names.{none-some, option_map, Addr, Cached, IpEntry, att_of, mappings_of}
 use Rattle.pod_laws.proofs.Names.{addresses_of_result, leases_in, AreCandidates, cached_in, is_own, Att, CachedObj}
-use Rattle.pod_laws.proofs.Names.{Host, Own, Chained, NetList, Share, share_of, all_chained_results, cached_of}
-use Rattle.pod_laws.proofs.Names.{chained_result, first_plugin_result, given_by_list, result_of_add, sets_of, after}
-use Rattle.pod_laws.proofs.Names.{replies_of, Entry, Plan, find-first, first_of}
+use Rattle.pod_laws.proofs.Names.{Host, Own, NetList, Share, share_of, cached_of, first_plugin_result, given_by_list}
+use Rattle.pod_laws.proofs.Names.{result_of_add, sets_of, after, replies_of, Entry, Plan, find-first, first_of}
 use Rattle.cni_addr.specs.declared.address.Cidr.{Cidr}
 use Rattle.host_local.specs.Laws.{CandidatesAreGiven}
 use Rattle.kernel_types.specs.declared.call.Given.{Given}
 use Rattle.plugin_chain.specs.Wanted.{ipam_of}
-use Rattle.plugin_chain.proofs.GivenAddresses.{chained-ips, first-addresses}
+use Rattle.plugin_chain.proofs.GivenAddresses.{all_chained-ips, first-addresses}
 use Rattle.pod_laws.specs.{AskedFor.{HasNothingUnasked, IsAskedFor, IsPart}, CachedResults.EachCachedResultIsItsAdds}
 use Rattle.pod_laws.specs.CachedResults.{IsResultOfItsAdd}
 use Rattle.pod_laws.proofs.AskedFor.Moments.{nothing_is_unasked}
 
 -- ---- the addresses of a result
-
--- chained plugins keep the addresses
-all_chained-ips : (cs : List Chained) (r : AddResult) → (all_chained_results cs r).ips ≡ r.ips
-all_chained-ips [] r = refl
-all_chained-ips (c ∷ cs) r = all_chained-ips cs (chained_result c r) ∙ chained-ips c r
 
 map-addr : {X : Type 0} (f : X → Cidr) (xs : List X) → map (λ x. (f x).addr) xs ≡ map (λ (c : Cidr). c.addr) (map f xs)
 map-addr f [] = refl

@@ -9,7 +9,7 @@ use Rattle.pod_laws.proofs.Names.{AfterLeases, ReadingCache, Deleting, FindingEn
 use Rattle.pod_laws.proofs.Names.{Calls, before_of, back_of, turn, leases_in, att_of, deletion, sets_of, Placed, World}
 use Rattle.pod_laws.proofs.Names.{done, entry_of, host_of, after_entry, replies_of, reply_to, Entry, Plan, after-append}
 use Rattle.pod_laws.proofs.Names.{replies_of-other, LeftAreOfPlugins, other_number, ready_is, sound_host, done_or_not}
-use Rattle.pod_laws.proofs.Names.{leased_or_not}
+use Rattle.pod_laws.proofs.Names.{leased_or_not, opening-share}
 use Rattle.kernel_types.proofs.ChangeLemmas.{DropsOnly-nothing}
 use Rattle.pod_laws.specs.{AskedFor.{AreAskedFor, HasNothingUnasked, IsPart, NothingIsUnasked}, Moments.objects_after}
 use Rattle.pod_laws.specs.Moments.{own_entries}
@@ -22,8 +22,8 @@ use Rattle.pod_laws.proofs.AskedFor.StillAsked.{quiet-now, begin-now, question-n
 use Rattle.pod_laws.proofs.Histories.Begins.{begin-apart, not-begins, outside-no_begin, plugin-no_begin}
 use Rattle.pod_laws.proofs.Histories.{Runs.{every-run-now, own-state}, States.{LeftFit, asked-is_question}}
 use Rattle.pod_laws.proofs.Histories.{Steps.{Changes, GoesOn, by-entries, on-entry}, Turns.{change-of, removes-changed}}
-use Rattle.pod_laws.proofs.{Histories.Turns.{turn-of, work-turn}, Refused.{Causes.plugin-may, Undoing.Undoing}}
-use Rattle.pod_laws.proofs.{Refused.Undoing.{IsUnrefused, undone-start, undone-step}, Shares.Within.opening-share}
+use Rattle.pod_laws.proofs.{Histories.Turns.{turn-of, work-turn}, Refused.{Causes.plugin-may, Runs.undone-start}}
+use Rattle.pod_laws.proofs.Refused.{Runs.undone-step, Undoing.{Undoing, IsUnrefused}}
 
 -- ---- a call of an ADD that goes on
 

@@ -11,7 +11,7 @@ use Rattle.pod_laws.proofs.Names.{list_all-weaker, Chained, First, NetList, is_p
 use Rattle.pod_laws.proofs.Names.{share_after_call, share_of, share-other, share-own, refused-same, Command, Legal}
 use Rattle.pod_laws.proofs.Names.{Placed, IsWellFormed, list_named, World, after, after_entry, entry_of, host_of}
 use Rattle.pod_laws.proofs.Names.{replies_of, Entry, Plan, done_or_not, removes-deletion, after-append}
-use Rattle.pod_laws.proofs.Names.{LeftAreOfPlugins, each_prefix, sound_host, OnlyRemoves}
+use Rattle.pod_laws.proofs.Names.{LeftAreOfPlugins, each_prefix, sound_host, OnlyRemoves, opening-share}
 use Rattle.plugin_base.specs.Results.{names_first, names_of}
 use Rattle.gc_sweep.proofs.OfKinds.{still_none}
 use Rattle.pod_laws.specs.{AskedFor.HasNothingUnasked, Moments.own_entries}
@@ -21,8 +21,7 @@ use Rattle.pod_laws.proofs.AskedFor.{CachedResults.no-entry, Moments.nothing_is_
 use Rattle.pod_laws.proofs.{Checked.OutsideBridges.bridge-changed, Histories.Runs.{every-run-now, own-state}}
 use Rattle.pod_laws.proofs.Histories.States.{LeftFit, asked-is_question, is_question, question-leaves}
 use Rattle.pod_laws.proofs.Histories.Steps.{ChangesKeep, EntriesKeep, GoesOn, by-entries, on-entry}
-use Rattle.pod_laws.proofs.Histories.Turns.{AsksOrCollects, removes-changed, turn-of, work-turn}
-use Rattle.pod_laws.proofs.{Shares.Within.opening-share, Tests.middle-passes}
+use Rattle.pod_laws.proofs.{Histories.Turns.{AsksOrCollects, removes-changed, turn-of, work-turn}, Tests.middle-passes}
 use Rattle.pod_workers.proofs.Hosts.GoesWell.{list_named-listed}
 
 -- ---- calls that cache nothing

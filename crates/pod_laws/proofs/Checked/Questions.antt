@@ -1,15 +1,15 @@
 -- What a CHECK asks for, and that the answers stay while other attachments change.
 use Rattle.pod_laws.proofs.Names.{◌≡◌, ℕ, ◌+◌, Bool, true, List, [], ◌∷◌, ◌++◌, map, Option, Some, None, refl, sym, ◌∙◌}
 use Rattle.pod_laws.proofs.Names.{ap, arith, and-true, and_parts, list_all-append, any-filter_same, AllByRecursion}
-use Rattle.pod_laws.proofs.Names.{list_any, list_all, ◌&&◌, filter, option_map, bytes_eq, mac_eq, Mac, Cached}
-use Rattle.pod_laws.proofs.Names.{Interface, NetList, Command, addr_obj_eq, lease_eq, link_eq, route_eq, rule_eq}
-use Rattle.pod_laws.proofs.Names.{setting_eq, tag_eq, cached_in, is_own, AddrObj, CachedObj, Host, Lease, Link, Setting}
-use Rattle.pod_laws.proofs.Names.{Tag, is_own-tag_eq, Share, att_of, Question, addresses_of_result, share_questions}
-use Rattle.pod_laws.proofs.Names.{bridge_by_mac, first_interface, bridge_questions, cached_share, check_questions}
-use Rattle.pod_laws.proofs.Names.{bridge_of, each-append, find-first, first_of}
+use Rattle.pod_laws.proofs.Names.{list_any, list_all, ◌&&◌, filter, option_map, Mac, Cached, Interface, NetList}
+use Rattle.pod_laws.proofs.Names.{Command, addr_obj_eq, lease_eq, link_eq, route_eq, rule_eq, setting_eq, tag_eq}
+use Rattle.pod_laws.proofs.Names.{cached_in, is_own, AddrObj, CachedObj, Host, Lease, Link, Setting, Tag, is_own-tag_eq}
+use Rattle.pod_laws.proofs.Names.{Share, att_of, Question, addresses_of_result, share_questions, bridge_by_mac}
+use Rattle.pod_laws.proofs.Names.{first_interface, bridge_questions, cached_share, check_questions, bridge_of}
+use Rattle.pod_laws.proofs.Names.{each-append, find-first, first_of}
 use Rattle.std.proofs.Math.Bool.{beq}
 use Rattle.std.specs.{Option.option_eq, Prelude.◌==◌}
-use Rattle.kernel_types.specs.Equal.{chain_eq, cidr_eq, key_eq, link_kind_eq, proto_eq, table_eq, target_eq}
+use Rattle.kernel_types.specs.Equal.{chain_eq, cidr_eq, proto_eq, table_eq, target_eq}
 use Rattle.kernel_types.specs.declared.{object.RouteObj.RouteObj, rule.Rule.Rule}
 use Rattle.kernel_types.proofs.ListLemmas as lists
 use Rattle.cni_errors.specs.ObjectQuestions.{link_question, address_question, route_question, rule_questions}
@@ -20,6 +20,7 @@ use Rattle.pod_laws.specs.Checked.{are_in, has_bridge_by, has_bridge_for, has_fi
 use Rattle.pod_laws.specs.{Checked.holds_cached, Granted.grants}
 use Rattle.pod_laws.proofs.{Checked.OwnWanted.{AreOwn, own-wanted}, Questions.{Asking.tells, SteadyHosts.KeepsAsked}}
 use Rattle.pod_workers.proofs.Lists.Each.{each-map_of}
+use Rattle.kernel_types.proofs.ToldByKeys.{link_eq-tag}
 
 -- ---- one question
 
@@ -40,23 +41,6 @@ same-own p own w old new same there =
 and-fifth : (a b d e r : Bool) → (a && (b && (d && (e && r)))) ≡ true → r ≡ true
 and-fifth a b d e r h =
     (and_parts e r (and_parts d (e && r) (and_parts b (d && (e && r)) (and_parts a (b && (d && (e && r))) h).1).1).1).1
-
-pub link-tag : (a b : Link) → link_eq a b ≡ true → tag_eq a.tag b.tag ≡ true
-link-tag a b h =
-    let last = a.tx_qlen == b.tx_qlen && tag_eq a.tag b.tag in
-    let third = beq a.promisc b.promisc && (beq a.allmulti b.allmulti && last) in
-    let second =
-    option_eq key_eq a.peer b.peer
-    && (mac_eq a.mac b.mac && (a.mtu == b.mtu && (beq a.hairpin b.hairpin && third))) in
-    let is_second : second ≡ true =
-    and-fifth (bytes_eq a.ns b.ns) (bytes_eq a.name b.name) (link_kind_eq a.kind b.kind)
-    (option_eq bytes_eq a.master b.master) second h in
-    let is_third : third ≡ true =
-    and-fifth (option_eq key_eq a.peer b.peer) (mac_eq a.mac b.mac) (a.mtu == b.mtu) (beq a.hairpin b.hairpin)
-    third is_second in
-    (and_parts (a.tx_qlen == b.tx_qlen) (tag_eq a.tag b.tag)
-    (and_parts (beq a.allmulti b.allmulti) last
-    (and_parts (beq a.promisc b.promisc) (beq a.allmulti b.allmulti && last) is_third).1).1).1
 
 pub address-tag : (a b : AddrObj) → addr_obj_eq a b ≡ true → tag_eq a.tag b.tag ≡ true
 address-tag a b h = grind (arith, h)
@@ -107,7 +91,7 @@ steady-object c equal tag listed q x what same_tag keep asks told lack own = rec
 
 steady-link : (c : Command) (l : Link) → is_own (att_of c) l.tag ≡ true → IsSteadyQuestion c (link_question l)
 steady-link c l own =
-    steady-object c link_eq (λ y. y.tag) (λ host. host.links) (link_question l) l (missed.Link l) link-tag
+    steady-object c link_eq (λ y. y.tag) (λ host. host.links) (link_question l) l (missed.Link l) link_eq-tag
     (λ old new keeps. ap (λ (s : Share). s.links) keeps.share) (λ host. refl) refl refl own
 
 steady-address : (c : Command) (a : AddrObj) → is_own (att_of c) a.tag ≡ true → IsSteadyQuestion c (address_question a)

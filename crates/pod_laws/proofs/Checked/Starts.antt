@@ -9,17 +9,17 @@ use Rattle.pod_laws.proofs.Names.{cached_in, is_at, is_bridge, is_bridge_with, i
 use Rattle.pod_laws.proofs.Names.{is_own, BridgeAt, Att, Host, Link, Tag, is_own-tag_eq, NetList, Share, share_of}
 use Rattle.pod_laws.proofs.Names.{is_of_network, Command, Legal, Placed, list_for, World, after, entry_of, host_of}
 use Rattle.pod_laws.proofs.Names.{Entry, Plan, after-append, listed_network, none-or-some}
-use Rattle.kernel_types.proofs.ListLemmas.{list_any-weaker}
+use Rattle.kernel_types.proofs.{ListLemmas.list_any-weaker, ToldByKeys.link_eq-tag}
 use Rattle.pod_laws.specs.Checked.{ChecksHoldFromTheirStart, HoldAlike, are_in, has_bridge_by, has_bridge_for}
 use Rattle.pod_laws.specs.{Checked.has_objects_of, Granted.only_asks, Moments.{host_at_end, host_at_start, is_of}}
 use Rattle.pod_laws.specs.Moments.{own_entries, until_first, until_last}
 use Rattle.pod_laws.proofs.Checked.{CachedBridges.{always-named, has_bridge_named}, OwnWanted.{AreOwn, own-wanted}}
-use Rattle.pod_laws.proofs.Checked.Questions.{address-tag, cached-stays, lease-tag, link-tag, route-tag, rule-tag}
-use Rattle.pod_laws.proofs.{Checked.Questions.setting-tag, Histories.{AloneRuns.until_first-own, Entries.is_of-own}}
-use Rattle.pod_laws.proofs.Histories.Entries.{no-entries, own_entries-other, until_last-other, until_last-own}
-use Rattle.pod_laws.proofs.Histories.Steps.{AllListed, IsOtherKept, IsOwnKept, ListFact, by-listed}
-use Rattle.pod_laws.proofs.Questions.{Entries.question-entered, SteadyHosts.{KeepsAsked, KeepsBridges, asked-kept}}
-use Rattle.pod_laws.proofs.{Questions.SteadyHosts.keeps-same, Shares.DistinctLeases.sound-at_end}
+use Rattle.pod_laws.proofs.Checked.Questions.{address-tag, cached-stays, lease-tag, route-tag, rule-tag, setting-tag}
+use Rattle.pod_laws.proofs.Histories.{AloneRuns.until_first-own, Entries.{is_of-own, no-entries, own_entries-other}}
+use Rattle.pod_laws.proofs.Histories.{Entries.{until_last-other, until_last-own}, Steps.{AllListed, IsOtherKept}}
+use Rattle.pod_laws.proofs.{Histories.Steps.{IsOwnKept, ListFact, by-listed}, Questions.Entries.question-entered}
+use Rattle.pod_laws.proofs.Questions.SteadyHosts.{KeepsAsked, KeepsBridges, asked-kept, keeps-same}
+use Rattle.pod_laws.proofs.Shares.DistinctLeases.{sound-at_end}
 use Rattle.std.specs.Cmp.Derive.{one_truth}
 use Rattle.pod_workers.proofs.Hosts.GoesWell.{list_named-listed}
 
@@ -125,7 +125,7 @@ alike-objects : (att : Att) (s : Share) → AreOwn att s → (old new : Host) �
     → has_objects_of old s ≡ has_objects_of new s
 alike-objects att s own old new same =
     alike-both _ _ _ _
-    (alike-list link_eq att (λ x. x.tag) link-tag old.links new.links (ap (λ (k : Share). k.links) same)
+    (alike-list link_eq att (λ x. x.tag) link_eq-tag old.links new.links (ap (λ (k : Share). k.links) same)
     s.links own.links)
     (alike-both _ _ _ _
     (alike-list addr_obj_eq att (λ x. x.tag) address-tag old.addresses new.addresses

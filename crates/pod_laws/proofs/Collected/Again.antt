@@ -3,9 +3,10 @@ use Rattle.pod_laws.proofs.Names.{◌≡◌, ℕ, ◌≤◌, Bool, true, false, 
 use Rattle.pod_laws.proofs.Names.{inr, arith, filter, if◌then◌else◌, filter-within, NetList, is_of_network}
 use Rattle.pod_laws.proofs.Names.{is_exclusive_verb, Command, DropsOnly, Host, keep, stays, Bounds, Entry}
 use Rattle.pod_laws.proofs.Names.{listed_network, none-or-some}
+use Rattle.cni_addr.proofs.Lists.{filter-every}
 use Rattle.pod_file.specs.declared.command.ValidAtt.{ValidAtt}
 use Rattle.cni_errors.specs.declared.answer.Answer.TheVariants as answers
-use Rattle.gc_sweep.proofs.{Kept.host_of_parts, Lists.{count_drops, filter_every}}
+use Rattle.gc_sweep.proofs.{Kept.host_of_parts, Lists.count_drops}
 use Rattle.pod_laws.specs.{Answers.OrCutOff, Collected.{CollectionsInARowKeep, CollectionsFillTheirRounds}}
 use Rattle.pod_laws.specs.{Collected.{IsCleanCollection, IsCollectionAnswer}, Moments.{host_at_end, host_at_round}}
 use Rattle.pod_laws.specs.Moments.{host_at_start, own_entries}
@@ -15,7 +16,7 @@ use Rattle.pod_laws.proofs.Collected.Answered.{collections_are_answered, collect
 -- ---- lists that lost elements
 
 drops-length : {X : Type 0} (old new : List X) → DropsOnly (λ x. true) old new → length new ≤ length old
-drops-length old new d = rw (filter_every new, filter_every old) at (count_drops (λ x. true) (λ x. true) old new d)
+drops-length old new d = rw (filter-every new, filter-every old) at (count_drops (λ x. true) (λ x. true) old new d)
 
 drops-none : {X : Type 0} (old new : List X) → DropsOnly (λ x. true) old new → length old ≤ length new → new ≡ old
 drops-none [] new d long = d

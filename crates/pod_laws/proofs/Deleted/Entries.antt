@@ -8,8 +8,8 @@ use Rattle.kernel_types.proofs.DropsOwn.{RemovesOwn-apply, RemovesOwn-nothing}
 use Rattle.gc_sweep.proofs.{Deletions.deletion-none, Removes.deletes-deletion}
 use Rattle.pod_laws.specs.{Deleted.{DeletesOwnAlone, EachDeletionIsOwn}, Moments.own_entries}
 use Rattle.pod_laws.proofs.Histories.{EachEntry.{DoesByVerb, each-entry_of}, Runs.{every-run-now, own-state}}
-use Rattle.pod_laws.proofs.{Histories.{States.{IsOtherVerb, not-both}, Steps.on-entry}, Refused.Undoing.Undoing}
-use Rattle.pod_laws.proofs.Refused.Undoing.{undone-start, undone-step}
+use Rattle.pod_laws.proofs.{Histories.{States.{IsOtherVerb, not-both}, Steps.on-entry}, Refused.Runs.undone-start}
+use Rattle.pod_laws.proofs.Refused.{Runs.undone-step, Undoing.Undoing}
 
 -- ---- one entry
 

@@ -9,8 +9,8 @@ use Rattle.pod_file.specs.declared.command.Verb.TheVariants as verbs
 use Rattle.pod_laws.specs.{Moments.own_entries, Refused.lets_go_on}
 use Rattle.pod_laws.proofs.Histories.{Begins.{first-call, granted-done}, Runs.{IsRunFact, StartsWith, every-run}}
 use Rattle.pod_laws.proofs.Histories.{Runs.{every-run-now, own-state}, States.{IsOtherVerb, not-both}}
-use Rattle.pod_laws.proofs.Refused.{Causes.{IsPluginReply, begin-may}, Undoing.{Leads, Undoing, undone-start}}
-use Rattle.pod_laws.proofs.Refused.Undoing.{undone-step}
+use Rattle.pod_laws.proofs.Refused.{Causes.{IsPluginReply, begin-may}, Runs.{undone-start, undone-step}, Undoing.Leads}
+use Rattle.pod_laws.proofs.Refused.Undoing.{Undoing}
 
 -- ---- the first entry of an ADD that goes on was granted
 

@@ -12,8 +12,8 @@ use Rattle.kernel_types.specs.declared.call.Kind.TheVariants as kinds
 use Rattle.pod_laws.specs.{AskedFor.is_begin_of, Moments.own_entries, Repeated.makes_nothing}
 use Rattle.pod_laws.proofs.Histories.{Runs.{every-run-now, own-state}, States.{LeftFit, is_question, question-leaves}}
 use Rattle.pod_laws.proofs.Histories.{States.asked-is_question, Steps.{GoesOn, on-entry}, Turns.AsksOrCollects}
-use Rattle.pod_laws.proofs.{Histories.Turns.{IsTurnOf, turn-of, work-turn}, Refused.Undoing.{Undoing, undone-start}}
-use Rattle.pod_laws.proofs.Refused.Undoing.{undone-step}
+use Rattle.pod_laws.proofs.{Histories.Turns.{IsTurnOf, turn-of, work-turn}, Refused.Runs.{undone-start, undone-step}}
+use Rattle.pod_laws.proofs.Refused.Undoing.{Undoing}
 
 -- ---- an entry of another verb than ADD only removes
 

@@ -19,8 +19,8 @@ use Rattle.pod_laws.specs.Refused.{WasRefused, IsRefusedFor, AnswersOfAdd, Begin
 use Rattle.pod_laws.proofs.Added.Achieved.{Achieved, IsAddedWith, achieved-end, achieved-start, achieved-step}
 use Rattle.pod_laws.proofs.{Given.{CutOff.over-by, Due.IsSwept}, Histories.Runs.{RunFact, every-run}}
 use Rattle.pod_laws.proofs.Histories.States.{IsNoResult, IsOtherVerb, swept-no_result, not-both}
-use Rattle.pod_laws.proofs.{Questions.Asking.fault-last, Refused.Undoing.{Undoing, Ends, undone-end, undone-start}}
-use Rattle.pod_laws.proofs.{Refused.Undoing.undone-step, Shares.DistinctLeases.{leases-distinct, sound-at_end}}
+use Rattle.pod_laws.proofs.{Questions.Asking.fault-last, Refused.Runs.{undone-end, undone-start, undone-step}}
+use Rattle.pod_laws.proofs.{Refused.Undoing.{Undoing, Ends}, Shares.DistinctLeases.{leases-distinct, sound-at_end}}
 use Rattle.pod_laws.proofs.Tests.{first-fails, middle-passes}
 
 -- ---- answers by endings

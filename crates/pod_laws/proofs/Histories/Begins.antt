@@ -16,8 +16,8 @@ use Rattle.pod_laws.proofs.Histories.Entries.{apart-entry, is_of-own, own_entrie
 use Rattle.pod_laws.proofs.Histories.{Runs.{every-run-now, own-state}, States.{IsOtherVerb, is_question, not-both}}
 use Rattle.pod_laws.proofs.Histories.Steps.{AllOpen, Changes, GoesOn, IsOpenKept, OpenFact, by-open}
 use Rattle.pod_laws.proofs.Histories.Turns.{AsksOrCollects, IsTurnOf, change-of, other_att, turn-of}
-use Rattle.pod_laws.proofs.Refused.{Causes.{IsPluginReply, begin-may}, Undoing.{Undoing, Leads, undone-start}}
-use Rattle.pod_laws.proofs.Refused.Undoing.{undone-step}
+use Rattle.pod_laws.proofs.Refused.{Causes.{IsPluginReply, begin-may}, Runs.{undone-start, undone-step}}
+use Rattle.pod_laws.proofs.Refused.Undoing.{Undoing, Leads}
 
 -- ---- Begins in a history
 

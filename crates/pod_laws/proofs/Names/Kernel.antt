@@ -1,9 +1,9 @@
 -- The kernel: its calls, objects and replies.
 pub use Rattle.kernel_types.proofs.{Cases.att_eq-refl, EveryCall.Touches-apply, Isolation.KeepsUnowned-Touches}
-pub use Rattle.kernel_types.proofs.{Isolation.{KeepsWhere-nothing, att_eq-same}, ListLemmas.list_any-append_left}
-pub use Rattle.kernel_types.proofs.ListLemmas.{list_any-append_right, list_any-kept, passes-find, list_all-weaker}
-pub use Rattle.kernel_types.proofs.ListLemmas.{list_any-map, list_any-same_test, list_any-append_none, list_all-push}
-pub use Rattle.kernel_types.proofs.{Replies.IsReplyOf-apply, TouchRemoval.is_own-tag_eq}
+pub use Rattle.kernel_types.proofs.{Isolation.{KeepsWhere-nothing, att_eq-same}, ListLemmas.each-append}
+pub use Rattle.kernel_types.proofs.ListLemmas.{list_any-append_left, list_any-append_right, list_any-kept, passes-find}
+pub use Rattle.kernel_types.proofs.ListLemmas.{list_all-weaker, list_any-map, list_any-same_test, list_any-append_none}
+pub use Rattle.kernel_types.proofs.{ListLemmas.list_all-push, Replies.IsReplyOf-apply, TouchRemoval.is_own-tag_eq}
 pub use Rattle.kernel_types.specs.{Allowed.IsAllowed, Apply.{apply, Calls.{bridge_or_new, new_bridge}}}
 pub use Rattle.kernel_types.specs.Apply.Calls.{master_is_bridge_or_none, append_unless_taken, has_link_of, is_own_at}
 pub use Rattle.kernel_types.specs.Apply.Calls.{is_same_addr, is_same_route, is_same_setting, set_link, new_gateway}

@@ -3,7 +3,7 @@ pub use Rattle.cni_errors.specs.{CommandFields.{att_of, add_refusal, del_refusal
 pub use Rattle.cni_errors.specs.declared.answer.{Cause.Cause, Ending.{Ending, TheVariants.{Added, Yes, Skipped}}}
 pub use Rattle.cni_errors.specs.declared.answer.{Ending.TheVariants.{Versions, Refused}, Question.Question}
 pub use Rattle.net_conf.specs.declared.{chained.Chained.Chained, first.First.First, list.NetList.NetList}
-pub use Rattle.cni_verbs.proofs.EarlyEndings.{too_old}
+pub use Rattle.cni_verbs.proofs.{EarlyEndings.too_old, Openings.opening-share}
 pub use Rattle.cni_verbs.specs.{AddCalls.is_done, Mappings.mappings_of, Progress.{is_gc, turn_by, answer_by}}
 pub use Rattle.cni_verbs.specs.Questions.{addresses_of_result, bridge_by_mac, bridge_questions, cached_share}
 pub use Rattle.cni_verbs.specs.Questions.{first_interface, master_questions, pool_questions, share_questions}

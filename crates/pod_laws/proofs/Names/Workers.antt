@@ -4,8 +4,8 @@ pub use Rattle.pod_workers.proofs.Hosts.{GoesWell.if-listed, OfPlugins.{LeftAreO
 pub use Rattle.pod_workers.proofs.Hosts.{OfPlugins.{LeftIsOutside, left-is-outside}, Replies.{by-cache, by-deletion}}
 pub use Rattle.pod_workers.proofs.Hosts.Replies.{by-unless_early, by-either, by-unless, by-unless_old}
 pub use Rattle.pod_workers.proofs.{Hosts.Sound.{sound_host, fine}, InOrder.Order.{other_number, ready_is, apart}}
-pub use Rattle.pod_workers.proofs.{InOrder.Order.alone_apart, Lists.{Each.{each-append, each-at}, Elements.find-first}}
-pub use Rattle.pod_workers.proofs.Lists.{Elements.first_of, Splits.{split_nil, split_snoc, none-or-some, cons_parts}}
+pub use Rattle.pod_workers.proofs.{InOrder.Order.alone_apart, Lists.{Each.each-at, Elements.{find-first, first_of}}}
+pub use Rattle.pod_workers.proofs.Lists.Splits.{split_nil, split_snoc, none-or-some, cons_parts}
 pub use Rattle.pod_workers.proofs.{Plans.Listed.listed_network, Worlds.AnswersDue.answer_is_due}
 pub use Rattle.pod_workers.proofs.Worlds.Histories.{after-append, replies_of-other, entry_or_none, has_reply}
 pub use Rattle.pod_workers.proofs.Worlds.Prefixes.{each_prefix}

@@ -1,18 +1,14 @@
 -- An attachment never has objects of a kind that its list's plugins don't name.
-use Rattle.pod_laws.proofs.Names.{◌≡◌, ℕ, Bool, true, false, List, [], ◌∷◌, ◌++◌, length, Some, refl, sym, ◌∙◌, ap}
-use Rattle.pod_laws.proofs.Names.{subst, inl, inr, both_ways, cases_Bool, and_parts, same_Some, list_all, filter}
-use Rattle.pod_laws.proofs.Names.{RangeSet, NetList, Command, apply, att_eq, tag_eq, IsSound, is_own, Call, Begin}
-use Rattle.pod_laws.proofs.Names.{LeaseNext, CacheGet, Kind, Att, Host, Tag, att_eq-same, is_of_kinds}
-use Rattle.pod_laws.proofs.Names.{is_plugin_call_of, share_of, no_objects, share-other, share-own, share-lease}
-use Rattle.pod_laws.proofs.Names.{refused-same, refused-lease, att_of, State, AtBegin, BeforeLeases, Leasing}
-use Rattle.pod_laws.proofs.Names.{AfterLeases, ReadingCache, Deleting, FindingEntry, Asking, Changing, Collecting, Over}
-use Rattle.pod_laws.proofs.Names.{Calls, turn, state_after, kinds_of, deletion, Legal, Placed, IsWellFormed, list_named}
-use Rattle.pod_laws.proofs.Names.{World, entry_of, host_of, after_entry, own_replies, Entry, Plan, after-append}
-use Rattle.pod_laws.proofs.Names.{LeftAreOfPlugins, left-are-of_plugins, sound_host, done_or_not, leased_or_not}
-use Rattle.pod_laws.proofs.Names.{HasKindsAlone, HasKindsAlone-removes, removes-deletion}
-use Rattle.pod_file.specs.WellFormed.{IsOpening}
-use Rattle.kernel_types.proofs.ListLemmas.{filter_never}
-use Rattle.kernel_types.specs.declared.object.Tag.TheVariants as tags
+use Rattle.pod_laws.proofs.Names.{◌≡◌, ℕ, Bool, true, false, List, [], ◌∷◌, ◌++◌, length, Some, sym, ◌∙◌, ap, subst}
+use Rattle.pod_laws.proofs.Names.{inl, inr, both_ways, cases_Bool, and_parts, same_Some, list_all, RangeSet, NetList}
+use Rattle.pod_laws.proofs.Names.{Command, apply, att_eq, IsSound, Call, Begin, LeaseNext, CacheGet, Kind, Att, Host}
+use Rattle.pod_laws.proofs.Names.{att_eq-same, is_of_kinds, is_plugin_call_of, share_of, share-other, share-own}
+use Rattle.pod_laws.proofs.Names.{share-lease, refused-same, refused-lease, att_of, State, AtBegin, BeforeLeases}
+use Rattle.pod_laws.proofs.Names.{Leasing, AfterLeases, ReadingCache, Deleting, FindingEntry, Asking, Changing}
+use Rattle.pod_laws.proofs.Names.{Collecting, Over, Calls, turn, state_after, kinds_of, deletion, Legal, Placed}
+use Rattle.pod_laws.proofs.Names.{IsWellFormed, list_named, World, entry_of, host_of, after_entry, own_replies, Entry}
+use Rattle.pod_laws.proofs.Names.{Plan, after-append, LeftAreOfPlugins, left-are-of_plugins, sound_host, done_or_not}
+use Rattle.pod_laws.proofs.Names.{leased_or_not, HasKindsAlone, HasKindsAlone-removes, removes-deletion, opening-share}
 use Rattle.kernel_types.specs.declared.call.Kind.TheVariants as kinds
 use Rattle.plugin_base.specs.Calls.{has_kind}
 use Rattle.pod_workers.proofs.Hosts.{AddCalls.leases-kinds_of, GoesWell.list_named-listed}
@@ -105,26 +101,6 @@ abbrev AllWithin : Plan → List Entry → Type 0
 AllWithin p h =
     (att : Att) (list : NetList) → list_named p.lists att.network ≡ Some list
     → HasKindsAlone (kinds_of list) (objects_after p att h)
-
-outside-unowned : (att : Att) (t : Tag) → tag_eq t tags.Outside ≡ true → is_own att t ≡ false
-outside-unowned att tags.Outside h = refl
-outside-unowned att tags.Base h = cc
-outside-unowned att (tags.Own a) h = cc
-
-pub opening-share : (att : Att) (host : Host) → IsOpening host → share_of att host ≡ no_objects
-opening-share att host opening =
-    let links : filter (λ l. is_own att l.tag) host.links ≡ [] =
-    filter_never (λ l. is_own att l.tag) (λ l. tag_eq l.tag tags.Outside) (λ l. outside-unowned att l.tag)
-    host.links opening.links in
-    let addresses : filter (λ l. is_own att l.tag) host.addresses ≡ [] =
-    ap (filter (λ l. is_own att l.tag)) opening.addresses in
-    let routes : filter (λ l. is_own att l.tag) host.routes ≡ [] = ap (filter (λ l. is_own att l.tag)) opening.routes in
-    let rules : filter (λ l. is_own att l.tag) host.rules ≡ [] = ap (filter (λ l. is_own att l.tag)) opening.rules in
-    let settings : filter (λ l. is_own att l.tag) host.settings ≡ [] =
-    ap (filter (λ l. is_own att l.tag)) opening.settings in
-    let leases : filter (λ l. is_own att l.tag) host.leases ≡ [] = ap (filter (λ l. is_own att l.tag)) opening.leases in
-    let cached : filter (λ l. is_own att l.tag) host.cached ≡ [] = ap (filter (λ l. is_own att l.tag)) opening.cached in
-    rw (links, addresses, routes, rules, settings, leases, cached) refl
 
 within-start : (p : Plan) → IsWellFormed p → AllWithin p []
 within-start p well = λ att list listed.

@@ -9,8 +9,9 @@ use Rattle.std.specs.BTreeMap as tree
 use Rattle.std.specs.BTreeMap.{BTreeMap}
 use Rattle.pod_workers.specs.{Index.{AreBefore, IsIndex, IsLatest, IsPlaced, NoneOf}, Plans.{Placed, in_round}}
 use Rattle.pod_workers.specs.{Plans.{placed_from, IsOf}, declared.index.Place.Place}
-use Rattle.pod_workers.proofs.{Books.Rounds.{placed-fits, placed_from-more, rounds-before}, Lists.Elements.at_snoc}
-use Rattle.pod_workers.proofs.Lists.Elements.{slice_get-before, slice_get-middle}
+use Rattle.pod_workers.proofs.Books.Rounds.{placed-fits, placed_from-more, rounds-before}
+use Rattle.pod_workers.proofs.Lists.Elements.{slice_get-before}
+use Rattle.kernel_types.proofs.ListLemmas.{at_snoc, slice_get-middle}
 
 -- ---- one more command
 

@@ -9,6 +9,7 @@ use Rattle.pod_workers.proofs.Names.{lease_calls_from, lease_calls_of, back_call
 use Rattle.pod_workers.proofs.Names.{chained_calls, ipam_of, kinds_of, sets_of, PassesChained, passes-back, own-back}
 use Rattle.pod_workers.proofs.Names.{chained_laws, first_laws}
 use Rattle.kernel_types.proofs.{Cases.att_eq-refl, ListLemmas.{list_any-append_left, list_any-append_right}}
+use Rattle.kernel_types.proofs.ListLemmas.{each-append}
 use Rattle.kernel_types.specs.Codes.{kind_eq}
 use Rattle.kernel_types.specs.declared.call.Kind.TheVariants as kinds
 use Rattle.plugin_base.specs.{Calls.{has_kind, is_beside_plugins, is_call_of, is_of_kinds}, PluginCalls.makes_interface}
@@ -18,7 +19,7 @@ use Rattle.plugin_chain.specs.Wanted.{chained_kinds, chained_kinds_reversed, fir
 use Rattle.plugin_chain.proofs.{OwnCalls.own-before, WantedShare.{adds-links, makes-wanted, share_with_leases}}
 use Rattle.pod_workers.specs.AddCalls.{AddCallsMakeTheWanted, only_leases}
 use Rattle.pod_workers.proofs.Hosts.PluginCalls.{AllOfPlugins, of_plugins-back, of_plugins-before}
-use Rattle.pod_workers.proofs.{Lists.{Each.each-append, Splits.split_nil}, Plans.WellFormedPlans.first_apart}
+use Rattle.pod_workers.proofs.{Lists.Splits.split_nil, Plans.WellFormedPlans.first_apart}
 
 -- ---- whose they are
 

@@ -11,7 +11,8 @@ use Rattle.cni_errors.specs.ObjectQuestions.{rule_questions, setting_question}
 use Rattle.cni_verbs.specs.Questions.{bridge_by_mac, bridge_questions, cached_share, first_interface, master_questions}
 use Rattle.cni_verbs.specs.Questions.{pool_questions, share_questions}
 use Rattle.plugin_chain.specs.Wanted.{master_of}
-use Rattle.pod_workers.proofs.Lists.{Each.{each-append, each-map}, Elements.slice_get-middle}
+use Rattle.pod_workers.proofs.Lists.Each.{each-map}
+use Rattle.kernel_types.proofs.ListLemmas.{slice_get-middle, each-append}
 
 -- it looks for an object, or asks for one of the list's pools
 abbrev pub IsQuestionOf : NetList → Call → Type 0

@@ -3,27 +3,27 @@ use Rattle.pod_workers.proofs.Names.{◌≡◌, ℕ, Bool, true, false, List, []
 use Rattle.pod_workers.proofs.Names.{sym, ◌∙◌, ap, subst, option_map, if◌then◌else◌, slice_get, same_Some, none-some}
 use Rattle.pod_workers.proofs.Names.{find, bytes_eq, Addr, RangeSet, are_apart, NetList, is_of_network, Command}
 use Rattle.pod_workers.proofs.Names.{IsAllowed, apply, IsSound, Call, Begin, LeaseNext, HasObj, CacheGet, PoolFree}
-use Rattle.pod_workers.proofs.Names.{NsChange, Outside, Kind, Reply, Leased, Att, Host, IsWellFormedCall}
-use Rattle.pod_workers.proofs.Names.{is_plugin_call_of, att_of, turn_by, State, AtBegin, BeforeLeases, Leasing}
-use Rattle.pod_workers.proofs.Names.{AfterLeases, ReadingCache, Deleting, FindingEntry, Asking, Changing, Collecting}
-use Rattle.pod_workers.proofs.Names.{Over, Calls, turn, turn_of_work, state_after, outside_after, Job, Sweep, sets_of}
-use Rattle.pod_workers.proofs.Names.{deletion}
+use Rattle.pod_workers.proofs.Names.{NsChange, Outside, Kind, Reply, Leased, Att, Host, att_of, turn_by, State, AtBegin}
+use Rattle.pod_workers.proofs.Names.{BeforeLeases, Leasing, AfterLeases, ReadingCache, Deleting, FindingEntry, Asking}
+use Rattle.pod_workers.proofs.Names.{Changing, Collecting, Over, Calls, turn, turn_of_work, state_after, outside_after}
+use Rattle.pod_workers.proofs.Names.{Job, Sweep, sets_of, deletion}
 use Rattle.ip_pool.specs.{NextAddress.{is_candidate, is_candidate_or_none}, Pool.pick_of}
 use Rattle.kernel_types.specs.Apply.Calls.{is_of_pool, last_leased, lease_taken, leased_addresses}
 use Rattle.kernel_types.specs.declared.call.Call.TheVariants.{LinkDel, RuleDel, SettingDel, LeaseDel, CacheDel}
 use Rattle.kernel_types.specs.declared.{call.Call.TheVariants.OwnersOf, object.Last.Last}
-use Rattle.kernel_types.proofs.{EveryCall.Touches-apply, LeasedAddress.leased-candidate, ListLemmas.passes-find}
-use Rattle.kernel_types.proofs.ListLemmas.{passes-list_all}
+use Rattle.kernel_types.proofs.{EveryCall.Touches-apply, Lasts.{moves_last, lasts-touches, same-pool}}
+use Rattle.kernel_types.proofs.{LeasedAddress.leased-candidate, ListLemmas.{passes-find, passes-list_all}}
+use Rattle.kernel_types.proofs.ListLemmas.{slice_get-middle}
 use Rattle.kernel_types.specs.declared.call.Kind.TheVariants as kinds
 use Rattle.cni_verbs.specs.Sweep.{Step, AskCached, Delete, step_call}
 use Rattle.pod_workers.specs.{Lasts.AreLastsOfSets, Plans.{IsWellFormed, list_for, list_in, list_named}}
 use Rattle.pod_workers.specs.declared.plan.Plan.{Plan}
 use Rattle.pod_workers.specs.declared.plan.Next.TheVariants as next
-use Rattle.pod_workers.proofs.Hosts.{Asked.IsQuestionOf, Lasts.{list_all-at, same-pool, each-found, lasts-lease}}
-use Rattle.pod_workers.proofs.Hosts.{Lasts.{moves_last, lasts-touches}, OfPlugins.{IsOutside, IsRest, LeftAreOfPlugins}}
-use Rattle.pod_workers.proofs.Hosts.OfPlugins.{LeftIsOutside, left-are-of_plugins, left-is-outside}
-use Rattle.pod_workers.proofs.{Hosts.PluginCalls.IsOfPlugins, Lists.Elements.slice_get-middle}
+use Rattle.pod_workers.proofs.Hosts.{Asked.IsQuestionOf, Lasts.{list_all-at, each-found, lasts-lease}}
+use Rattle.pod_workers.proofs.Hosts.OfPlugins.{IsOutside, IsRest, LeftAreOfPlugins, LeftIsOutside, left-are-of_plugins}
+use Rattle.pod_workers.proofs.Hosts.{OfPlugins.left-is-outside, PluginCalls.IsOfPlugins}
 use Rattle.pod_workers.proofs.Plans.WellFormedPlans.{has_pools_apart, pools_apart}
+use Rattle.plugin_base.proofs.PluginCalls.{plugin-moves_none, allowed-well_formed}
 
 -- ---- calls of plugins may be made
 
@@ -40,15 +40,6 @@ stays-well p host call sound lasts n allowed = (
 )
 
 -- a call that is no lease asks nothing of the host
-allowed-well_formed : (host : Host) (call : Call) → moves_last call ≡ false → IsWellFormedCall call
-    → IsAllowed host call
-allowed-well_formed host (LeaseNext a b d) n h = absurd cc
-allowed-well_formed host _ n h = h
-
-plugin-moves_none : (att : Att) (call : Call) → is_plugin_call_of att call ≡ true → moves_last call ≡ false
-plugin-moves_none att (LeaseNext a b d) own = cc
-plugin-moves_none att _ own = refl
-
 of_plugins-well : (p : Plan) (att : Att) (host : Host) (call : Call) → IsSound host → AreLastsOfSets p host.lasts
     → IsOfPlugins att call → GoesWell p host call
 of_plugins-well p att host call sound lasts h =

@@ -1,18 +1,11 @@
 -- Which calls move the last address of a pool, and that each stays a candidate of its set.
 use Rattle.pod_workers.proofs.Names.{◌≡◌, ℕ, zero, suc, Bool, true, false, cond, List, [], ◌∷◌, ◌++◌, map, Option, Some}
-use Rattle.pod_workers.proofs.Names.{None, refl, ◌∙◌, ap, subst, arith, inl, inr, if◌then◌else◌, slice_get, eqb_tells}
-use Rattle.pod_workers.proofs.Names.{same_Some, none-some, bytes_eq-Decides, list_all, find, Addr, RangeSet, NetList}
-use Rattle.pod_workers.proofs.Names.{Call, Begin, VethAdd, MacvlanAdd, AddrAdd, RouteAdd, RuleAppend, SettingSet}
-use Rattle.pod_workers.proofs.Names.{LeaseNext, CachePut, HasObj, CacheGet, PoolFree, NsChange, Outside, Att, Host, Tag}
-use Rattle.pod_workers.proofs.Names.{sets_of}
+use Rattle.pod_workers.proofs.Names.{None, refl, ◌∙◌, ap, subst, arith, if◌then◌else◌, slice_get, same_Some, none-some}
+use Rattle.pod_workers.proofs.Names.{list_all, find, Addr, RangeSet, NetList, Att, Host, sets_of}
 use Rattle.ip_pool.specs.NextAddress.{is_candidate}
-use Rattle.kernel_types.specs.{Apply.Calls.{is_of_pool, moved_last, lease_taken}, Touch.{Touches, TouchesTag}}
-use Rattle.kernel_types.specs.declared.call.Call.TheVariants.{BridgeEnsure, GatewayEnsure, ForwardEnsure, LinkSet}
-use Rattle.kernel_types.specs.declared.call.Call.TheVariants.{LinkDel, RuleDel, SettingDel, LeaseDel, CacheDel}
-use Rattle.kernel_types.specs.declared.{call.Call.TheVariants.OwnersOf, object.Last.Last}
-use Rattle.kernel_types.specs.declared.object.Tag.TheVariants as tags
+use Rattle.kernel_types.specs.{Apply.Calls.{is_of_pool, moved_last, lease_taken}, declared.object.Last.Last}
+use Rattle.kernel_types.proofs.{Lasts.same-pool, ListLemmas.each-append}
 use Rattle.pod_workers.specs.{Lasts.{AreLastsOfSets, IsLastOfSet}, Plans.list_named, declared.plan.Plan.Plan}
-use Rattle.pod_workers.proofs.Lists.Each.{each-append}
 
 -- ---- lists
 
@@ -23,13 +16,6 @@ list_all-at p (y ∷ ys) zero x h at = let e : y ≡ x = same_Some y x at in sub
 list_all-at p (y ∷ ys) (suc i) x h at = list_all-at p ys i x (grind (arith, h)) at
 
 -- ---- the last address of a pool
-
-pub same-pool : (network : List ℕ) (number : ℕ) (x : Last) → is_of_pool network number x ≡ true
-    → (x.network ≡ network) × (x.set ≡ number)
-same-pool network number x h = (
-  (bytes_eq-Decides x.network network).0 (grind (arith, h)),
-  elim (eqb_tells x.set number) [ inl t ↦ t.1 | inr f ↦ absurd (let no_way = f.0 in grind (arith, h, no_way)) ],
-)
 
 moved-one : (p : Plan) (network : List ℕ) (number : ℕ) (a : Addr) (x : Last) (b : Bool)
     → is_of_pool network number x ≡ b → IsLastOfSet p x
@@ -83,44 +69,3 @@ lasts-lease p host att number set list (Some a) found at fits h =
     (record { list = list; set = set; found = found; there = at; fits = fits a refl })
 
 -- ---- calls that move no last
-
-abbrev pub moves_last : Call → Bool
-moves_last (LeaseNext att number set) = true
-moves_last _ = false
-
-tag-lasts : (t : Tag) (old new : Host) → TouchesTag t old new → new.lasts ≡ old.lasts
-tag-lasts tags.Outside old new h = ap (λ (k : Host). k.lasts) h
-tag-lasts tags.Base old new h = ap (λ (k : Host). k.lasts) h
-tag-lasts (tags.Own att) old new h = h.lasts
-
-pub lasts-touches : (call : Call) (old new : Host) → moves_last call ≡ false → Touches call old new
-    → new.lasts ≡ old.lasts
-lasts-touches (Begin att netns) old new n h = ap (λ (k : Host). k.lasts) h
-lasts-touches (BridgeEnsure a b d) old new n h =
-    elim h [ inl e ↦ ap (λ (k : Host). k.lasts) e | inr e ↦ ap (λ (k : Host). k.lasts) e.2 ]
-lasts-touches (GatewayEnsure a b) old new n h =
-    elim h [ inl e ↦ ap (λ (k : Host). k.lasts) e | inr e ↦ ap (λ (k : Host). k.lasts) e.2 ]
-lasts-touches (ForwardEnsure a) old new n h =
-    elim h [ inl e ↦ ap (λ (k : Host). k.lasts) e | inr e ↦ ap (λ (k : Host). k.lasts) e.2 ]
-lasts-touches (VethAdd a b) old new n h = tag-lasts a.tag old new h
-lasts-touches (MacvlanAdd a) old new n h = tag-lasts a.tag old new h
-lasts-touches (LinkSet a b d e f g i) old new n h = h.lasts
-lasts-touches (AddrAdd a) old new n h = tag-lasts a.tag old new h
-lasts-touches (RouteAdd a) old new n h = tag-lasts a.tag old new h
-lasts-touches (RuleAppend a) old new n h = tag-lasts a.tag old new h
-lasts-touches (SettingSet a) old new n h = tag-lasts a.tag old new h
-lasts-touches (LeaseNext a b d) old new n h = cc
-lasts-touches (CachePut a b) old new n h = h.lasts
-lasts-touches (LinkDel a) old new n h = h.lasts
-lasts-touches (RuleDel a) old new n h = h.lasts
-lasts-touches (SettingDel a) old new n h = h.lasts
-lasts-touches (LeaseDel a) old new n h = h.lasts
-lasts-touches (CacheDel a) old new n h = h.lasts
-lasts-touches (HasObj a) old new n h = ap (λ (k : Host). k.lasts) h
-lasts-touches (CacheGet a) old new n h = ap (λ (k : Host). k.lasts) h
-lasts-touches (OwnersOf a b) old new n h = ap (λ (k : Host). k.lasts) h
-lasts-touches (PoolFree a b) old new n h = ap (λ (k : Host). k.lasts) h
-lasts-touches (NsChange a true) old new n h =
-    elim h [ inl e ↦ ap (λ (k : Host). k.lasts) e | inr e ↦ ap (λ (k : Host). k.lasts) e.2 ]
-lasts-touches (NsChange a false) old new n h = h.lasts
-lasts-touches (Outside a) old new n h = h.lasts

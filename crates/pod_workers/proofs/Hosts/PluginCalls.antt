@@ -1,14 +1,13 @@
 -- The calls that an ADD's plugins make: each is its attachment's or ensures what all share, and is well formed.
 use Rattle.pod_workers.proofs.Names.{◌≡◌, ℕ, Bool, true, false, not, List, [], ◌∷◌, refl, ap, ◌∙◌, and_parts}
 use Rattle.pod_workers.proofs.Names.{bytes_eq-Decides, AllByRecursion, list_all, Addr, PortMapping, First, NetList}
-use Rattle.pod_workers.proofs.Names.{is_host_ns, is_own, Call, VethAdd, MacvlanAdd, AddrAdd, RouteAdd, RuleAppend}
-use Rattle.pod_workers.proofs.Names.{SettingSet, LeaseNext, PoolFree, NsChange, Outside, Att, Tag, list_all-weaker}
-use Rattle.pod_workers.proofs.Names.{IsWellFormedCall, is_plugin_call_of, PassesChained, passes-back, own-back}
-use Rattle.pod_workers.proofs.Names.{chained_laws, first_laws, back_calls, calls_after, calls_before, chained_calls}
+use Rattle.pod_workers.proofs.Names.{is_host_ns, Call, VethAdd, MacvlanAdd, AddrAdd, RouteAdd, RuleAppend, SettingSet}
+use Rattle.pod_workers.proofs.Names.{LeaseNext, PoolFree, NsChange, Outside, Att, list_all-weaker, IsWellFormedCall}
+use Rattle.pod_workers.proofs.Names.{is_plugin_call_of, PassesChained, passes-back, own-back, chained_laws, first_laws}
+use Rattle.pod_workers.proofs.Names.{back_calls, calls_after, calls_before, chained_calls}
 use Rattle.std.proofs.lemmas.Bool.{not-true}
 use Rattle.cni_result.proofs.ReadAgain.{each_of}
-use Rattle.kernel_types.specs.Terms.{is_owned}
-use Rattle.kernel_types.proofs.Isolation.{is_own-one}
+use Rattle.kernel_types.proofs.Isolation.{is_own-owned}
 use Rattle.plugin_base.specs.PluginCalls.{is_later_call}
 use Rattle.pod_workers.proofs.Lists.Each.{each-both}
 
@@ -37,17 +36,14 @@ is_plain (MacvlanAdd l) = false
 is_plain (SettingSet s) = not (is_host_ns s.ns)
 is_plain _ = true
 
-owned : (att : Att) (t : Tag) → is_own att t ≡ true → is_owned t ≡ true
-owned att t h = ap is_owned (is_own-one att t h)
-
 well_formed-plain : (att : Att) (call : Call) → is_plugin_call_of att call ≡ true → is_plain call ≡ true
     → IsWellFormedCall call
 well_formed-plain att (VethAdd h i) own plain = cc
 well_formed-plain att (MacvlanAdd l) own plain = cc
-well_formed-plain att (AddrAdd obj) own plain = owned att obj.tag own
-well_formed-plain att (RouteAdd obj) own plain = owned att obj.tag own
-well_formed-plain att (RuleAppend rule) own plain = owned att rule.tag own
-well_formed-plain att (SettingSet s) own plain = (owned att s.tag own, not-true (is_host_ns s.ns) plain)
+well_formed-plain att (AddrAdd obj) own plain = is_own-owned att obj.tag own
+well_formed-plain att (RouteAdd obj) own plain = is_own-owned att obj.tag own
+well_formed-plain att (RuleAppend rule) own plain = is_own-owned att rule.tag own
+well_formed-plain att (SettingSet s) own plain = (is_own-owned att s.tag own, not-true (is_host_ns s.ns) plain)
 well_formed-plain att (LeaseNext a number set) own plain = cc
 well_formed-plain att (PoolFree network set) own plain = cc
 well_formed-plain att (NsChange name add) own plain = cc

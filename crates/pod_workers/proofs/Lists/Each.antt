@@ -1,12 +1,7 @@
 -- What holds of each element of a list, where lists are joined and made by a map.
-use Rattle.pod_workers.proofs.Names.{◌≡◌, Bool, true, List, [], ◌∷◌, ◌++◌, map, get_or, and_parts, All-append}
-use Rattle.pod_workers.proofs.Names.{AllByRecursion, list_all}
-use Rattle.std.proofs.lemmas.List.Elements.{All-from_recursion, All-map, recursion_from_All}
-
-pub each-append : {X : Type 0} (P : X → Type 0) (xs ys : List X) → AllByRecursion P xs → AllByRecursion P ys
-    → AllByRecursion P (xs ++ ys)
-each-append P xs ys h g =
-    recursion_from_All P (xs ++ ys) (All-append P xs ys (All-from_recursion P xs h) (All-from_recursion P ys g))
+use Rattle.pod_workers.proofs.Names.{◌≡◌, Bool, true, List, [], ◌∷◌, ◌++◌, map, get_or, and_parts, AllByRecursion}
+use Rattle.pod_workers.proofs.Names.{list_all}
+use Rattle.std.proofs.lemmas.List.Elements.{All-map, recursion_from_All}
 
 pub each-prefix : {X : Type 0} (P : X → Type 0) (xs ys : List X) → AllByRecursion P (xs ++ ys) → AllByRecursion P xs
 each-prefix P [] ys h = tt

@@ -1,7 +1,7 @@
 -- Lists: an element by its place and by its number, in two lists joined and after a map, and the first that passes.
-use Rattle.pod_workers.proofs.Names.{◌≡◌, ℕ, zero, suc, ◌+◌, ◌-◌, ◌<◌, ◌⊎◌, Bool, true, false, List, [], ◌∷◌, ◌++◌}
-use Rattle.pod_workers.proofs.Names.{length, map, Option, Some, None, slice_get, if◌then◌else◌, refl, sym, ap, ◌∙◌}
-use Rattle.pod_workers.proofs.Names.{arith, inl, inr, eqb_tells, same_Some, none-some, find, filter}
+use Rattle.pod_workers.proofs.Names.{◌≡◌, ℕ, zero, suc, ◌+◌, ◌-◌, ◌<◌, Bool, true, false, List, [], ◌∷◌, ◌++◌, length}
+use Rattle.pod_workers.proofs.Names.{map, Option, Some, None, slice_get, if◌then◌else◌, refl, sym, ap, ◌∙◌, arith, inl}
+use Rattle.pod_workers.proofs.Names.{inr, eqb_tells, same_Some, none-some, find, filter}
 use Rattle.pod_workers.specs.World.{at_number}
 
 pub at_number-is : {X : Type 0} (xs : List X) (number n : ℕ) → number ≡ n + 1 → at_number xs number ≡ slice_get xs n
@@ -34,21 +34,6 @@ slice_get-behind (x ∷ xs) ys n (suc i) j h e = slice_get-behind xs ys (length 
 
 pub slice_get-right : {X : Type 0} (xs ys : List X) (i : ℕ) → slice_get (xs ++ ys) (length xs + i) ≡ slice_get ys i
 slice_get-right xs ys i = slice_get-behind xs ys (length xs) (length xs + i) i refl refl
-
-pub slice_get-middle : {X : Type 0} (xs ys : List X) (y : X) → slice_get (xs ++ y ∷ ys) (length xs) ≡ Some y
-slice_get-middle [] ys y = refl
-slice_get-middle (x ∷ xs) ys y = slice_get-middle xs ys y
-
--- an element of a list with one more at the end is an earlier one, or that one
-pub at_snoc : {X : Type 0} (xs : List X) (y x : X) (i : ℕ) → slice_get (xs ++ y ∷ []) i ≡ Some x
-    → ((i < length xs) × (slice_get xs i ≡ Some x)) ⊎ ((i ≡ length xs) × (x ≡ y))
-at_snoc [] y x zero is = inr (refl, same_Some x y (sym is))
-at_snoc [] y x (suc i) is = absurd (none-some x is)
-at_snoc (z ∷ zs) y x zero is = inl (omega arith, is)
-at_snoc (z ∷ zs) y x (suc i) is = elim (at_snoc zs y x i is) [
-  | inl t ↦ (let less = t.0 in inl (omega arith, t.1))
-  | inr t ↦ inr (ap suc t.0, t.1)
-]
 
 pub slice_get-map_some : {X Y : Type 0} (f : X → Y) (xs : List X) (i : ℕ) (y : Y) → slice_get (map f xs) i ≡ Some y
     → (x : X) × (slice_get xs i ≡ Some x) × (f x ≡ y)

@@ -6,6 +6,6 @@ pub use Rattle.kernel_types.specs.declared.call.Call.TheVariants.{AddrAdd, Route
 pub use Rattle.kernel_types.specs.declared.call.Call.TheVariants.{CachePut, HasObj, PoolFree, Begin, CacheGet, NsChange}
 pub use Rattle.kernel_types.specs.declared.call.{Call.TheVariants.Outside, Kind.Kind, Reply.{Reply, TheVariants.Done}}
 pub use Rattle.kernel_types.specs.declared.{call.Reply.TheVariants.{Leased, Gone, Has, Entry, Fault}, object.Att.Att}
-pub use Rattle.kernel_types.specs.declared.object.{CachedObj.CachedObj, Host.Host, Tag.Tag}
+pub use Rattle.kernel_types.specs.declared.object.{CachedObj.CachedObj, Host.Host}
 pub use Rattle.cni_result.specs.declared.cached.{Cached.Cached, PortMapping.PortMapping}
 pub use Rattle.ip_pool.specs.Pool.{are_apart}

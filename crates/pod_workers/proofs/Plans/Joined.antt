@@ -4,8 +4,8 @@ use Rattle.pod_workers.proofs.Names.{drop, get_or, Option, Some, None, Ok, refl,
 use Rattle.pod_workers.proofs.Names.{if◌then◌else◌, option_map, position_from-zero, drop_more, take_more, none-some}
 use Rattle.pod_workers.proofs.Names.{list_any, list_all, position_from, ◌&&◌, position, bytes_eq, NetList}
 use Rattle.std.specs.Option.{option_or}
+use Rattle.cni_addr.proofs.Lists.{is_some-find}
 use Rattle.cni_addr.specs.Lists.{distinct}
-use Rattle.ip_pool.proofs.Lists.{is_some-find}
 use Rattle.pod_workers.specs.Join.{joined, plan_unless, first_repeat_after, first_without_list}
 use Rattle.pod_workers.specs.{Laws.JoinedPlansAreWellFormed, Plans.{Placed, placed_from, IsWellFormed, commands_of}}
 use Rattle.pod_workers.specs.{Plans.{has_list, lacks_list}, declared.plan.{Plan.Plan, PlanError.TheVariants.SameName}}

@@ -6,7 +6,7 @@ use Rattle.cni_verbs.specs.Progress.{is_gc}
 use Rattle.pod_file.specs.declared.command.Verb.TheVariants as verbs
 use Rattle.pod_workers.specs.{Laws.EachNetworkCommandHasItsList, Legal.Legal, Plans.{Placed, commands_of, list_for}}
 use Rattle.pod_workers.specs.{Plans.{list_named, lacks_list}, Tasks.IsListed, World.World, declared.index.Place.Place}
-use Rattle.pod_workers.proofs.{Books.Kept.IsFound, Hosts.{Lasts.list_all-at, Sound.fine}}
+use Rattle.pod_workers.proofs.{Books.KeptByNumber.IsFound, Hosts.{Lasts.list_all-at, Sound.fine}}
 
 named-list : (b : Bool) (o : Option NetList) → b ≡ true → not (b && not (is_some o)) ≡ true
     → (list : NetList) × ((if b then o else None) ≡ Some list)

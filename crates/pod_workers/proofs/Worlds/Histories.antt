@@ -7,7 +7,8 @@ use Rattle.std.proofs.lemmas.List.{map_push, Elements.filter-append, Sums.{count
 use Rattle.plugin_base.proofs.KeyLists.{filter-push_dropped, filter-push_kept}
 use Rattle.pod_workers.specs.World.{is_of, own_entries, replies_in, replies_of, after, after_entry, last_entry}
 use Rattle.pod_workers.specs.declared.plan.Entry.{Entry}
-use Rattle.pod_workers.proofs.Lists.{Elements.slice_get-middle, Splits.split_nil}
+use Rattle.pod_workers.proofs.Lists.Splits.{split_nil}
+use Rattle.kernel_types.proofs.ListLemmas.{slice_get-middle}
 
 -- ---- a place that is written
 

@@ -3,12 +3,13 @@ use Rattle.session_laws.proofs.Names.{◌≡◌, ℕ, Bool, true, List, [], ◌�
 use Rattle.session_laws.proofs.Names.{same_Some, none-some, option_map, IsSound, Kind, Host, Tag, Command, Ending, Yes}
 use Rattle.session_laws.proofs.Names.{Collecting, Finish, finish_of, finish_of_work, next_call, swept, Job, Sweep}
 use Rattle.session_laws.proofs.Names.{IsWithin, keep, Made, host_from, host_on, replies}
+use Rattle.cni_addr.proofs.Lists.{list_all-always}
 use Rattle.kernel_types.specs.{Apply.Calls.tags_of, declared.call.Kind.TheVariants.{Links, Rules, Settings, Leases}}
 use Rattle.kernel_types.specs.declared.call.Kind.TheVariants.{Cached}
 use Rattle.cni_verbs.specs.{Script.call_of_work, Sweep.Gc}
 use Rattle.gc_sweep.proofs.{Covered.{WorkKept, is_covered}, Kept.stays_start, Leaves.{excused_all, excused_kind}}
-use Rattle.gc_sweep.proofs.{Leaves.{keep_all, keep_within, run_clean, run_kept, yes_clean}, Lists.all_true}
-use Rattle.gc_sweep.proofs.Machine.{IsTrail, Point, point_after, point_from}
+use Rattle.gc_sweep.proofs.{Leaves.{keep_all, keep_within, run_clean, run_kept, yes_clean}, Machine.{IsTrail, Point}}
+use Rattle.gc_sweep.proofs.Machine.{point_after, point_from}
 use Rattle.session_laws.specs.Course.{Course, IsRunFrom, advance, start_work, state_from, IsOver}
 use Rattle.session_laws.specs.LawsOfAnswers.{CollectionsKeep, CollectionsOnlyRemove}
 
@@ -69,7 +70,7 @@ kept-start : (gc : Gc) (host : Host) → IsSound host → WorkKept gc host [] []
 kept-start gc host sound = record {
   stays = stays_start gc host sound;
   covered = λ kind.
-      all_true (is_covered gc [] [] start_work.sweeps kind) (λ t. covered-tag gc t kind) (tags_of host kind);
+      list_all-always (is_covered gc [] [] start_work.sweeps kind) (λ t. covered-tag gc t kind) (tags_of host kind);
   stale = refl;
   well = refl;
 }

@@ -21,8 +21,9 @@ use Rattle.session_laws.proofs.Courses.Adding.{AddAt, Goes, Undoes, goes-part, m
 use Rattle.session_laws.proofs.Courses.{Adding.{moves-lease, undoes-at}, Calls.{IsForward, appends, with_leases}}
 use Rattle.session_laws.proofs.Courses.Calls.{appends-allowed, appends-no_lease, forward-all, forward-makes}
 use Rattle.session_laws.proofs.Courses.{Deleting.deletes-on, Ready.{lease-allowed, made_on, ready-begin, ready-lease}}
-use Rattle.session_laws.proofs.Courses.{Ready.ready-own_call, Runs.{Keeps, along, host-made, on-call, replied}}
-use Rattle.session_laws.proofs.{Courses.Unbegun.begin-no_lease, Steps.Numbered.slice_get-middle}
+use Rattle.session_laws.proofs.Courses.{Ready.{on-call, ready-own_call}, Runs.{Keeps, along, host-made, replied}}
+use Rattle.session_laws.proofs.Courses.Unbegun.{begin-no_lease}
+use Rattle.kernel_types.proofs.ListLemmas.{slice_get-middle}
 
 -- ---- one entry
 

@@ -11,7 +11,7 @@ use Rattle.gc_sweep.proofs.{OfKinds.HasKindsAlone-removes, Removes.within_same}
 use Rattle.kernel_types.specs.declared.call.Kind.TheVariants as kinds
 use Rattle.plugin_base.proofs.Deletions.{gone-links, gone-none}
 use Rattle.session_laws.specs.{Course.{Course, advance, at_cache}, Pools.{IsReady, Pools}}
-use Rattle.session_laws.proofs.Courses.{Ready.{deletion-allowed, made_on, ready-deletion}, Runs.{host-made, on-call}}
+use Rattle.session_laws.proofs.Courses.{Ready.{deletion-allowed, made_on, on-call, ready-deletion}, Runs.host-made}
 use Rattle.session_laws.proofs.Courses.Runs.{replied}
 
 -- ---- no kind is left

@@ -16,7 +16,8 @@ use Rattle.session_laws.proofs.Names.{next_call, finish_of, Made, host_on, repli
 use Rattle.kernel_types.specs.declared.object.Tag.TheVariants as tags
 use Rattle.kernel_types.specs.declared.call.Kind.TheVariants as kinds
 use Rattle.session_laws.specs.Course.{Course, IsRunFrom, advance, at_cache, state_from, IsOver}
-use Rattle.session_laws.proofs.{Answers.Ends.refusing-faulted, Courses.Ready.moves_last}
+use Rattle.kernel_types.proofs.Lasts.{moves_last}
+use Rattle.session_laws.proofs.Answers.Ends.{refusing-faulted}
 
 -- ---- one reply
 

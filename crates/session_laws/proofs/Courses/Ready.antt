@@ -1,19 +1,15 @@
 -- A host that is ready for a session's pools stays so, whichever of the session's calls is made or is a fault.
 use Rattle.session_laws.proofs.Names.{◌≡◌, ℕ, Bool, true, false, cond, List, [], ◌∷◌, ◌++◌, map, Option, Some, None}
-use Rattle.session_laws.proofs.Names.{refl, sym, ◌∙◌, ap, subst, inl, inr, arith, find, slice_get, same_Some, none-some}
-use Rattle.session_laws.proofs.Names.{AllByRecursion, option_map, if◌then◌else◌, Addr, RangeSet, pick_of}
-use Rattle.session_laws.proofs.Names.{HasRangesApart, IsAllowed, apply, last_leased, lease_taken, leased_addresses}
-use Rattle.session_laws.proofs.Names.{is_fault, Call, Begin, BridgeEnsure, GatewayEnsure, ForwardEnsure, VethAdd}
-use Rattle.session_laws.proofs.Names.{MacvlanAdd, LinkSet, AddrAdd, RouteAdd, RuleAppend, SettingSet, LeaseNext}
-use Rattle.session_laws.proofs.Names.{CachePut, LinkDel, RuleDel, SettingDel, LeaseDel, CacheDel, HasObj, CacheGet}
-use Rattle.session_laws.proofs.Names.{OwnersOf, PoolFree, NsChange, Outside, Kind, Leased, Att, Host, Tag, passes-find}
+use Rattle.session_laws.proofs.Names.{refl, sym, ◌∙◌, ap, subst, find, slice_get, same_Some, none-some, AllByRecursion}
+use Rattle.session_laws.proofs.Names.{option_map, if◌then◌else◌, Addr, RangeSet, pick_of, HasRangesApart, IsAllowed}
+use Rattle.session_laws.proofs.Names.{apply, last_leased, lease_taken, leased_addresses, is_fault, Call, Begin}
+use Rattle.session_laws.proofs.Names.{LeaseNext, HasObj, CacheGet, OwnersOf, Kind, Leased, Att, Host, passes-find}
 use Rattle.session_laws.proofs.Names.{is_plugin_call_of, deletion, reply_to, Made, host_on, by_test}
-use Rattle.std.proofs.lemmas.{Bool.Decides.eqb_tells, Slice.Eq.bytes_eq-Decides}
 use Rattle.ip_pool.specs.NextAddress.{is_candidate, is_candidate_or_none}
-use Rattle.kernel_types.specs.{Apply.Calls.{is_of_pool, moved_last}, Touch.{Touches, TouchesTag}}
-use Rattle.kernel_types.specs.declared.{call.Probe.Probe, object.Last.Last}
-use Rattle.kernel_types.proofs.{EveryCall.{IsSound-apply, Touches-apply}, LeasedAddress.leased-candidate}
-use Rattle.kernel_types.specs.declared.object.Tag.TheVariants as tags
+use Rattle.kernel_types.specs.{Apply.Calls.{is_of_pool, moved_last}, declared.{call.Probe.Probe, object.Last.Last}}
+use Rattle.plugin_base.proofs.PluginCalls.{plugin-moves_none}
+use Rattle.kernel_types.proofs.{EveryCall.{IsSound-apply, Touches-apply}, Lasts.{lasts-touches, moves_last, same-pool}}
+use Rattle.kernel_types.proofs.LeasedAddress.{leased-candidate}
 use Rattle.kernel_types.specs.declared.call.Kind.TheVariants as kinds
 use Rattle.session_laws.specs.Pools.{IsLastOf, IsReady, Pools}
 
@@ -24,9 +20,9 @@ abbrev pub made_on : Host → Call → Bool → Made
 made_on host call faulty = record { call = call; reply = reply_to host call faulty }
 
 -- what holds before the call, and after the kernel made it, holds with and without a fault
-on-made : (P : Host → Type 0) (host : Host) (call : Call) (faulty : Bool) → P host → P (apply host call).0
+pub on-call : (P : Host → Type 0) (host : Host) (call : Call) (faulty : Bool) → P host → P (apply host call).0
     → P (host_on host (made_on host call faulty))
-on-made P host call faulty before after =
+on-call P host call faulty before after =
     by_test P (is_fault (reply_to host call faulty)) host (apply host call).0 (λ _. before) (λ _. after)
 
 -- a fault leaves the host, whichever call it answers
@@ -36,52 +32,12 @@ ready-fault pools host call ready = ready
 
 -- ---- calls that move no last address
 
-abbrev pub moves_last : Call → Bool
-moves_last (LeaseNext att number set) = true
-moves_last call = false
-
-tag-lasts : (t : Tag) (old new : Host) → TouchesTag t old new → new.lasts ≡ old.lasts
-tag-lasts tags.Outside old new h = ap (λ (k : Host). k.lasts) h
-tag-lasts tags.Base old new h = ap (λ (k : Host). k.lasts) h
-tag-lasts (tags.Own att) old new h = h.lasts
-
-lasts-touches : (call : Call) (old new : Host) → moves_last call ≡ false → Touches call old new → new.lasts ≡ old.lasts
-lasts-touches (Begin att netns) old new n h = ap (λ (k : Host). k.lasts) h
-lasts-touches (BridgeEnsure a b d) old new n h =
-    elim h [ inl e ↦ ap (λ (k : Host). k.lasts) e | inr e ↦ ap (λ (k : Host). k.lasts) e.2 ]
-lasts-touches (GatewayEnsure a b) old new n h =
-    elim h [ inl e ↦ ap (λ (k : Host). k.lasts) e | inr e ↦ ap (λ (k : Host). k.lasts) e.2 ]
-lasts-touches (ForwardEnsure a) old new n h =
-    elim h [ inl e ↦ ap (λ (k : Host). k.lasts) e | inr e ↦ ap (λ (k : Host). k.lasts) e.2 ]
-lasts-touches (VethAdd a b) old new n h = tag-lasts a.tag old new h
-lasts-touches (MacvlanAdd a) old new n h = tag-lasts a.tag old new h
-lasts-touches (LinkSet a b d e f g i) old new n h = h.lasts
-lasts-touches (AddrAdd a) old new n h = tag-lasts a.tag old new h
-lasts-touches (RouteAdd a) old new n h = tag-lasts a.tag old new h
-lasts-touches (RuleAppend a) old new n h = tag-lasts a.tag old new h
-lasts-touches (SettingSet a) old new n h = tag-lasts a.tag old new h
-lasts-touches (LeaseNext a b d) old new n h = cc
-lasts-touches (CachePut a b) old new n h = h.lasts
-lasts-touches (LinkDel a) old new n h = h.lasts
-lasts-touches (RuleDel a) old new n h = h.lasts
-lasts-touches (SettingDel a) old new n h = h.lasts
-lasts-touches (LeaseDel a) old new n h = h.lasts
-lasts-touches (CacheDel a) old new n h = h.lasts
-lasts-touches (HasObj a) old new n h = ap (λ (k : Host). k.lasts) h
-lasts-touches (CacheGet a) old new n h = ap (λ (k : Host). k.lasts) h
-lasts-touches (OwnersOf a b) old new n h = ap (λ (k : Host). k.lasts) h
-lasts-touches (PoolFree a b) old new n h = ap (λ (k : Host). k.lasts) h
-lasts-touches (NsChange a true) old new n h =
-    elim h [ inl e ↦ ap (λ (k : Host). k.lasts) e | inr e ↦ ap (λ (k : Host). k.lasts) e.2 ]
-lasts-touches (NsChange a false) old new n h = h.lasts
-lasts-touches (Outside a) old new n h = h.lasts
-
 -- any call but a lease
 pub ready-call : (pools : Pools) (host : Host) (call : Call) (faulty : Bool) → moves_last call ≡ false
     → IsAllowed host call → IsReady pools host → IsReady pools (host_on host (made_on host call faulty))
 ready-call pools host call faulty none allowed ready =
     let same = lasts-touches call host (apply host call).0 none (Touches-apply host call ready.sound allowed) in
-    on-made (IsReady pools) host call faulty ready (record {
+    on-call (IsReady pools) host call faulty ready (record {
       sound = IsSound-apply host call ready.sound allowed;
       lasts = subst (AllByRecursion (IsLastOf pools)) (sym same) ready.lasts;
     })
@@ -124,10 +80,6 @@ ready-deletion pools host att kind faulty ready =
     ready-call pools host (deletion att kind) faulty (deletion-moves_none att kind)
     (deletion-allowed host att kind) ready
 
-plugin-moves_none : (att : Att) (call : Call) → is_plugin_call_of att call ≡ true → moves_last call ≡ false
-plugin-moves_none att (LeaseNext a b d) own = cc
-plugin-moves_none att _ own = refl
-
 -- a plugin's call
 pub ready-own_call : (pools : Pools) (host : Host) (att : Att) (call : Call) (faulty : Bool)
     → is_plugin_call_of att call ≡ true → IsAllowed host call → IsReady pools host
@@ -136,13 +88,6 @@ ready-own_call pools host att call faulty own allowed ready =
     ready-call pools host call faulty (plugin-moves_none att call own) allowed ready
 
 -- ---- a lease
-
-same-pool : (network : List ℕ) (number : ℕ) (x : Last) → is_of_pool network number x ≡ true
-    → (x.network ≡ network) × (x.set ≡ number)
-same-pool network number x h = (
-  (bytes_eq-Decides x.network network).0 (grind (arith, h)),
-  elim (eqb_tells x.set number) [ inl t ↦ t.1 | inr f ↦ absurd (let no_way = f.0 in grind (arith, h, no_way)) ],
-)
 
 found-step : (pools : Pools) (b : Bool) (y x : Last) (o : Option Last) → IsLastOf pools y
     → (o ≡ Some x → IsLastOf pools x) → cond b (Some y) o ≡ Some x → IsLastOf pools x
@@ -233,7 +178,7 @@ pub ready-lease : (pools : Pools) (host : Host) (att : Att) (number : ℕ) (set 
 ready-lease pools host att number set faulty network at apart ready =
     let allowed = lease-allowed pools host att number set at apart ready in
     let o = pick_of set (last_leased host att.network number) (leased_addresses host att.network) in
-    on-made (IsReady pools) host (LeaseNext att number set) faulty ready (record {
+    on-call (IsReady pools) host (LeaseNext att number set) faulty ready (record {
       sound = IsSound-apply host (LeaseNext att number set) ready.sound allowed;
       lasts =
           lasts-lease pools host att number set o network at

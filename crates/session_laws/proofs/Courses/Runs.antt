@@ -1,8 +1,8 @@
 -- What each entry of a run keeps holds after the run.
 use Rattle.session_laws.proofs.Names.{◌≡◌, ℕ, ◌+◌, Bool, true, false, List, [], ◌∷◌, ◌++◌, Some, sym, ◌∙◌, ap, subst}
 use Rattle.session_laws.proofs.Names.{append_assoc, append-nil, map-append, if◌then◌else◌, host_after, reply_to, State}
-use Rattle.session_laws.proofs.Names.{leased_by, leases_in, next_call, Made, host_from, host_on, replies, apply}
-use Rattle.session_laws.proofs.Names.{is_fault, Call, Reply, Fault, Host, Command, by_test}
+use Rattle.session_laws.proofs.Names.{leased_by, leases_in, next_call, Made, host_from, host_on, replies, apply, Call}
+use Rattle.session_laws.proofs.Names.{Reply, Fault, Host, Command}
 use Rattle.std.proofs.lemmas.List.Elements.{filter_map-append}
 use Rattle.kernel_types.proofs.Replies.{IsReplyOf-apply}
 use Rattle.session_laws.specs.Course.{Course, IsRunFrom, advance, state_from}
@@ -33,12 +33,6 @@ along co c faulty P keeps past made s host (e ∷ es) run was =
     (along co c faulty P keeps (past ++ e ∷ []) (made + 1) next (host_on host e) es run.2 now)
 
 -- ---- one call
-
--- what holds before a call, and after the kernel made it, holds with and without a fault
-pub on-call : (P : Host → Type 0) (host : Host) (call : Call) (fault : Bool) → P host → P (apply host call).0
-    → P (host_on host (made_on host call fault))
-on-call P host call fault before after =
-    by_test P (is_fault (reply_to host call fault)) host (apply host call).0 (λ _. before) (λ _. after)
 
 -- the host after a call that the kernel made
 pub host-made : (host : Host) (call : Call) → host_after host call (apply host call).1 ≡ (apply host call).0

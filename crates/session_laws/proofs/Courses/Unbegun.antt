@@ -6,7 +6,7 @@ use Rattle.session_laws.proofs.Names.{is_host_or_ns, Call, Begin, Reply, Done, L
 use Rattle.session_laws.specs.{Course.{advance, at_begin, IsOver}, Holds.has_begun, Laws.BeginsAt}
 use Rattle.session_laws.specs.Laws.{EachUnbegunAddIsUndone, EachUnbegunAddLeavesTheHost, IsUndone, Run, end_from}
 use Rattle.session_laws.specs.Laws.{finish, own_att}
-use Rattle.session_laws.proofs.Courses.{Ready.made_on, Runs.{Keeps, along, on-call}}
+use Rattle.session_laws.proofs.Courses.{Ready.{made_on, on-call}, Runs.{Keeps, along}}
 
 -- no reply to a Begin leases
 pub begin-no_lease : (host : Host) (att : Att) (netns : List ℕ) (fault : Bool)

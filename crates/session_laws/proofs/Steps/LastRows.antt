@@ -6,7 +6,8 @@ use Rattle.std.proofs.{Common.{suc, zero, set}, lemmas.Bool.{eqb-true, eqb-false
 use Rattle.session_laws.specs.{Holds.Suite, Kept.{AreLastRows, AreNumbered, IsLastRow}, Ran.Ran, Steps.LastRowsAreRead}
 use Rattle.session_laws.specs.{Steps.{StepsKeepPlaces, after_task, handed, places_after}, Views.{SessionView, att_by}}
 use Rattle.session_laws.specs.{Views.{finish, number, row_of}, declared.{answer.TaskAnswer.TaskAnswer, row.Row.Row}}
-use Rattle.session_laws.proofs.Steps.{Numbered.slice_get-middle, StepViews.row_of-after}
+use Rattle.session_laws.proofs.Steps.StepViews.{row_of-after}
+use Rattle.kernel_types.proofs.ListLemmas.{slice_get-middle}
 
 -- ---- lists
 

@@ -2,16 +2,12 @@
 use Rattle.session_laws.proofs.Names.{◌≡◌, ◌<◌, ◌==◌, ℕ, Bool, true, false, cond, List, [], ◌∷◌, ◌++◌, map, filter}
 use Rattle.session_laws.proofs.Names.{find, Option, Some, None, refl, sym, ap, subst, ◌∙◌, arith, eq-eqb, nat_tests}
 use Rattle.session_laws.proofs.Names.{map-append, reverse-append, All-head, All-tail, filter-append, find-append, All}
-use Rattle.session_laws.proofs.Names.{list_all, option_or, nat_lt, reverse, Made, slice_get, length}
+use Rattle.session_laws.proofs.Names.{list_all, option_or, nat_lt, reverse, Made}
 use Rattle.std.proofs.lemmas.Bool.{ne_eqb}
 use Rattle.session_laws.specs.{Kept.is_numbered, Views.{entry_of, entries_of, made_of}, declared.entry.Entry.Entry}
 use Rattle.kernel_types.proofs.ListLemmas.{filter_never}
 
 -- ---- lists
-
-pub slice_get-middle : {X : Type 0} (xs ys : List X) (y : X) → slice_get (xs ++ y ∷ ys) (length xs) ≡ Some y
-slice_get-middle [] ys y = refl
-slice_get-middle (x ∷ xs) ys y = slice_get-middle xs ys y
 
 pub filter-all_of : {X : Type 0} (p q : X → Bool) → ((x : X) → q x ≡ true → p x ≡ true) → (xs : List X)
     → list_all q xs ≡ true

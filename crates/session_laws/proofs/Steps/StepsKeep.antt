@@ -1,16 +1,11 @@
 -- What a session keeps over a task.
-use Rattle.session_laws.proofs.Names.{◌≡◌, ◌≤◌, ℕ, ◌+◌, true, false, List, [], ◌∷◌, ◌++◌, length, map, Option, Some}
-use Rattle.session_laws.proofs.Names.{None, refl, sym, ap, subst, ◌∙◌, ◌&&◌, arith, slice_get, IfSome, filter}
-use Rattle.session_laws.proofs.Names.{nat_tests, append-nil, length_push, map-append, All-head, All-tail, All-weaker}
-use Rattle.session_laws.proofs.Names.{list_all-append, IfSome_then, All, AllByRecursion, list_all, list_all-weaker}
-use Rattle.session_laws.proofs.Names.{is_own, Att, Host, Link, Tag, no_objects, share_of, leases_in, Made, replies}
-use Rattle.session_laws.proofs.Names.{Task}
+use Rattle.session_laws.proofs.Names.{◌≡◌, ◌≤◌, ℕ, ◌+◌, true, List, [], ◌∷◌, ◌++◌, length, map, Option, Some, None}
+use Rattle.session_laws.proofs.Names.{refl, sym, ap, subst, ◌∙◌, ◌&&◌, arith, slice_get, IfSome, nat_tests, append-nil}
+use Rattle.session_laws.proofs.Names.{length_push, map-append, All-head, All-tail, All-weaker, list_all-append}
+use Rattle.session_laws.proofs.Names.{IfSome_then, All, AllByRecursion, list_all, list_all-weaker, leases_in, Made}
+use Rattle.session_laws.proofs.Names.{replies, Task}
 use Rattle.std.proofs.lemmas.{List.{length-append, Elements.{All-nil, All-push}}, Option.slice_get_within}
 use Rattle.std.specs.Prelude.{slice_index_or}
-use Rattle.kernel_types.specs.{Equal.tag_eq, declared.object.{AddrObj.AddrObj, CachedObj.CachedObj, Lease.Lease}}
-use Rattle.kernel_types.specs.declared.{object.{RouteObj.RouteObj, Setting.Setting}, rule.Rule.Rule}
-use Rattle.kernel_types.specs.declared.object.Tag.TheVariants as tags
-use Rattle.pod_file.specs.WellFormed.{IsOpening}
 use Rattle.session_laws.specs.{Holds.Suite, Kept.{IsRowKept, is_numbered, pools_of}, Pools.{IsLastOf, sets_by}, Ran.Ran}
 use Rattle.session_laws.specs.Steps.{IsViewKept, StepsKeep, StepsKeepLeases, TheFirstViewIsKept, after_task, handed}
 use Rattle.session_laws.specs.{Steps.if_any, Views.{entry_of, SessionView, begun, finish, leased_to, number}}
@@ -18,7 +13,7 @@ use Rattle.session_laws.specs.declared.{answer.TaskAnswer.TaskAnswer, entry.Entr
 use Rattle.session_laws.proofs.{Courses.Unpooled.unpooled-leases, Steps.{Numbered.numbered-own, StepRows.kept-later}}
 use Rattle.session_laws.proofs.Steps.{StepRows.kept-new, StepShapes.{begun-found, leases-alone, objects-after}}
 use Rattle.session_laws.proofs.Steps.{StepShapes.{ready-after, run_of}, StepViews.{leased_to-before, leased_to-own}}
-use Rattle.kernel_types.proofs.ListLemmas.{filter_never}
+use Rattle.cni_verbs.proofs.Openings.{opening-share}
 
 entries-kept : (old : SessionView) (es : List Made) → IsViewKept old
     → list_all (λ (e : Entry). is_numbered (number old + 1) e.task) (old.history ++ map (entry_of (number old + 1)) es)
@@ -131,25 +126,6 @@ steps-leases suite old new t es more a kept step =
 
 -- ---- before the first task
 
--- no attachment has anything before the first task
-outside-not_own : (att : Att) (tag : Tag) → tag_eq tag tags.Outside ≡ true → is_own att tag ≡ false
-outside-not_own att tags.Outside is = refl
-outside-not_own att tags.Base is = absurd cc
-outside-not_own att (tags.Own own) is = absurd cc
-
-opening-none : (att : Att) (host : Host) → IsOpening host → share_of att host ≡ no_objects
-opening-none att host opening = λ i. record {
-  links =
-      filter_never (λ (l : Link). is_own att l.tag) (λ l. tag_eq l.tag tags.Outside)
-      (λ l is. outside-not_own att l.tag is) host.links opening.links i;
-  addresses = ap (filter (λ (a : AddrObj). is_own att a.tag)) opening.addresses i;
-  routes = ap (filter (λ (r : RouteObj). is_own att r.tag)) opening.routes i;
-  rules = ap (filter (λ (r : Rule). is_own att r.tag)) opening.rules i;
-  settings = ap (filter (λ (s : Setting). is_own att s.tag)) opening.settings i;
-  leases = ap (filter (λ (l : Lease). is_own att l.tag)) opening.leases i;
-  cached = ap (filter (λ (c : CachedObj). is_own att c.tag)) opening.cached i;
-}
-
 pub first-kept : TheFirstViewIsKept
 first-kept conf is = record {
   conf = is;
@@ -161,6 +137,6 @@ first-kept conf is = record {
   entries = refl;
   rows = All-nil (IsRowKept 0);
   few = omega arith;
-  objects = λ att. opening-none att conf.opening is.opening;
+  objects = λ att. opening-share att conf.opening is.opening;
   unleased = λ none. All-nil (λ row. leased_to (begun conf) row ≡ []);
 }

@@ -3,8 +3,8 @@ use Rattle.cni_result.specs.declared.cached.Cached.{Cached}
 use Rattle.cni_verbs.specs.Endings.{answer_of}
 use Rattle.cni_verbs.specs.Progress as progress
 use Rattle.cni_errors.specs.declared.answer.Answer.TheVariants as answers
-use Rattle.cni_verbs.proofs.Ends.{added-answer, early-open, after-finish, deleting-finish, asking-finish, over-finish}
-use Rattle.cni_verbs.proofs.NextCalls.{ok_some_by}
+use Rattle.cni_verbs.proofs.Ends.{early-open, after-finish, deleting-finish, asking-finish, over-finish}
+use Rattle.cni_verbs.proofs.{NextCalls.ok_some_by, PhaseSteps.kept_result}
 use Rattle.cni_verbs.proofs.ending.answer_at_end.Goals as goal
 
 pub returns-in_ok-of-in-AfterLeases : goal.returns-in_ok-of-in-AfterLeases
@@ -12,7 +12,7 @@ unfolding answer_of
 returns-in_ok-of-in-AfterLeases c =
     ap (λ added. Some (answers.Added added))
     (c.in_ok-of-in-AfterLeases.ensures ∙ c.in_ok-added-in-AfterLeases.ensures
-    ∙ ap (λ (cached : Cached). cached.result) c.get.ensures ∙ added-answer c.args.list.now c.args.command.now _ _ _
+    ∙ ap (λ (cached : Cached). cached.result) c.get.ensures ∙ kept_result c.args.list.now c.args.command.now _ _ _
     c.args.given.now c.args.phase.now c.in-AfterLeases.is c.requires.kept.2.keeps)
     ∙ (after-finish c.args.list.now c.args.command.now _ _ _ c.args.given.now c.args.phase.now
     (progress.answer_by (Some c.args.list.now) c.args.command.now) c.in-AfterLeases.is c.requires.over)

@@ -2,8 +2,9 @@ use Rattle.std.proofs.Common.{rules, ◌≡◌, ◌+◌, ◌++◌, ◌≤◌, �
 use Rattle.std.proofs.Common.{ap, ap₂, sym, ◌∙◌, arith}
 use Rattle.std.specs.List.{list_all}
 use Rattle.ip_pool.specs.Runs.{ends_before, is_in_run, is_run, run_size}
-use Rattle.ip_pool.proofs.{RunMembers.none-has, RunPlaces.{find-at, find-past_all, keep-at, keep-all, remove-at}}
-use Rattle.ip_pool.proofs.RunPlaces.{parts-length, length-run-le-size}
+use Rattle.cni_addr.proofs.Lists.{list_any-find_none}
+use Rattle.ip_pool.proofs.RunPlaces.{find-at, find-past_all, keep-at, keep-all, remove-at, parts-length}
+use Rattle.ip_pool.proofs.RunPlaces.{length-run-le-size}
 use Rattle.ip_pool.proofs.runs.remove_addr.Goals as goal
 
 pub returns-then-place-len-clause-found : goal.returns-then-place-len-clause-found
@@ -14,7 +15,7 @@ returns-then-place-len-clause-found c =
     let ended : list_all (ends_before 0 a) (take place rs) ≡ true =
     rw c.deref.ensures.value at c.place_of-place.ensures.before in
     let end : length rs ≤ place = search rules in
-    sym (none-has (is_in_run a) rs (find-past_all a rs place ended end))
+    sym (list_any-find_none (is_in_run a) rs (find-past_all a rs place ended end))
 
 pub returns-then-place-len-clause-items : goal.returns-then-place-len-clause-items
 returns-then-place-len-clause-items c =
@@ -40,7 +41,7 @@ returns-then-not-has-clause-found c =
     let missed : find (is_in_run a) rs ≡ None =
     find-at a rs place run c.requires.runs ended below c.index.ensures reaches
     ∙ ap (λ b. cond b (Some run) None) (sym c.has.ensures ∙ c.if-not-has.true) in
-    sym (none-has (is_in_run a) rs missed)
+    sym (list_any-find_none (is_in_run a) rs missed)
 
 pub returns-then-not-has-clause-items : goal.returns-then-not-has-clause-items
 returns-then-not-has-clause-items c =

@@ -2,7 +2,7 @@ use Rattle.std.proofs.Common.{◌≡◌, ◌∙◌, Some, ap, sym, rules}
 use Rattle.std.specs.{List.list_all, Prelude.nat_lt}
 use Rattle.indexmap.specs.IndexMap.{get}
 use Rattle.object_tables.specs.Table.{has_key}
-use Rattle.object_tables.proofs.{Noted.{passing-same, trails-trimmed}, Places.inside-drop}
+use Rattle.object_tables.proofs.{Candidates.inside-drop, Noted.{passing-same, trails-trimmed}}
 use Rattle.object_tables.proofs.indexes.first_place.Goals as goal
 
 pub returns-in-Some-clause-trails : goal.returns-in-Some-clause-trails

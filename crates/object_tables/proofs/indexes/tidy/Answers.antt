@@ -3,7 +3,7 @@ use Rattle.std.specs.{List.list_all, Prelude.nat_lt}
 use Rattle.indexmap.specs.IndexMap.{get}
 use Rattle.ip_pool.proofs.InOrder.{list_all-filter}
 use Rattle.object_tables.specs.{Places.{passes, passing, row_at}, Table.has_key}
-use Rattle.object_tables.proofs.{Noted.{passing-same, trails-trimmed}, Places.passing-twice}
+use Rattle.object_tables.proofs.{Candidates.passing-twice, Noted.{passing-same, trails-trimmed}}
 use Rattle.object_tables.proofs.indexes.tidy.Goals as goal
 
 pub returns-in-Some-clause-trails : goal.returns-in-Some-clause-trails

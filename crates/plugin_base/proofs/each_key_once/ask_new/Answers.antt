@@ -30,7 +30,8 @@ loop-object-preserved g c =
                 ∙ ap (λ l. old ++ l) (sym (map-append call (once before) (x ∷ [])))
                 ∙ ap (λ l. old ++ map call l)
                 (sym (next ∙ ap (λ b. if b then once before ++ x ∷ [] else once before) w.if-branch.true)),
-            subst (Begins old) (sym asked) (begins_push old c.loop-object.calls.items (call x) c.loop-object.invariant.2),
+            subst (Begins old) (sym asked)
+                (begins_push old c.loop-object.calls.items (call x) c.loop-object.invariant.2),
           )
       | else-branch w ↦
           let same : c.if-branch.calls.items ≡ c.loop-object.calls.items = search rules in (

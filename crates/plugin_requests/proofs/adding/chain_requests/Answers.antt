@@ -1,4 +1,4 @@
-use Rattle.std.proofs.Common.{◌≡◌, false, length, List, [], ◌∷◌, ◌++◌, slice_range, ap, sym, ◌∙◌}
+use Rattle.std.proofs.Common.{◌≡◌, false, length, [], ◌∷◌, ◌++◌, slice_range, ap, sym, ◌∙◌}
 use Rattle.std.proofs.lemmas.List.Elements.{All-head, All-nil, All-push, All-rest, All-same}
 use Rattle.std.specs.{Iterator.Adapters.{zip_first, zip_second}, Slice.Iter.iter_rest}
 use Rattle.serde_json.specs.{View.view, Written.has_float}

@@ -1,9 +1,9 @@
 use Rattle.plugin_session.proofs.Names.{◌≡◌, ◌+◌, true, drop, length, slice_get, Some, Ok, rules, ap, subst, ◌∙◌}
 use Rattle.plugin_session.proofs.Names.{drop_all, err_from_is_err_and, are_apart, ranges_of}
 use Rattle.plugin_session.specs.{Adds.LeaseEndsAs, declared.step.StepEnd.StepEnd}
-use Rattle.plugin_session.proofs.Adds.AddSteps.{leases-allowed, leases-at, leases-done, leases-end, leases-more}
-use Rattle.plugin_session.proofs.Adds.AddSteps.{leases-ready, leases-refused, lease-count, left-of, other-is_short}
-use Rattle.plugin_session.proofs.Adds.AddSteps.{set-apart}
+use Rattle.plugin_session.proofs.Adds.AddLeases.{leases-allowed, leases-at, leases-done, leases-end, leases-more}
+use Rattle.plugin_session.proofs.Adds.AddLeases.{leases-ready, leases-refused, lease-count, set-apart}
+use Rattle.plugin_session.proofs.Adds.AddSteps.{left-of, other-is_short}
 use Rattle.plugin_session.proofs.lease.lease_all.Goals as goal
 
 pub lease_next-requires-clause-allowed : goal.lease_next-requires-clause-allowed

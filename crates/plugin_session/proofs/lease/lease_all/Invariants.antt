@@ -1,6 +1,6 @@
 use Rattle.plugin_session.proofs.Names.{◌≡◌, ◌≤◌, drop, length}
 use Rattle.std.proofs.Common.{vec_capacity}
-use Rattle.plugin_session.proofs.Adds.AddSteps.{LeasesFirst}
+use Rattle.plugin_session.proofs.Adds.AddLeases.{LeasesFirst}
 use Rattle.plugin_session.proofs.lease.lease_all.Given as goal
 
 abbrev pub invariant-loop-set : goal.invariant-loop-set

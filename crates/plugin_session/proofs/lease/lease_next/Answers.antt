@@ -1,6 +1,6 @@
 use Rattle.plugin_session.proofs.Names.{◌≡◌, length, rules, LeaseNext}
 use Rattle.plugin_session.specs.{Adds.IsMade, Journal.made_next}
-use Rattle.plugin_session.proofs.Adds.AddSteps.{lease-ends}
+use Rattle.plugin_session.proofs.Adds.AddLeases.{lease-ends}
 use Rattle.plugin_session.proofs.lease.lease_next.Goals as goal
 
 pub returns-clause-ends : goal.returns-clause-ends

@@ -2,8 +2,8 @@ use Rattle.std.proofs.Common.{◌≡◌, ◌+◌, ◌-◌, ◌<◌, false, ◌||
 use Rattle.std.specs.Vec.{vec_capacity}
 use Rattle.cni_addr.specs.Equal.{addr_eq}
 use Rattle.ip_pool.specs.Runs.{addresses_of, are_runs, is_in_runs, size_of}
-use Rattle.ip_pool.proofs.{RunEdits.{with_addr-members, with_addr-size, with_addr-runs}, RunMembers.taken-runs}
-use Rattle.ip_pool.proofs.{RunMembers.addresses-ascend, RunPlaces.{length-le-size, each-is_run}}
+use Rattle.ip_pool.proofs.{RunMembers.{taken-runs, addresses-ascend}, RunPlaces.{length-le-size, each-is_run}}
+use Rattle.ip_pool.proofs.RunsJoined.{with_addr-members, with_addr-size, with_addr-runs}
 use Rattle.ip_pool.proofs.addr_runs.AddrRuns.add.Goals as goal
 
 pub add_addr-requires-clause-room : goal.add_addr-requires-clause-room

@@ -3,8 +3,8 @@ use Rattle.std.specs.Vec.{vec_capacity}
 use Rattle.cni_addr.specs.{Equal.addr_eq, declared.address.Addr.Addr}
 use Rattle.ip_pool.specs.{AddrSets.ascends, NextAddress.is_taken, RunEdits.without_addr, Runs.{addresses_of, are_runs}}
 use Rattle.ip_pool.specs.{Runs.{is_in_runs, size_of}, declared.runs.Run.Run}
-use Rattle.ip_pool.proofs.RunEdits.{without_addr-absent, without_addr-members, without_addr-size, without_addr-runs}
-use Rattle.ip_pool.proofs.RunMembers.{taken-runs, addresses-ascend}
+use Rattle.ip_pool.proofs.{RunMembers.{taken-runs, addresses-ascend}, RunsLeft.without_addr-absent}
+use Rattle.ip_pool.proofs.RunsLeft.{without_addr-members, without_addr-size, without_addr-runs}
 use Rattle.ip_pool.proofs.addr_runs.AddrRuns.remove.Goals as goal
 
 -- what the list of addresses has then

@@ -1,11 +1,8 @@
-use Rattle.std.proofs.Common.{◌≡◌, ◌&&◌, Bool, rules, ◌∙◌, arith}
+use Rattle.std.proofs.Common.{◌≡◌, ◌&&◌, rules, ◌∙◌}
 use Rattle.std.specs.{Option.option_eq, Str.bytes_eq}
 use Rattle.kernel_types.specs.Equal.{addr_eq, cidr_eq, tag_eq}
+use Rattle.kernel_model.proofs.RouteTests.{five_tests}
 use Rattle.kernel_model.proofs.compared.RouteObjCompared.is_same.Goals as goal
-
--- five tests, from the right and from the left
-five_tests : (a b c d e : Bool) → (a && (b && (c && (d && e)))) ≡ (a && b && c && d && e)
-five_tests a b c d e = grind arith
 
 pub returns : goal.returns
 returns c =

@@ -1,11 +1,12 @@
 use Rattle.std.proofs.Common.{not, ap, sym, ◌∙◌, arith}
 use Rattle.std.specs.Prelude.{filter}
-use Rattle.kernel_model.proofs.OnLeavingLinks.{keeps-all, drops-one, drops-none}
+use Rattle.cni_addr.proofs.Lists.{filter-every}
+use Rattle.kernel_model.proofs.OnLeavingLinks.{drops-one, drops-none}
 use Rattle.kernel_model.proofs.list_kernel.leaving.drop_objects_on_leaving.Goals.{then-is_leaving, else-is_leaving}
 use Rattle.kernel_model.proofs.list_kernel.leaving.drop_objects_on_leaving.Goals as goal
 
 pub loop-link-init : goal.loop-link-init
-loop-link-init g c = keeps-all c.args.objects.now.items
+loop-link-init g c = sym (filter-every c.args.objects.now.items)
 
 pub loop-link-preserved : goal.loop-link-preserved
 loop-link-preserved g c =

@@ -1,20 +1,10 @@
-use Rattle.std.proofs.{Common.{◌≡◌, ◌∙◌, ap, sym, subst}, lemmas.Result.IfOk-weaker}
-use Rattle.std.specs.Prelude.{Result, Ok, Err, IfOk, OnErr}
-use Rattle.cni_addr.specs.declared.memory.NoMemory.{NoMemory}
-use Rattle.kernel_types.specs.{Allowed.IsAllowed, Apply.apply, Replies.is_fault, Sound.IsSound, declared.call.Call.Call}
-use Rattle.kernel_types.specs.declared.{call.Reply.Reply, object.Host.Host}
-use Rattle.kernel_types.proofs.{EveryCall.IsSound-apply, Replies.IsReplyOf-apply}
+use Rattle.std.proofs.{Common.{◌∙◌, ap, sym, subst}, lemmas.Result.IfOk-weaker}
+use Rattle.kernel_types.specs.{Replies.is_fault, Sound.IsSound, declared.{call.Reply.Reply, object.Host.Host}}
+use Rattle.kernel_types.proofs.Replies.{IsReplyOf-apply}
+use Rattle.kernel_model.proofs.SoundCalls.{stays_sound}
 use Rattle.kernel_tables.proofs.table_kernel.TableKernelKernel.call.Goals as goal
 
 -- the tables before the call are what `self` means: it is sound, and the call may be made in it
-stays_sound : (host old new : Host) (call : Call) (result : Result Reply NoMemory) → old ≡ host → IsSound old
-    → IsAllowed host call → IfOk result (λ reply. (new, reply) ≡ apply old call) → OnErr result (new ≡ old)
-    → IsSound new
-stays_sound host old new call (Ok reply) is sound allowed ok err =
-    subst IsSound (ap (λ (s : Host × Reply). s.0) (sym ok))
-    (IsSound-apply old call sound (subst (λ (h : Host). IsAllowed h call) (sym is) allowed))
-stays_sound host old new call (Err e) is sound allowed ok err = subst IsSound (sym err) sound
-
 pub invariant_of-self : goal.invariant_of-self
 invariant_of-self c =
     let is = c.deref_mut.ensures.value in

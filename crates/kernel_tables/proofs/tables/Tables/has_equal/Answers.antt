@@ -1,11 +1,10 @@
 use Rattle.std.proofs.Common.{◌≡◌, ◌∙◌, ap, sym, rules}
 use Rattle.std.specs.{List.list_any, Prelude.is_some}
-use Rattle.ip_pool.proofs.Lists.{is_some-find}
+use Rattle.cni_addr.proofs.{Lists.is_some-find, Options.is_some-option_copied}
 use Rattle.kernel_types.specs.{Apply.Calls.has_object, Equal.{addr_obj_eq, lease_eq, route_eq, rule_eq, setting_eq}}
 use Rattle.kernel_types.specs.declared.call.Object.TheVariants.{Address, Route, Rule, Setting, Lease}
 use Rattle.kernel_types.specs.declared.call.Probe.TheVariants.{Whole}
-use Rattle.kernel_tables.proofs.{Owned.some-copied, Questions.{address-same, lease-same, route-same, rule-same}}
-use Rattle.kernel_tables.proofs.Questions.{setting-same}
+use Rattle.kernel_tables.proofs.{Added.rule-same, Questions.{address-same, lease-same, route-same, setting-same}}
 use Rattle.kernel_tables.proofs.tables.Tables.has_equal.Goals as goal
 
 pub returns-in-Address : goal.returns-in-Address
@@ -14,7 +13,7 @@ returns-in-Address c =
     let is : c.args.object.now ≡ Address c.get-in-Address.result.now = of ∙ ap Address (sym c.get-in-Address.ensures) in
     let found : c.is_some.result ≡ list_any (λ x. addr_obj_eq x c.get-in-Address.result.now) c.self.inside.addresses =
     c.is_some.ensures
-    ∙ some-copied c.find_alias.result
+    ∙ is_some-option_copied c.find_alias.result
     ∙ ap is_some c.find_alias.ensures
     ∙ is_some-find _ c.self.inside.addresses
     ∙ (λ i. list_any (λ x. address-same x c.get-in-Address.result.now i) c.self.inside.addresses) in
@@ -28,7 +27,7 @@ returns-in-Route c =
     let is : c.args.object.now ≡ Route c.get-in-Route.result.now = of ∙ ap Route (sym c.get-in-Route.ensures) in
     let found : c.is_some-in-Route.result ≡ list_any (λ x. route_eq x c.get-in-Route.result.now) c.self.inside.routes =
     c.is_some-in-Route.ensures
-    ∙ some-copied c.find_alias-in-Route.result
+    ∙ is_some-option_copied c.find_alias-in-Route.result
     ∙ ap is_some c.find_alias-in-Route.ensures
     ∙ is_some-find _ c.self.inside.routes
     ∙ (λ i. list_any (λ x. route-same x c.get-in-Route.result.now i) c.self.inside.routes) in
@@ -41,7 +40,7 @@ returns-in-Rule c =
     let is : c.args.object.now ≡ Rule c.in-Rule.rule = search rules in
     let found : c.is_some-in-Rule.result ≡ list_any (λ x. rule_eq x c.in-Rule.rule) c.self.inside.rules =
     c.is_some-in-Rule.ensures
-    ∙ some-copied c.find.result
+    ∙ is_some-option_copied c.find.result
     ∙ ap is_some c.find.ensures
     ∙ is_some-find _ c.self.inside.rules
     ∙ (λ i. list_any (λ x. rule-same x c.in-Rule.rule i) c.self.inside.rules) in
@@ -56,7 +55,7 @@ returns-in-Setting c =
     let found : c.is_some-in-Setting.result
     ≡ list_any (λ x. setting_eq x c.get-in-Setting.result.now) c.self.inside.settings =
     c.is_some-in-Setting.ensures
-    ∙ some-copied c.find_alias-in-Setting.result
+    ∙ is_some-option_copied c.find_alias-in-Setting.result
     ∙ ap is_some c.find_alias-in-Setting.ensures
     ∙ is_some-find _ c.self.inside.settings
     ∙ (λ i. list_any (λ x. setting-same x c.get-in-Setting.result.now i) c.self.inside.settings) in
@@ -70,7 +69,7 @@ returns-in-Lease c =
     let is : c.args.object.now ≡ Lease c.get-in-Lease.result.now = of ∙ ap Lease (sym c.get-in-Lease.ensures) in
     let found : c.is_some-in-Lease.result ≡ list_any (λ x. lease_eq x c.get-in-Lease.result.now) c.self.inside.leases =
     c.is_some-in-Lease.ensures
-    ∙ some-copied c.find-in-Lease.result
+    ∙ is_some-option_copied c.find-in-Lease.result
     ∙ ap is_some c.find-in-Lease.ensures
     ∙ is_some-find _ c.self.inside.leases
     ∙ (λ i. list_any (λ x. lease-same x c.get-in-Lease.result.now i) c.self.inside.leases) in

@@ -1,14 +1,14 @@
 use Rattle.std.proofs.Common.{◌∙◌, ap}
 use Rattle.std.specs.{List.list_any, Prelude.{is_some, ◌&&◌}, Str.bytes_eq}
-use Rattle.ip_pool.proofs.Lists.{is_some-find}
+use Rattle.cni_addr.proofs.{Lists.is_some-find, Options.is_some-option_copied}
 use Rattle.kernel_types.specs.{Keys.is_same_setting, declared.keys.SettingKey.SettingKey}
-use Rattle.kernel_tables.proofs.{Free.any-setting, Owned.some-copied}
+use Rattle.kernel_tables.proofs.Free.{any-setting}
 use Rattle.kernel_tables.proofs.tables.Tables.has_same_setting.Goals as goal
 
 pub returns : goal.returns
 returns c =
     c.is_some.ensures
-    ∙ some-copied c.find.result
+    ∙ is_some-option_copied c.find.result
     ∙ ap is_some c.find.ensures
     ∙ is_some-find _ c.self.inside.settings
     ∙ any-setting c.in_ok-key.key c.self.inside.settings

@@ -1,7 +1,7 @@
 use Rattle.std.proofs.Common.{◌≡◌, ◌∙◌, ap, sym, subst, refl, Some, None, rules}
 use Rattle.std.specs.{List.list_any, Prelude.{find, is_some}}
 use Rattle.cni_addr.specs.Lists.{without_first}
-use Rattle.ip_pool.proofs.Lists.{is_some-find}
+use Rattle.cni_addr.proofs.Lists.{is_some-find}
 use Rattle.kernel_types.specs.{Keys.is_same_lease, Sound.HasDistinctKeys, Terms.is_own}
 use Rattle.kernel_types.specs.contracts.object.AttPartialEq.TheImpl.{eq-value as att_eq-value}
 use Rattle.kernel_types.specs.declared.object.Lease.{Lease}

@@ -1,7 +1,7 @@
 use Rattle.std.proofs.Common.{◌≡◌, ◌∙◌, ap, refl}
 use Rattle.std.specs.{List.list_any, Prelude.is_some}
 use Rattle.cni_addr.specs.Lists.{without_first}
-use Rattle.ip_pool.proofs.Lists.{is_some-find}
+use Rattle.cni_addr.proofs.Lists.{is_some-find}
 use Rattle.kernel_types.specs.{Terms.is_own, declared.object.Setting.Setting}
 use Rattle.kernel_tables.proofs.Owned.{any-own, first-own}
 use Rattle.kernel_tables.proofs.tables.Tables.setting_del.Goals as goal

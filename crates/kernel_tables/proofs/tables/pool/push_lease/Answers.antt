@@ -1,15 +1,15 @@
 use Rattle.std.proofs.Common.{◌≡◌, ◌∙◌, ap, sym, true, false}
 use Rattle.std.specs.{List.list_any, Prelude.is_some}
-use Rattle.ip_pool.proofs.Lists.{is_some-find}
+use Rattle.cni_addr.proofs.{Lists.is_some-find, Options.is_some-option_copied}
 use Rattle.kernel_types.specs.Terms.{is_of_pool}
-use Rattle.kernel_tables.proofs.{NewLease.any-pool, Owned.some-copied}
+use Rattle.kernel_tables.proofs.NewLease.{any-pool}
 use Rattle.kernel_tables.proofs.tables.pool.push_lease.Goals as goal
 
 pub lease_first-requires-clause-none : goal.lease_first-requires-clause-none
 lease_first-requires-clause-none c =
     let there =
     c.is_some.ensures
-    ∙ some-copied c.find.result
+    ∙ is_some-option_copied c.find.result
     ∙ ap is_some c.find.ensures
     ∙ is_some-find _ c.args.lasts.now
     ∙ any-pool c.args.pool.now c.args.lasts.now in
@@ -19,7 +19,7 @@ pub returns-then-is_some-clause-lasts : goal.returns-then-is_some-clause-lasts
 returns-then-is_some-clause-lasts c =
     let there =
     c.is_some.ensures
-    ∙ some-copied c.find.result
+    ∙ is_some-option_copied c.find.result
     ∙ ap is_some c.find.ensures
     ∙ is_some-find _ c.args.lasts.now
     ∙ any-pool c.args.pool.now c.args.lasts.now in
@@ -31,7 +31,7 @@ pub returns-else-is_some-clause-lasts : goal.returns-else-is_some-clause-lasts
 returns-else-is_some-clause-lasts c =
     let there =
     c.is_some.ensures
-    ∙ some-copied c.find.result
+    ∙ is_some-option_copied c.find.result
     ∙ ap is_some c.find.ensures
     ∙ is_some-find _ c.args.lasts.now
     ∙ any-pool c.args.pool.now c.args.lasts.now in

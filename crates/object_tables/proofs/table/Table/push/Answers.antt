@@ -1,4 +1,4 @@
-use Rattle.std.proofs.Common.{◌≡◌, ◌++◌, ◌∷◌, [], ◌∙◌, ap, not, if◌then◌else◌}
+use Rattle.std.proofs.Common.{◌++◌, ◌∷◌, [], ◌∙◌, ap, not, if◌then◌else◌}
 use Rattle.object_tables.proofs.Noted.{none-same}
 use Rattle.object_tables.proofs.table.Table.push.Goals as goal
 

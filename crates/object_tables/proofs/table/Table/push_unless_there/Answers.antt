@@ -1,8 +1,8 @@
 use Rattle.std.proofs.Common.{◌≡◌, ◌++◌, ◌∷◌, [], ◌∙◌, ap, refl, sym, Some, None, true, false, not, length, set, rules}
 use Rattle.std.specs.{List.list_any, Str.bytes_eq}
 use Rattle.object_tables.specs.{Places.rows_of, Table.{has_key, has_same_key}}
-use Rattle.object_tables.proofs.{Noted.{no_row, index-noted, key-noted, there-noted, trails-noted}, Places.Finds-kept}
-use Rattle.object_tables.proofs.Places.{rows_of-push_none, rows_of-push, set-pushed}
+use Rattle.object_tables.proofs.{Candidates.Finds-kept, Noted.{no_row, index-noted, key-noted, there-noted}}
+use Rattle.object_tables.proofs.{Noted.trails-noted, Places.{rows_of-push_none, rows_of-push, set-pushed}}
 use Rattle.object_tables.proofs.table.Table.push_unless_there.Goals as goal
 
 pub invariant_of-self-in_err-note_unless_there : goal.invariant_of-self-in_err-note_unless_there

@@ -1,7 +1,7 @@
 use Rattle.std.proofs.Common.{◌≡◌, ◌∙◌, ◌<◌, Some, None, ap, sym, subst, length, rules}
 use Rattle.std.specs.Prelude.{filter, find, not}
 use Rattle.object_tables.specs.Table.{has_key}
-use Rattle.object_tables.proofs.Places.{one-fewer, one-gone, none-gone}
+use Rattle.object_tables.proofs.Lists.{one-fewer, one-gone, none-gone}
 use Rattle.object_tables.proofs.table.Table.remove_at.Goals as goal
 
 pub loop-row-preserved : goal.loop-row-preserved

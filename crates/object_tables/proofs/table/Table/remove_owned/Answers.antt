@@ -2,7 +2,7 @@ use Rattle.std.proofs.Common.{◌≡◌, ◌&&◌, ◌∙◌, [], ap, sym, None,
 use Rattle.std.specs.{Option.option_map_or, Prelude.{filter, not}, VecDeque.deque_items}
 use Rattle.indexmap.specs.IndexMap.{get}
 use Rattle.object_tables.specs.{Places.{rows_of, passing, places_where}, Table.has_key}
-use Rattle.object_tables.proofs.{Along.{emptied-along, both-along}, Places.{Finds-retain, rows_of-retain}}
+use Rattle.object_tables.proofs.{Along.{emptied-along, both-along}, Candidates.Finds-retain, Places.rows_of-retain}
 use Rattle.object_tables.proofs.table.Table.remove_owned.Goals as goal
 
 pub invariant_of-self : goal.invariant_of-self

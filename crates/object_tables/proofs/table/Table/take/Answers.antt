@@ -3,7 +3,7 @@ use Rattle.std.proofs.lemmas.List.{get_or_default}
 use Rattle.std.specs.{Option.option_to_list, Prelude.{find, filter, not}}
 use Rattle.indexmap.specs.IndexMap.{get}
 use Rattle.object_tables.specs.{Places.{passes, passing, places_where, row_at, rows_of}, Table.has_key}
-use Rattle.object_tables.proofs.Places.{Finds-clear, goes-alone, none-alone, not-passing}
+use Rattle.object_tables.proofs.{Candidates.Finds-clear, Places.{goes-alone, none-alone, not-passing}}
 use Rattle.object_tables.proofs.table.Table.take.Goals.{in_default-via-in-Some+else-is_keyed_at}
 use Rattle.object_tables.proofs.table.Table.take.Goals.{in_default-via-in_default}
 use Rattle.object_tables.proofs.table.Table.take.Goals as goal

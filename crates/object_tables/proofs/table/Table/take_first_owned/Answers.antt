@@ -3,7 +3,7 @@ use Rattle.std.specs.Prelude.{find}
 use Rattle.cni_addr.specs.Lists.{without_first}
 use Rattle.object_tables.specs.{Places.{first_of, passing, places_where, rows_of}, Table.{has_key, AreTrails}}
 use Rattle.object_tables.specs.Trails.{trail_of}
-use Rattle.object_tables.proofs.Places.{Finds-clear, goes-first, none-goes}
+use Rattle.object_tables.proofs.{Candidates.Finds-clear, Places.{goes-first, none-goes}}
 use Rattle.object_tables.proofs.table.Table.take_first_owned.Goals as goal
 
 pub index_mut-requires : goal.index_mut-requires

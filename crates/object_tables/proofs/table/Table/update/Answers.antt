@@ -2,7 +2,8 @@ use Rattle.std.proofs.{Common.{◌≡◌, ◌∙◌, ap, sym, [], ◌∷◌, Som
 use Rattle.std.specs.{Option.{option_map, option_to_list}, Prelude.{map, if◌then◌else◌}, Str.bytes_eq}
 use Rattle.indexmap.specs.IndexMap.{get}
 use Rattle.object_tables.specs.{Places.{passing, places_where, rows_of}, Table.{has_key, is_key}}
-use Rattle.object_tables.proofs.Places.{Finds-changed, rows_of-changed, unless-test, noted-within, none-changed}
+use Rattle.object_tables.proofs.{Candidates.Finds-changed, Places.{rows_of-changed, unless-test, noted-within}}
+use Rattle.object_tables.proofs.Places.{none-changed}
 use Rattle.object_tables.proofs.table.Table.update.Goals as goal
 
 pub invariant_of-self : goal.invariant_of-self

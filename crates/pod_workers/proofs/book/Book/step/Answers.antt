@@ -1,9 +1,10 @@
 use Rattle.pod_workers.proofs.Names.{◌≡◌, ◌-◌, ◌<◌, ◌^◌, length, slice_get, sym, ◌∙◌, ap, subst, arith, length-set}
 use Rattle.std.proofs.lemmas.List.{set-set}
 use Rattle.pod_workers.specs.{Index.is_cut_by, World.World}
-use Rattle.pod_workers.proofs.Books.Kept.{IsFound, cut-by, found, found-may, found-over, found-refused, found-went}
-use Rattle.pod_workers.proofs.Books.Kept.{left-steps, number-command, number-within, refused-runs_out}
-use Rattle.pod_workers.proofs.{Plans.Listed.found-listed, book.Book.step.{Given.Over, Goals.After-command_at-wanted}}
+use Rattle.pod_workers.proofs.Books.KeptByNumber.{IsFound, cut-by, found, found-may, found-over, found-refused}
+use Rattle.pod_workers.proofs.Books.KeptByNumber.{found-went, left-steps, number-command, number-within}
+use Rattle.pod_workers.proofs.{Books.KeptByNumber.refused-runs_out, Plans.Listed.found-listed}
+use Rattle.pod_workers.proofs.book.Book.step.{Given.Over, Goals.After-command_at-wanted}
 use Rattle.pod_workers.proofs.book.Book.step.Goals as goal
 
 -- the book as the step finds it
