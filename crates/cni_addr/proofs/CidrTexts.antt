@@ -39,11 +39,11 @@ pub none_decimal : (text : List ℕ) → ((n : ℕ) → n < 256 → text ≡ dec
 none_decimal text apart = none_of (prefix_of_text text) λ n e. let (fits, is) = decimal_read text n e in apart n fits is
 
 -- a plain text has no sign
-pub unsigned : (text : List ℕ) → begins_plainly text ≡ true → get_or text 0 0 ≢ 43
+unsigned : (text : List ℕ) → begins_plainly text ≡ true → get_or text 0 0 ≢ 43
 unsigned text plain = grind (arith, nat_tests, plain)
 
 -- and a zero in front stands alone
-pub unpadded : (text : List ℕ) → begins_plainly text ≡ true → get_or text 0 0 ≡ 48 → length text ≡ 1
+unpadded : (text : List ℕ) → begins_plainly text ≡ true → get_or text 0 0 ≡ 48 → length text ≡ 1
 unpadded text plain zero_first = grind (arith, nat_tests, plain, zero_first)
 
 -- one digit is plain

@@ -1,4 +1,4 @@
--- Laws of options that hold no value of note.
+-- When an option holds a value, and when none.
 use Rattle.std.proofs.Common.{◌≡◌, Option, Some, None, Bor, refl}
 use Rattle.std.specs.Option.{is_some, option_copied}
 
