@@ -1,5 +1,8 @@
-pub mod Adds
-pub mod Checks
-pub mod Removals
-pub mod Tasks
+mod AddRuns
+mod EarlyAdds
+mod Endings
 mod Names
+mod Numbers
+mod RanTasks
+mod SessionKept
+mod Turned

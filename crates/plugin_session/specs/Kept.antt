@@ -6,7 +6,7 @@ use Rattle.session_file.specs.WellFormed.{IsSessionConf}
 use Rattle.session_laws.specs.{Holds.HasByRow, Kept.{AreLastRows, AreNumbered, IsRowKept, is_numbered, pools_of}}
 use Rattle.session_laws.specs.{Pools.IsReady, Steps.IsViewKept, Views.{SessionView, finish, leased_to, number}}
 use Rattle.session_laws.specs.declared.entry.Entry.{Entry}
-use Rattle.plugin_session.specs.Journal.{JournalView}
+use Rattle.session_verbs.specs.Journal.{JournalView}
 
 pub record IsKept (j : JournalView) (given : List (List Addr)) (numbers : List ℕ) (places : List (Option ℕ))
     (s : SessionView) : Type 0 where

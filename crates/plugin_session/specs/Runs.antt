@@ -10,10 +10,11 @@ use Rattle.gc_sweep.specs.Trace.{Made, host_from, replies}
 use Rattle.session_laws.specs.{Holds.{Known, Suite, error_by, has_begun, is_faulty}, Ran.{Handed, IsNewRow, Ran}}
 use Rattle.session_laws.specs.{Ran.{RanByCourse, WasEarly}, Views.entry_of, declared.answer.TaskAnswer.TaskAnswer}
 use Rattle.session_laws.specs.declared.row.Row.{Row}
-use Rattle.plugin_session.specs.{Journal.{JournalView, after_entries}, declared.begun.Begun.Begun}
-use Rattle.plugin_session.specs.declared.{part.PartEnd.PartEnd, run.{Hand.Hand, TaskRun.TaskRun}}
+use Rattle.session_verbs.specs.{Journal.{JournalView, after_entries}, declared.begun.Begun.Begun}
+use Rattle.session_verbs.specs.declared.part.PartEnd.{PartEnd}
+use Rattle.plugin_session.specs.declared.run.{Hand.Hand, TaskRun.TaskRun}
 use Rattle.session_laws.specs.declared.answer.TaskAnswer.TheVariants as answers
-use Rattle.plugin_session.specs.declared.part.PartEnd.TheVariants as parts
+use Rattle.session_verbs.specs.declared.part.PartEnd.TheVariants as parts
 
 -- ---- answers
 

@@ -1,6 +1,6 @@
 //! The attachments that a session's tasks speak of, by their numbers.
 
-ghost use Rattle.std.specs.Prelude.{◌≡◌, ◌≤◌, ◌<◌, ℕ, List, Option, None, Some, length, slice_get, IfOk, OnOk};
+ghost use Rattle.std.specs.Prelude.{◌≡◌, ◌≤◌, ◌<◌, ℕ, List, Option, None, Some, length, slice_get, IfOk};
 ghost use Rattle.session_laws.specs.Kept.{AreNumbered};
 ghost use Rattle.session_file.specs.WellFormed.{most_tasks};
 

@@ -1,8 +1,8 @@
 //! Sessions of plugins that a caller brings: tasks one after another on one network, over any kernel.
 //!
-//! A [`Session`] runs ADD, CHECK, DEL and GC by the plugins of a `plugin_registry::Registry`. An ADD leases an address
-//! of each range set, asks its plugin for calls and result, and makes them; a row keeps what its plugin gave, and
-//! later tasks of the attachment go by that. Each task can be stopped after any of its calls, and any call can fail.
+//! A [`Session`] runs ADD, CHECK, DEL and GC by the plugins of a `plugin_registry::Registry`: the words of a task are
+//! tested here, and its calls are made by `session_verbs`. A row keeps what a plugin gave to an ADD, and later tasks of
+//! the attachment go by that. Each task can be stopped after any of its calls, and any call can fail.
 //!
 //! To its caller it promises after each task what `session_laws` says of a session (`TaskHolds` in the specs of that
 //! crate), whatever plugins are registered: the calls are those of the task's course, each attachment has nothing but
@@ -10,9 +10,6 @@
 //! refusal has its cause. What was there stays (`Grows`), so that all of this holds of every task of a session
 //! (`session_laws::each_task_holds`). A session names no registry: what is said of plugins is said of the registry that
 //! the task was handed.
-//!
-//! The machine is that of the verbs, `specs/Script.antt` of the crate `cni_verbs`, with what a row and a plugin give in
-//! place of a network list.
 //!
 //! ```text
 //! let mut session = Session::begin(alloc, conf, kernel)?;  // ADD c1 by guard; CHECK c1; DEL c1
@@ -24,22 +21,12 @@
 //! ```
 #![tactic(auto)]
 
-mod add;
 mod answer;
-mod ask;
 mod attachments;
-mod begun;
-mod check;
-mod collect;
-mod delete;
-mod journal;
 mod laws;
-mod lease;
-mod part;
 mod run;
 mod run_add;
 mod session;
-mod step;
 mod words;
 
 pub use laws::views_are_kept;

@@ -7,7 +7,7 @@ ghost use Rattle.pod_file.specs.declared.command.Verb.TheVariants as verbs;
 ghost use Rattle.cni_errors.specs.CommandFields.{del_refusal};
 ghost use Rattle.cni_verbs.specs.Script.{Collecting};
 ghost use Rattle.session_laws.specs.Course.{begins, start_work};
-ghost use Rattle.plugin_session.specs.Journal.{may_go};
+ghost use Rattle.session_verbs.specs.Journal.{may_go};
 ghost use Rattle.session_laws.specs.Kept.{pools_of};
 ghost use Rattle.session_laws.specs.Pools.{IsReady};
 ghost use Rattle.session_laws.specs.Ran.{command_for};
@@ -15,12 +15,6 @@ ghost use Rattle.plugin_session.specs.Runs.{IsAnswerToEnd, IsTurnedTo, RanTask, 
 ghost use Rattle.plugin_session.specs.Runs as runs;
 
 use crate::answer::answer_to;
-use crate::begun::Begun;
-use crate::check::check;
-use crate::collect::collect;
-use crate::delete::{kinds_back, take_back};
-use crate::journal::Journal;
-use crate::part::PartEnd;
 use crate::run_add::run_add;
 use crate::words::command_of;
 use cni_addr::{Addr, Items, NoMemory};
@@ -33,6 +27,10 @@ use plugin_registry::{Ask, Calls, Promise, Registry, Results};
 use pod_file::{Command, Verb};
 use session_file::{SessionConf, Task};
 use session_laws::{Row, TaskAnswer};
+use session_verbs::check::check;
+use session_verbs::collect::collect;
+use session_verbs::delete::{kinds_back, take_back};
+use session_verbs::{Begun, Journal, PartEnd};
 use std::alloc::Global;
 
 /// What a task goes by besides its host: its session's network and pools, and the row of its attachment with what that

@@ -8,22 +8,18 @@ ghost use Rattle.kernel_types.specs.Terms.{is_host_ns};
 ghost use Rattle.cni_errors.specs.CommandFields.{add_refusal, att_of};
 ghost use Rattle.plugin_registry.specs.Needs.{first_unmet};
 ghost use Rattle.plugin_registry.specs.Promised.{Keeps};
-ghost use Rattle.plugin_session.specs.Adds.{IsUnbegun};
-ghost use Rattle.plugin_session.specs.Journal.{may_go};
+ghost use Rattle.session_verbs.specs.Adds.{IsUnbegun};
+ghost use Rattle.session_verbs.specs.Journal.{may_go};
 ghost use Rattle.session_laws.specs.Kept.{pools_of};
 ghost use Rattle.session_laws.specs.Pools.{IsReady, sets_by};
 ghost use Rattle.session_laws.specs.Ran.{command_for};
 ghost use Rattle.plugin_session.specs.Runs.{IsAnswerToAdd, IsResultOf, IsTurnedTo, RanTask, RunsAdd, handed_of, ran_or};
 ghost use Rattle.plugin_session.specs.Runs as runs;
 ghost use Rattle.session_laws.specs.Views.{PluginView, plugin_named};
-ghost use Rattle.plugin_session.specs.declared.begun.Begun.{Begun};
+ghost use Rattle.session_verbs.specs.declared.begun.Begun.{Begun};
 ghost use Rattle.std.specs.Bool.{then_some};
 
-use crate::add::add;
 use crate::answer::{answer_to, wrong_error};
-use crate::begun::Begun;
-use crate::journal::Journal;
-use crate::part::PartEnd;
 use crate::run::{Hand, TaskRun, answer_end, answered, without_row};
 use cni_addr::{Duplicate, Items, NoMemory, RefCounted};
 use cni_errors::Ending;
@@ -35,6 +31,8 @@ use plugin_registry::{Ask, Calls, Plugin, Promise, Registry, Results, first_unme
 use pod_file::Command;
 use session_file::SessionConf;
 use session_laws::{Row, TaskAnswer};
+use session_verbs::add::add;
+use session_verbs::{Begun, Journal, PartEnd};
 use std::alloc::Global;
 
 /// The answer to an ADD that made its attachment: a copy of the result that its plugin gave.

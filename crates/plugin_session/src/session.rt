@@ -11,8 +11,6 @@ ghost use Rattle.session_laws.specs.Steps.{if_any, places_after};
 ghost use Rattle.session_laws.specs.Views.{answer_of, begun, finish};
 
 use crate::attachments::number_attachments;
-use crate::begun::Begun;
-use crate::journal::Journal;
 use crate::run::{Hand, TaskRun, run_task};
 use cni_addr::{Addr, Items, NoMemory};
 use cni_result::AddResult;
@@ -21,6 +19,7 @@ use kernel_types::{Call, Host};
 use plugin_registry::{Ask, Calls, Promise, Registry, Results};
 use session_file::SessionConf;
 use session_laws::{Entry, Row, TaskAnswer};
+use session_verbs::{Begun, Journal};
 use std::alloc::Global;
 use std::marker::Model;
 

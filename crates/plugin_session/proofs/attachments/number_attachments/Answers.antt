@@ -1,6 +1,6 @@
 use Rattle.plugin_session.proofs.Names.{◌≡◌, ℕ, cond, List, Some, Bor, length, ◌∙◌, ap, sym, arith, length-append}
-use Rattle.plugin_session.proofs.Tasks.Numbers.{all-numbered, at_names, found-number, names-test, new-number, none-more}
-use Rattle.plugin_session.proofs.Tasks.Numbers.{same_names, task-again, task-new}
+use Rattle.plugin_session.proofs.Numbers.{all-numbered, at_names, found-number, names-test, new-number, none-more}
+use Rattle.plugin_session.proofs.Numbers.{same_names, task-again, task-new}
 use Rattle.plugin_session.proofs.attachments.number_attachments.Goals.{then-is_none+in_ok-insert+in_ok-push}
 use Rattle.plugin_session.proofs.attachments.number_attachments.Goals.{else-is_none}
 use Rattle.plugin_session.proofs.attachments.number_attachments.Goals as goal

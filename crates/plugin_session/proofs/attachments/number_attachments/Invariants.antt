@@ -1,5 +1,5 @@
 use Rattle.plugin_session.proofs.Names.{◌≡◌, ℕ, Option, None, Some, length, slice_get, take}
-use Rattle.plugin_session.proofs.Tasks.Numbers.{AreNumberedTo, at_names}
+use Rattle.plugin_session.proofs.Numbers.{AreNumberedTo, at_names}
 use Rattle.plugin_session.proofs.attachments.number_attachments.Given as goal
 
 abbrev pub invariant-loop-task : goal.invariant-loop-task

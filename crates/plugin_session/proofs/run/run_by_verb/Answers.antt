@@ -2,8 +2,7 @@ use Rattle.plugin_session.proofs.Names.{None, refl, sym, ap, ◌∙◌, del_refu
 use Rattle.session_laws.specs.Holds.{Known, Suite}
 use Rattle.plugin_session.specs.Runs.{answered, handed_of}
 use Rattle.pod_file.specs.declared.command.Verb.TheVariants as verbs
-use Rattle.plugin_session.proofs.{Adds.EarlyAdds.views, Tasks.RanTasks.{collects-early, early-as, is-del, is-check}}
-use Rattle.plugin_session.proofs.Tasks.RanTasks.{ran-plain}
+use Rattle.plugin_session.proofs.{EarlyAdds.views, RanTasks.{collects-early, early-as, is-del, is-check, ran-plain}}
 use Rattle.plugin_session.proofs.run.run_by_verb.Goals as goal
 
 pub returns-in-Del-clause-ran : goal.returns-in-Del-clause-ran

@@ -2,7 +2,7 @@ use Rattle.plugin_session.proofs.Names.{◌≡◌, [], None, IfOk, refl, sym, ap
 use Rattle.plugin_session.proofs.Names.{ReadingCache, option_copied}
 use Rattle.session_laws.specs.{Course.begins, Kept.pools_of, Ran.{command_for, course_for}, Tasks.kinds_back}
 use Rattle.plugin_session.specs.Runs.{IsAnswerToEnd, handed_of}
-use Rattle.plugin_session.proofs.Tasks.Turned.{runs-cut, runs-ends, stopped-there}
+use Rattle.plugin_session.proofs.Turned.{runs-cut, runs-ends, stopped-there}
 use Rattle.plugin_session.proofs.run.run_del.Goals as goal
 
 pub returns-in_err-end-clause-ran : goal.returns-in_err-end-clause-ran

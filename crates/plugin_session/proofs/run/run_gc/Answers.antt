@@ -1,7 +1,7 @@
 use Rattle.plugin_session.proofs.Names.{ℕ, List, [], None, IfOk, refl, sym, ap, subst, Collecting, Gc, ValidAtt}
 use Rattle.session_laws.specs.{Course.start_work, Kept.pools_of, Ran.{command_for, course_for}}
 use Rattle.plugin_session.specs.Runs.{IsAnswerToEnd, handed_of}
-use Rattle.plugin_session.proofs.Tasks.Turned.{runs-cut, runs-ends, stopped-there}
+use Rattle.plugin_session.proofs.Turned.{runs-cut, runs-ends, stopped-there}
 use Rattle.plugin_session.proofs.run.run_gc.Goals as goal
 
 abbrev kept_by : List ℕ → List ValidAtt → Gc

@@ -1,7 +1,7 @@
 use Rattle.plugin_session.proofs.Names.{sym, subst}
 use Rattle.session_laws.specs.Holds.{Suite}
 use Rattle.plugin_session.specs.Runs.{RanTask, handed_of}
-use Rattle.plugin_session.proofs.{Adds.EarlyAdds.views, Tasks.RanTasks.{ran-from, ran-idle}}
+use Rattle.plugin_session.proofs.{EarlyAdds.views, RanTasks.{ran-from, ran-idle}}
 use Rattle.plugin_session.proofs.run.run_task.Goals as goal
 
 pub returns-in-Ok-clause-ran : goal.returns-in-Ok-clause-ran

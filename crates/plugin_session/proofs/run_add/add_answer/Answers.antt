@@ -1,7 +1,8 @@
 use Rattle.plugin_session.proofs.Names.{◌≡◌, List, IfOk, length, refl, sym, ap, subst, Command, Kind, att_of}
-use Rattle.plugin_session.specs.{Adds.{IsFor, IsUnbegun}, Runs.{IsAnswerToAdd, handed_of}, declared.begun.Begun.Begun}
+use Rattle.session_verbs.specs.{Adds.{IsFor, IsUnbegun}, declared.begun.Begun.Begun}
+use Rattle.plugin_session.specs.Runs.{IsAnswerToAdd, handed_of}
 use Rattle.session_laws.specs.{Course.begins, Holds.Suite, Pools.sets_by, Ran.{Handed, command_for}, Views.PluginView}
-use Rattle.plugin_session.proofs.Adds.AddRuns.{add-cut, add-ends, add-stopped, course_left, left-course, new-row}
+use Rattle.plugin_session.proofs.AddRuns.{add-cut, add-ends, add-stopped, course_left, left-course, new-row}
 use Rattle.plugin_session.proofs.run_add.add_answer.Goals as goal
 
 for-command : (h : Handed) (c : Command) (kinds : List Kind) (b : Begun) → c ≡ command_for h

@@ -2,8 +2,8 @@ use Rattle.plugin_session.proofs.Names.{Some, codes, sym, ap, ◌∙◌, option_
 use Rattle.session_laws.specs.{Holds.{Suite, Wrong}, Ran.command_for}
 use Rattle.plugin_session.specs.Runs.{handed_of}
 use Rattle.pod_file.specs.declared.command.Verb.TheVariants as verbs
-use Rattle.plugin_session.proofs.Adds.EarlyAdds.{named-view, no-plugin, plugin-there, views, words-wrong}
-use Rattle.plugin_session.proofs.Tasks.RanTasks.{early-as, ran-memory, ran-refused, ran-words}
+use Rattle.plugin_session.proofs.EarlyAdds.{named-view, no-plugin, plugin-there, views, words-wrong}
+use Rattle.plugin_session.proofs.RanTasks.{early-as, ran-memory, ran-refused, ran-words}
 use Rattle.plugin_session.proofs.run_add.run_add.Goals as goal
 
 pub returns-in_err-cause-clause-ran : goal.returns-in_err-cause-clause-ran

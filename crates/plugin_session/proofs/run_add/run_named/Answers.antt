@@ -2,8 +2,8 @@ use Rattle.plugin_session.proofs.Names.{◌≡◌, None, Some, sym, ap, ◌∙�
 use Rattle.session_laws.specs.{Holds.{Suite, Wrong, wrong_error}, Ran.command_for, Views.PluginView}
 use Rattle.plugin_session.specs.Runs.{handed_of}
 use Rattle.pod_file.specs.declared.command.Verb.TheVariants as verbs
-use Rattle.plugin_session.proofs.{Adds.EarlyAdds.{none-wrong, option-wrong, words-container}, Tasks.RanTasks.early-as}
-use Rattle.plugin_session.proofs.Tasks.RanTasks.{ran-add, ran-memory, ran-refused}
+use Rattle.plugin_session.proofs.{EarlyAdds.{none-wrong, option-wrong, words-container}, RanTasks.{early-as, ran-add}}
+use Rattle.plugin_session.proofs.RanTasks.{ran-memory, ran-refused}
 use Rattle.plugin_session.proofs.run_add.run_named.Goals as goal
 
 pub returns-in-Some-clause-ran : goal.returns-in-Some-clause-ran

@@ -1,5 +1,5 @@
 use Rattle.plugin_session.proofs.Names.{length, ap, refl, ◌∙◌, arith}
-use Rattle.plugin_session.proofs.Tasks.SessionKept.{begun-is, begun-kept}
+use Rattle.plugin_session.proofs.SessionKept.{begun-is, begun-kept}
 use Rattle.plugin_session.proofs.session.Session.begin.Goals as goal
 
 pub invariant_of-result : goal.invariant_of-result

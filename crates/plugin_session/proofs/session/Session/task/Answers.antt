@@ -1,6 +1,6 @@
 use Rattle.plugin_session.proofs.Names.{◌≡◌, ◌<◌, ◌≤◌, ◌+◌, length, map, refl, sym, ap, subst, arith, option_copied}
 use Rattle.session_laws.specs.{Holds.{Grows, Suite}, Ran.Handed, Views.{SessionView, number}}
-use Rattle.plugin_session.proofs.Tasks.SessionKept.{IsAfter, after-grows, after-holds, after-kept, handed-read, read-at}
+use Rattle.plugin_session.proofs.SessionKept.{IsAfter, after-grows, after-holds, after-kept, handed-read, read-at}
 use Rattle.plugin_session.proofs.session.Session.task.{Given.Over, Goals.After-push_reserved}
 use Rattle.plugin_session.proofs.session.Session.task.Goals as goal
 

@@ -1,7 +1,0 @@
--- How an ADD goes on and ends.
-pub mod AddCalls
-pub mod AddEnds
-pub mod AddLeases
-pub mod AddRuns
-pub mod AddSteps
-pub mod EarlyAdds

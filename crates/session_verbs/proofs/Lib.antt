@@ -1,0 +1,5 @@
+pub mod Going
+mod Adds
+mod Checks
+mod Names
+mod Removals

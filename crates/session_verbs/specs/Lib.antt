@@ -1,0 +1,4 @@
+pub mod Adds
+pub mod Asking
+pub mod Journal
+pub mod Sweeping
