@@ -13,14 +13,16 @@ use Rattle.plugin_chain.specs.{Plugins.plugin_of, Wanted.{deletion, sets_of, kin
 use Rattle.plugin_chain.specs.Wanted.{all_chained_calls, chained_kinds_reversed, first_kinds, first_plugin_result}
 use Rattle.plugin_chain.specs.Wanted.{given_by_list, cached_of}
 use Rattle.cni_verbs.specs.{Mappings.mappings_of, Phases.{KeepsOfList, KeepsAhead, state_in, state_outside}}
-use Rattle.cni_verbs.specs.{Phases.state_by_phase, Questions.check_questions, Script.{State, Finish, IsOpen, before_of}}
-use Rattle.cni_verbs.specs.{Script.{back_of, finish_of}, declared.phase.Phase.Phase}
+use Rattle.cni_verbs.specs.{Phases.state_by_phase, Script.{State, Finish, IsOpen, before_of, back_of, finish_of}}
+use Rattle.cni_verbs.specs.declared.phase.Phase.{Phase}
+use Rattle.verb_questions.specs.Questions.{check_questions}
 use Rattle.cni_errors.specs.{CommandFields.att_of, declared.answer.Ending.{Ending, TheVariants.{Added, Yes}}}
 use Rattle.cni_errors.specs.declared.answer.Question.{Question}
 use Rattle.kernel_types.specs.declared.call.Kind.TheVariants as kinds
 use Rattle.cni_verbs.specs.Script as script
 use Rattle.cni_verbs.specs.declared.phase.Phase.TheVariants as phases
-use Rattle.cni_verbs.proofs.{CallsOrOver.calls_or_over, PhaseSteps.{left_of, opens}, QuestionCounts.questions-left}
+use Rattle.cni_verbs.proofs.{CallsOrOver.calls_or_over, PhaseSteps.{left_of, opens}}
+use Rattle.verb_questions.proofs.QuestionCounts.{questions-left}
 use Rattle.plugin_chain.proofs.PluginLaws.{first_laws}
 
 -- what a phase's state is, where it is open or over

@@ -4,7 +4,6 @@ pub mod Laws
 pub mod Mappings
 pub mod Phases
 pub mod Progress
-pub mod Questions
 pub mod Replies
 pub mod Script
 pub mod Sweep

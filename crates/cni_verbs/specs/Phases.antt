@@ -6,8 +6,9 @@ use Rattle.pod_file.specs.declared.command.Command.{Command}
 use Rattle.kernel_types.specs.declared.call.Call.{Call}
 use Rattle.cni_errors.specs.{CommandFields.att_of, declared.answer.Ending.TheVariants.Yes}
 use Rattle.plugin_chain.specs.Wanted.{deletion, sets_of, kinds_of, result_of_add}
-use Rattle.cni_verbs.specs.{Questions.check_questions, Script.{State, Over, before_of, back_of, after_leases, leasing}}
-use Rattle.cni_verbs.specs.{Script.{before_leases, deleting, asking}, declared.phase.Phase.Phase}
+use Rattle.verb_questions.specs.Questions.{check_questions}
+use Rattle.cni_verbs.specs.Script.{State, Over, before_of, back_of, after_leases, leasing, before_leases, deleting}
+use Rattle.cni_verbs.specs.{Script.asking, declared.phase.Phase.Phase}
 use Rattle.cni_verbs.specs.Script as states
 use Rattle.cni_verbs.specs.declared.phase.Phase.TheVariants as phases
 

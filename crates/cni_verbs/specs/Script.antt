@@ -15,8 +15,8 @@ use Rattle.kernel_types.specs.declared.{call.Reply.TheVariants.{Entry, Fault}, r
 use Rattle.cni_errors.specs.CommandFields.{att_of, add_refusal, del_refusal, netns_refusal, drop_refusal}
 use Rattle.cni_errors.specs.declared.answer.{Cause.Cause, Ending.{Ending, TheVariants.{Added, Yes, Skipped, Versions}}}
 use Rattle.cni_errors.specs.declared.answer.{Ending.TheVariants.Refused, Question.Question}
-use Rattle.cni_verbs.specs.{Mappings.mappings_of, Questions.{check_questions, status_questions}, Sweep.{Gc, Job, Sweep}}
-use Rattle.cni_verbs.specs.Sweep.{Work, start_work, step_call, work_after}
+use Rattle.cni_verbs.specs.{Mappings.mappings_of, Sweep.{Gc, Job, Sweep, Work, start_work, step_call, work_after}}
+use Rattle.verb_questions.specs.Questions.{check_questions, status_questions}
 use Rattle.plugin_chain.specs.Wanted.{sets_of, calls_before, back_calls, kinds_of, deletion}
 use Rattle.cni_errors.specs.declared.answer.Cause.TheVariants as causes
 use Rattle.cni_errors.specs.declared.answer.Skip.TheVariants as skips

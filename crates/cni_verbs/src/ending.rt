@@ -1,6 +1,6 @@
 //! What a run answers at its end.
 
-ghost use Rattle.std.specs.Prelude.{◌≡◌, ℕ, List, Some, None, IfOk};
+ghost use Rattle.std.specs.Prelude.{◌≡◌, ℕ, Some, None, IfOk};
 ghost use Rattle.cni_verbs.specs.Script.{IsOpen};
 ghost use Rattle.cni_verbs.specs.Endings.{answer_of_ending};
 ghost use Rattle.cni_verbs.specs.Progress.{answer_in};

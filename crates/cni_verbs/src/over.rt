@@ -1,6 +1,6 @@
 //! Whether a run is over. Nothing here takes memory.
 
-ghost use Rattle.std.specs.Prelude.{◌≡◌, ◌≤◌, ◌<◌, ℕ, List, length, MatchBool};
+ghost use Rattle.std.specs.Prelude.{◌≡◌, ◌≤◌, ◌<◌, ℕ, length, MatchBool};
 ghost use Rattle.std.specs.Bool.{FalseIff};
 ghost use Rattle.net_conf.specs.declared.list.NetList.{NetList};
 ghost use Rattle.pod_file.specs.declared.command.Command.{Command};

@@ -9,7 +9,6 @@ ghost use Rattle.cni_verbs.specs.Phases.{IsMadeAhead, IsSameButPrepared, is_prep
 use crate::advance::taken_out;
 use crate::next::{back_of, before_of, deletions_of};
 use crate::phase::Phase;
-use crate::questions::check_questions;
 use cni_addr::{Addr, Items, NoMemory, RefCounted};
 use cni_errors::Ending;
 use cni_errors::fields::named_att_of;
@@ -20,6 +19,7 @@ use plugin_chain::wanted::Back;
 use pod_file::Command;
 use std::alloc::Global;
 use std::mem::replace;
+use verb_questions::check_questions;
 
 /// Whether the next call or question is made ahead already.
 pub(crate) fn is_prepared(phase: &Phase) -> bool

@@ -5,7 +5,7 @@ ghost use Rattle.net_conf.specs.declared.list.NetList.{NetList};
 ghost use Rattle.kernel_types.specs.declared.call.Call.TheVariants as call;
 ghost use Rattle.kernel_types.specs.declared.call.Change.TheVariants as change;
 ghost use Rattle.cni_errors.specs.CommandFields.{add_refusal, del_refusal, netns_refusal, drop_refusal};
-ghost use Rattle.cni_verbs.specs.Questions.{status_questions};
+ghost use Rattle.verb_questions.specs.Questions.{status_questions};
 ghost use Rattle.cni_verbs.specs.Script.{AtBegin, ReadingCache, Changing, start_of, start_state, outside_start};
 ghost use Rattle.cni_verbs.specs.Script.{flush_by, unless_refused, unless_ended, asking};
 ghost use Rattle.cni_verbs.specs.Script as script;
@@ -14,7 +14,6 @@ ghost use Rattle.cni_errors.specs.declared.answer.Ending.TheVariants as ending;
 ghost use Rattle.cni_verbs.specs.Phases.{IsPhaseOf, state_outside};
 
 use crate::phase::Phase;
-use crate::questions::status_questions;
 use cni_addr::{Duplicate, NoMemory, RefCounted};
 use cni_errors::fields::{add_refusal, del_refusal, drop_refusal, netns_refusal};
 use cni_errors::{Cause, Ending, Skip};
@@ -23,6 +22,7 @@ use kernel_types::{Call, Change, LinkKey, Table};
 use net_conf::NetList;
 use pod_file::{Command, Verb};
 use std::alloc::Global;
+use verb_questions::status_questions;
 
 // ---- verbs of a network
 

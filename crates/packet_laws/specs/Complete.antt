@@ -2,7 +2,7 @@
 use Rattle.std.specs.Prelude.{◌≡◌, true, Some, is_some}
 use Rattle.cni_result.specs.declared.cached.Cached.{Cached}
 use Rattle.cni_errors.specs.CommandFields.{att_of}
-use Rattle.cni_verbs.specs.Questions.{addresses_of_result}
+use Rattle.verb_questions.specs.Questions.{addresses_of_result}
 use Rattle.kernel_types.specs.{Equal.{lease_eq, rule_eq}, Terms.{cached_in, has_objects}, declared.object.Att.Att}
 use Rattle.kernel_types.specs.declared.object.Host.{Host}
 use Rattle.net_conf.specs.declared.list.NetList.{NetList}

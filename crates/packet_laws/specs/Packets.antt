@@ -4,7 +4,8 @@ use Rattle.std.specs.{List.list_any, Option.option_map_or, Prelude.{◌≡◌, �
 use Rattle.std.specs.Prelude.{List, [], ◌∷◌, ◌++◌, find, filter, Some, unwrap_or, option_map}
 use Rattle.cni_addr.specs.{Lists.IsAmong, Network.contains, declared.address.Addr.Addr}
 use Rattle.cni_result.specs.declared.cached.{Cached.Cached, PortMapping.PortMapping}
-use Rattle.cni_verbs.specs.{Mappings.takes_mappings, Questions.addresses_of_result}
+use Rattle.cni_verbs.specs.Mappings.{takes_mappings}
+use Rattle.verb_questions.specs.Questions.{addresses_of_result}
 use Rattle.kernel_types.specs.{Equal.{addr_eq, proto_eq}, Terms.lease_of, declared.{call.Given.Given, object.Att.Att}}
 use Rattle.kernel_types.specs.declared.object.{CachedObj.CachedObj, Host.Host, Tag.{Tag, TheVariants.{Outside, Base}}}
 use Rattle.kernel_types.specs.declared.{object.Tag.TheVariants.Own, rule.Rule.Rule}

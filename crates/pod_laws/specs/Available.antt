@@ -2,7 +2,7 @@
 use Rattle.std.specs.{List.list_all, Prelude.{◌≡◌, ◌&&◌, Bool, MatchBool, List, []}}
 use Rattle.cni_result.specs.Versions.{is_before_1_1}
 use Rattle.cni_errors.specs.{Answers.code_of, declared.answer.{Cause.Cause, Ending.{Ending, TheVariants.Refused}}}
-use Rattle.cni_verbs.specs.Questions.{status_questions}
+use Rattle.verb_questions.specs.Questions.{status_questions}
 use Rattle.plugin_chain.specs.Wanted.{master_of, sets_of}
 use Rattle.cni_errors.specs.declared.answer.Cause.TheVariants as causes
 use Rattle.ip_pool.specs.Pool.{has_free_of}

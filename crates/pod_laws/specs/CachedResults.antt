@@ -1,7 +1,8 @@
 -- Each cached result is the one of the ADD that asked for what its attachment has.
 use Rattle.std.specs.Prelude.{◌≡◌, List, Some}
 use Rattle.cni_result.specs.declared.cached.Cached.{Cached}
-use Rattle.cni_verbs.specs.{Mappings.mappings_of, Questions.addresses_of_result, Script.leases_in}
+use Rattle.cni_verbs.specs.{Mappings.mappings_of, Script.leases_in}
+use Rattle.verb_questions.specs.Questions.{addresses_of_result}
 use Rattle.host_local.specs.Laws.{AreCandidates}
 use Rattle.kernel_types.specs.{Terms.cached_in, declared.object.Att.Att}
 use Rattle.plugin_chain.specs.Wanted.{cached_of, sets_of}

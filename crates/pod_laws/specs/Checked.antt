@@ -5,7 +5,7 @@ use Rattle.cni_addr.specs.declared.mac.Mac.{Mac}
 use Rattle.cni_result.specs.declared.{cached.Cached.Cached, result.Interface.Interface}
 use Rattle.cni_errors.specs.{CommandFields.{att_of, del_refusal}, declared.answer.{Cause.Cause, Ending.Ending}}
 use Rattle.cni_errors.specs.declared.answer.{Ending.TheVariants.{Skipped, Refused}, Missed.Missed}
-use Rattle.cni_verbs.specs.Questions.{cached_share, check_questions}
+use Rattle.verb_questions.specs.Questions.{cached_share, check_questions}
 use Rattle.plugin_chain.specs.Wanted.{bridge_of}
 use Rattle.cni_errors.specs.declared.answer.Cause.TheVariants as causes
 use Rattle.cni_errors.specs.declared.answer.Skip.TheVariants as skips

@@ -7,7 +7,7 @@ use Rattle.serde_json.specs.Data.{Data, object, no_members, put}
 use Rattle.cni_errors.specs.declared.answer.Answer.{Answer, TheVariants.{Added, Yes}}
 use Rattle.cni_json.specs.{Json.line_of, Members.{text_data, number_data, ◌▷◌}}
 use Rattle.cni_result.specs.declared.{cached.{Cached.Cached, PortMapping.PortMapping}, result.AddResult.AddResult}
-use Rattle.cni_verbs.specs.Questions.{addresses_of_result}
+use Rattle.verb_questions.specs.Questions.{addresses_of_result}
 use Rattle.plugin_requests.specs.{Adding.add_requests, Raw.RawView, Request.request_data}
 use Rattle.kernel_types.specs.declared.call.Reply.{Reply}
 use Rattle.kernel_types.specs.declared.call.Reply.TheVariants as replies

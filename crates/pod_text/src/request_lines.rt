@@ -9,10 +9,10 @@ use cni_addr::{NoMemory, Text};
 use cni_errors::Answer;
 use cni_json::JsonObject;
 use cni_result::{AddResult, Cached, PortMapping};
-use cni_verbs::questions::addresses_of_result;
 use plugin_requests::{RawList, request_to, requests_of_add};
 use pod_file::{Command, ValidAtt, Verb, verb_text};
 use std::alloc::Global;
+use verb_questions::addresses_of_result;
 
 // ---- lines
 

@@ -11,7 +11,7 @@ use Rattle.pod_laws.proofs.Names.{list_for, World, own_replies, Entry, calls_lef
 use Rattle.pod_laws.proofs.Names.{IsNoCollection}
 use Rattle.std.proofs.Common.{◌*◌}
 use Rattle.pod_file.specs.declared.command.Verb.TheVariants as verbs
-use Rattle.cni_verbs.proofs.QuestionCounts.{length-pools, length-share}
+use Rattle.verb_questions.proofs.QuestionCounts.{length-pools, length-share}
 use Rattle.kernel_types.specs.declared.call.Reply.TheVariants.{Entry as Found}
 use Rattle.cni_errors.specs.declared.answer.Skip.TheVariants as skips
 use Rattle.gc_sweep.specs.Deletions.{deletions_of}

@@ -8,8 +8,8 @@ use Rattle.cni_result.specs.declared.result.Interface.{Interface}
 use Rattle.kernel_types.specs.declared.rule.Rule.{Rule}
 use Rattle.cni_errors.specs.ObjectQuestions.{address_question, lease_question, link_question, route_question}
 use Rattle.cni_errors.specs.ObjectQuestions.{rule_questions, setting_question}
-use Rattle.cni_verbs.specs.Questions.{bridge_by_mac, bridge_questions, cached_share, first_interface, master_questions}
-use Rattle.cni_verbs.specs.Questions.{pool_questions, share_questions}
+use Rattle.verb_questions.specs.Questions.{bridge_by_mac, bridge_questions, cached_share, first_interface}
+use Rattle.verb_questions.specs.Questions.{master_questions, pool_questions, share_questions}
 use Rattle.plugin_chain.specs.Wanted.{master_of}
 use Rattle.pod_workers.proofs.Lists.Each.{each-map}
 use Rattle.kernel_types.proofs.ListLemmas.{slice_get-middle, each-append}

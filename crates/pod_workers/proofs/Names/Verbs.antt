@@ -16,4 +16,5 @@ pub use Rattle.cni_verbs.specs.{Script.{next_call, finish_of}, Sweep.{Work, Job,
 pub use Rattle.pod_file.specs.{Commands.is_of_network, Rounds.{is_exclusive, file_limit}, WellFormed.IsWellFormedPods}
 pub use Rattle.pod_file.specs.declared.command.{Command.Command, Verb.Verb}
 unfoldable pub use Rattle.cni_errors.specs.CommandFields.{add_refusal}
-unfoldable pub use Rattle.cni_verbs.specs.{Questions.{check_questions, status_questions}, Script.{turn, advance}}
+unfoldable pub use Rattle.verb_questions.specs.Questions.{check_questions, status_questions}
+unfoldable pub use Rattle.cni_verbs.specs.Script.{turn, advance}

@@ -6,7 +6,7 @@ use Rattle.session_verbs.proofs.Names.{at_question, finish_of, next_call, refuse
 use Rattle.session_verbs.proofs.Names.{Host, Command, Made}
 use Rattle.std.proofs.{Math.ListN.drop_of_length-le, lemmas.{Bool.false≢true, List.Elements.All-from_recursion}}
 use Rattle.cni_errors.specs.declared.answer.Cause.TheVariants as causes
-use Rattle.cni_verbs.proofs.Asked.{left_from}
+use Rattle.verb_questions.proofs.Asked.{left_from}
 use Rattle.session_verbs.specs.{Asking.{AreProbes, AskedAs, IsProbe, end_by}, Journal.{EndsAs, JournalView, Went}}
 use Rattle.session_verbs.specs.{Journal.{after_entries, made_next}, declared.part.PartEnd.PartEnd}
 use Rattle.session_laws.specs.Course.{Course, advance}

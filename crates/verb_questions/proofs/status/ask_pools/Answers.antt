@@ -1,6 +1,6 @@
-use Rattle.cni_verbs.specs.Questions.{pool_question}
-use Rattle.cni_verbs.proofs.Asked.{numbered_more}
-use Rattle.cni_verbs.proofs.questions.ask_pools.Goals as goal
+use Rattle.verb_questions.specs.Questions.{pool_question}
+use Rattle.verb_questions.proofs.Asked.{numbered_more}
+use Rattle.verb_questions.proofs.status.ask_pools.Goals as goal
 
 pub loop-place-preserved : goal.loop-place-preserved
 loop-place-preserved c =

@@ -1,6 +1,6 @@
 use Rattle.std.proofs.Common.{◌≡◌, ◌++◌, drop}
-use Rattle.cni_verbs.specs.Questions.{pool_questions}
-use Rattle.cni_verbs.proofs.questions.ask_pools.Given as goal
+use Rattle.verb_questions.specs.Questions.{pool_questions}
+use Rattle.verb_questions.proofs.status.ask_pools.Given as goal
 
 -- what was asked and what is left are the whole
 abbrev pub invariant-loop-place : goal.invariant-loop-place

@@ -8,7 +8,7 @@ use Rattle.kernel_types.specs.{Terms.lease_of, declared.{call.Call.{Call, TheVar
 use Rattle.plugin_base.specs.Share.{Share, no_objects, share_after_calls}
 use Rattle.plugin_base.proofs.CallLists.{share_after_calls-append}
 use Rattle.cni_errors.specs.{CommandFields.att_of, declared.answer.Question.Question}
-use Rattle.cni_verbs.specs.Questions.{bridge_questions, share_questions, addresses_of_result, cached_share}
+use Rattle.verb_questions.specs.Questions.{bridge_questions, share_questions, addresses_of_result, cached_share}
 use Rattle.plugin_chain.specs.Wanted.{calls_before, back_calls, cached_of}
 use Rattle.plugin_chain.proofs.WantedShare.{makes-wanted}
 

@@ -1,8 +1,8 @@
 use Rattle.std.proofs.Common.{◌∙◌}
-use Rattle.cni_verbs.specs.Questions.{check_questions, cached_share}
+use Rattle.verb_questions.specs.Questions.{check_questions, cached_share}
 use Rattle.plugin_chain.specs.Wanted.{bridge_of}
-use Rattle.cni_verbs.proofs.Gathered.{checked}
-use Rattle.cni_verbs.proofs.questions.check_questions.Goals as goal
+use Rattle.verb_questions.proofs.Gathered.{checked}
+use Rattle.verb_questions.proofs.check.check_questions.Goals as goal
 
 pub returns : goal.returns
 unfolding check_questions

@@ -1,7 +1,7 @@
 use Rattle.std.proofs.Common.{◌+◌}
 use Rattle.cni_errors.specs.ObjectQuestions.{rule_question}
-use Rattle.cni_verbs.proofs.Asked.{numbered_more}
-use Rattle.cni_verbs.proofs.questions.ask_rules.Goals as goal
+use Rattle.verb_questions.proofs.Asked.{numbered_more}
+use Rattle.verb_questions.proofs.check.ask_rules.Goals as goal
 
 pub loop-place-preserved : goal.loop-place-preserved
 loop-place-preserved c =

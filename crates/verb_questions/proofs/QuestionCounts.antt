@@ -13,8 +13,8 @@ use Rattle.plugin_base.specs.Share.{Share, no_objects}
 use Rattle.plugin_base.proofs.PluginCalls.{later-as_many}
 use Rattle.cni_errors.specs.{CommandFields.att_of, ObjectQuestions.{link_question, address_question, route_question}}
 use Rattle.cni_errors.specs.ObjectQuestions.{rule_question, rule_questions, setting_question, lease_question}
-use Rattle.cni_verbs.specs.Questions.{share_questions, bridge_questions, cached_share, check_questions, pool_question}
-use Rattle.cni_verbs.specs.Questions.{pool_questions}
+use Rattle.verb_questions.specs.Questions.{share_questions, bridge_questions, cached_share, check_questions}
+use Rattle.verb_questions.specs.Questions.{pool_question, pool_questions}
 use Rattle.plugin_chain.specs.Wanted.{all_links_after, bridge_of, chained_calls, links_after, links_made}
 use Rattle.plugin_chain.proofs.PluginLaws.{chained_laws, first_laws}
 

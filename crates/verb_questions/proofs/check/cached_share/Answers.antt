@@ -1,5 +1,5 @@
-use Rattle.cni_verbs.proofs.Gathered.{gathered}
-use Rattle.cni_verbs.proofs.questions.cached_share.Goals as goal
+use Rattle.verb_questions.proofs.Gathered.{gathered}
+use Rattle.verb_questions.proofs.check.cached_share.Goals as goal
 
 pub returns : goal.returns
 returns c =

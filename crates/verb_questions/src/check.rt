@@ -1,22 +1,21 @@
-//! What CHECK and STATUS ask of the kernel.
+//! What a CHECK asks: the bridge, and each object that the cached result says that there is.
 
-ghost use Rattle.std.specs.Prelude.{◌≡◌, ◌+◌, ◌++◌, ◌≤◌, [], length, map, IfOk, OnOk};
+ghost use Rattle.std.specs.Prelude.{◌≡◌, ◌++◌, map, IfOk, OnOk};
+ghost use Rattle.std.specs.Option.{option_copied};
 ghost use Rattle.kernel_types.specs.declared.call.Call.TheVariants as calls;
 ghost use Rattle.cni_errors.specs.ObjectQuestions.{rule_questions};
-ghost use Rattle.cni_verbs.specs.Questions as asked;
-ghost use Rattle.net_conf.specs.Sets.{most_sets};
-ghost use Rattle.std.specs.Option.{option_copied};
+ghost use Rattle.verb_questions.specs.Questions as asked;
 
-use cni_addr::{Addr, Duplicate, Items, Mac, NoMemory, RangeSet, RefCounted, Text};
+use cni_addr::{Addr, Duplicate, Items, Mac, NoMemory, RefCounted, Text};
 use cni_errors::fields::named_att_of;
 use cni_errors::object_questions::{Checked, rule_question};
 use cni_errors::{Cause, Missed, Question};
 use cni_result::{AddResult, Cached, Interface};
 use kernel_types::{Call, Probe, Rule};
 use net_conf::NetList;
-use plugin_chain::plugins::{bridge_of, calls_before, master_of};
+use plugin_chain::plugins::{bridge_of, calls_before};
 use plugin_chain::share::{Objects, no_objects};
-use plugin_chain::wanted::{plugin_calls, sets_of};
+use plugin_chain::wanted::plugin_calls;
 use pod_file::Command;
 use std::alloc::Global;
 
@@ -117,7 +116,7 @@ fn ask_bridge(
     }
 }
 
-// ---- CHECK
+// ---- the whole
 
 /// The addresses of a result, in order.
 pub fn addresses_of_result(alloc: Global, added: &AddResult) -> Result<Vec<Addr>, NoMemory>
@@ -159,7 +158,7 @@ fn cached_share(
 
 /// The questions of a CHECK: the bridge that the cached result names, then each object that the attachment was to
 /// have: links, addresses, routes, rules, settings, leases. Linear in the calls of the ADD and the links.
-pub(crate) fn check_questions(
+pub fn check_questions(
     alloc: Global,
     list: &NetList,
     command: &Command,
@@ -175,84 +174,5 @@ pub(crate) fn check_questions(
     )?;
     let share = cached_share(alloc, list, command, cached)?;
     ask_share(&mut questions, share)?;
-    Ok(Items::of_vec(questions))
-}
-
-// ---- STATUS
-
-fn pool_question(
-    alloc: Global,
-    network: &Text,
-    number: u32,
-    set: &RefCounted<RangeSet>,
-) -> Result<Question, NoMemory>
-    ensures { IfOk result (λ q. q ≡ asked.pool_question network.now number set.now) }
-{
-    let network = network.copy()?;
-    let set = set.copy()?;
-    Ok(Question {
-        call: RefCounted::of(alloc, Call::PoolFree { network, set })?,
-        lack: Cause::NoFreeAddress(number),
-    })
-}
-
-fn ask_pools(
-    questions: &mut Vec<Question>,
-    network: &Text,
-    sets: &[RefCounted<RangeSet>],
-) -> Result<(), NoMemory>
-    requires few { length sets.now ≤ most_sets }
-    ensures { OnOk result (questions.new.items ≡ questions.old.items ++ asked.pool_questions network.now 0 sets.now) }
-{
-    let alloc = *questions.allocator();
-    for (place, set) in sets.iter().enumerate() {
-        let question = pool_question(alloc, network, place as u32, set)?;
-        questions.push(question)?;
-    }
-    Ok(())
-}
-
-fn master_question(alloc: Global, name: &Text) -> Result<Question, NoMemory>
-    ensures { IfOk result (λ q. q ≡ record {
-      call = calls.HasObj (Probe.Master name.now);
-      lack = Cause.MasterAbsent name.now;
-    }) }
-{
-    let master = name.copy()?;
-    let absent = name.copy()?;
-    let probe = Probe::Master { name: master };
-    Ok(Question {
-        call: RefCounted::of(alloc, Call::HasObj { probe })?,
-        lack: Cause::MasterAbsent(absent),
-    })
-}
-
-fn ask_master(questions: &mut Vec<Question>, master: Option<&Text>) -> Result<(), NoMemory>
-    ensures { OnOk result
-        (questions.new.items ≡ questions.old.items ++ asked.master_questions (option_copied master.entry)) }
-{
-    match master {
-        Some(master) => {
-            let alloc = *questions.allocator();
-            let question = master_question(alloc, master)?;
-            questions.push(question)?;
-            Ok(())
-        }
-        None => Ok(()),
-    }
-}
-
-/// The questions of a STATUS: a free address in each range set, then the link of the host that the plugin's is over.
-#[tactic(auto, unfolding(crate::specs::Questions::status_questions))]
-pub(crate) fn status_questions(
-    alloc: Global,
-    list: &NetList,
-    command: &Command,
-) -> Result<Items<Question>, NoMemory>
-    ensures { IfOk result (λ questions. questions ≡ asked.status_questions list.now command.now) }
-{
-    let mut questions = Vec::new(alloc);
-    ask_pools(&mut questions, &command.network, sets_of(list))?;
-    ask_master(&mut questions, master_of(&list.first))?;
     Ok(Items::of_vec(questions))
 }

@@ -1,5 +1,5 @@
 use Rattle.std.proofs.Common.{◌≡◌, ◌++◌, map}
-use Rattle.cni_verbs.proofs.questions.ask_each.Given as goal
+use Rattle.verb_questions.proofs.check.ask_each.Given as goal
 
 -- the questions of the objects so far
 abbrev pub invariant-loop-object : goal.invariant-loop-object

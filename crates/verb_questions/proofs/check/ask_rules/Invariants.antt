@@ -1,6 +1,6 @@
 use Rattle.std.proofs.Common.{◌≡◌, ◌+◌, ◌++◌, drop}
 use Rattle.cni_errors.specs.ObjectQuestions.{rule_questions}
-use Rattle.cni_verbs.proofs.questions.ask_rules.Given as goal
+use Rattle.verb_questions.proofs.check.ask_rules.Given as goal
 
 -- what was asked and what is left are the whole
 abbrev pub invariant-loop-place : goal.invariant-loop-place
