@@ -6,63 +6,59 @@ ghost use Rattle.kernel_types.specs.Allowed.{IsAllowed};
 ghost use Rattle.kernel_types.specs.Replies.{needs_no_memory};
 ghost use Rattle.kernel_types.specs.Sound.{IsSound};
 
-use crate::table_key::TableKey;
-use crate::tables::Tables;
 use cni_addr::NoMemory;
+use host_tables::{TableKey, Tables};
 use kernel_model::Kernel;
 use kernel_types::{Call, Host, Reply};
 use std::alloc::Global;
 use std::marker::Model;
 
-impl Tables {
-    /// Makes one call, by the method that is its equation. None of them is inlined: this function would else clear a
-    /// stack for all of them at each call.
-    fn carry_out(&mut self, alloc: Global, call: &Call) -> Result<Reply, NoMemory>
-        requires allowed { IsAllowed self.old call.now }
-        requires sound { IsSound self.old }
-        ensures ok { IfOk result (λ reply. (self.new, reply) ≡ apply self.old call.now) }
-        ensures err { OnErr result (self.new ≡ self.old) }
-        ensures frees { needs_no_memory call.now ≡ true → IsOk result }
-    {
-        match call {
-            Call::Begin { att, netns } => self.begin(att, netns),
-            Call::BridgeEnsure { name, mtu, promisc } => {
-                self.bridge_ensure(alloc, name, *mtu, *promisc)
-            }
-            Call::GatewayEnsure { bridge, cidr } => self.gateway_ensure(alloc, bridge, *cidr),
-            Call::ForwardEnsure { family } => self.forward_ensure(alloc, *family),
-            Call::VethAdd {
-                host_end,
-                inner_end,
-            } => self.veth_add(alloc, host_end.get(), inner_end.get()),
-            Call::MacvlanAdd { link } => self.macvlan_add(alloc, link.get()),
-            Call::LinkSet {
-                att,
-                key,
-                mac,
-                mtu,
-                tx_qlen,
-                promisc,
-                allmulti,
-            } => Ok(self.link_set(att, key, *mac, *mtu, *tx_qlen, *promisc, *allmulti)),
-            Call::AddrAdd { obj } => self.addr_add(alloc, obj.get()),
-            Call::RouteAdd { obj } => self.route_add(alloc, obj.get()),
-            Call::RuleAppend { rule } => self.rule_append(alloc, rule),
-            Call::SettingSet { setting } => self.setting_set(alloc, setting.get()),
-            Call::LeaseNext { att, number, set } => self.lease_next(alloc, att, *number, set.get()),
-            Call::CachePut { att, cached } => self.cache_put(alloc, att, cached),
-            Call::LinkDel { att } => Ok(self.link_del(att)),
-            Call::RuleDel { att } => Ok(self.rule_del(att)),
-            Call::SettingDel { att } => Ok(self.setting_del(att)),
-            Call::LeaseDel { att } => Ok(self.lease_del(att)),
-            Call::CacheDel { att } => Ok(self.cache_del(att)),
-            Call::HasObj { probe } => Ok(self.has_obj(probe)),
-            Call::CacheGet { att } => self.cache_get(att),
-            Call::OwnersOf { network, kind } => self.owners_of(alloc, network, *kind),
-            Call::PoolFree { network, set } => Ok(self.pool_free(alloc, network, set.get())),
-            Call::NsChange { name, add } => self.ns_change(alloc, name, *add),
-            Call::Outside { change } => Ok(self.outside(change)),
+/// Makes one call, by the method that is its equation.
+fn carry_out(tables: &mut Tables, alloc: Global, call: &Call) -> Result<Reply, NoMemory>
+    requires allowed { IsAllowed tables.old call.now }
+    requires sound { IsSound tables.old }
+    ensures ok { IfOk result (λ reply. (tables.new, reply) ≡ apply tables.old call.now) }
+    ensures err { OnErr result (tables.new ≡ tables.old) }
+    ensures frees { needs_no_memory call.now ≡ true → IsOk result }
+{
+    match call {
+        Call::Begin { att, netns } => tables.begin(att, netns),
+        Call::BridgeEnsure { name, mtu, promisc } => {
+            tables.bridge_ensure(alloc, name, *mtu, *promisc)
         }
+        Call::GatewayEnsure { bridge, cidr } => tables.gateway_ensure(alloc, bridge, *cidr),
+        Call::ForwardEnsure { family } => tables.forward_ensure(alloc, *family),
+        Call::VethAdd {
+            host_end,
+            inner_end,
+        } => tables.veth_add(alloc, host_end.get(), inner_end.get()),
+        Call::MacvlanAdd { link } => tables.macvlan_add(alloc, link.get()),
+        Call::LinkSet {
+            att,
+            key,
+            mac,
+            mtu,
+            tx_qlen,
+            promisc,
+            allmulti,
+        } => Ok(tables.link_set(att, key, *mac, *mtu, *tx_qlen, *promisc, *allmulti)),
+        Call::AddrAdd { obj } => tables.addr_add(alloc, obj.get()),
+        Call::RouteAdd { obj } => tables.route_add(alloc, obj.get()),
+        Call::RuleAppend { rule } => tables.rule_append(alloc, rule),
+        Call::SettingSet { setting } => tables.setting_set(alloc, setting.get()),
+        Call::LeaseNext { att, number, set } => tables.lease_next(alloc, att, *number, set.get()),
+        Call::CachePut { att, cached } => tables.cache_put(alloc, att, cached),
+        Call::LinkDel { att } => Ok(tables.link_del(att)),
+        Call::RuleDel { att } => Ok(tables.rule_del(att)),
+        Call::SettingDel { att } => Ok(tables.setting_del(att)),
+        Call::LeaseDel { att } => Ok(tables.lease_del(att)),
+        Call::CacheDel { att } => Ok(tables.cache_del(att)),
+        Call::HasObj { probe } => Ok(tables.has_obj(probe)),
+        Call::CacheGet { att } => tables.cache_get(att),
+        Call::OwnersOf { network, kind } => tables.owners_of(alloc, network, *kind),
+        Call::PoolFree { network, set } => Ok(tables.pool_free(alloc, network, set.get())),
+        Call::NsChange { name, add } => tables.ns_change(alloc, name, *add),
+        Call::Outside { change } => Ok(tables.outside(change)),
     }
 }
 
@@ -119,7 +115,7 @@ impl Kernel for TableKernel {
     ghost host = { λ k. k };
 
     fn call(&mut self, alloc: Global, call: &Call) -> Result<Reply, NoMemory> {
-        self.tables.carry_out(alloc, call)
+        carry_out(&mut *self.tables, alloc, call)
     }
 
     /// Of as many steps as there ever were objects.

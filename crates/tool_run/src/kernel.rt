@@ -9,8 +9,9 @@ ghost use Rattle.pod_workers.specs.World.{begun};
 ghost use Rattle.session_file.specs.WellFormed.{IsSessionConf};
 
 use cni_addr::{Duplicate, NoMemory};
+use host_tables::TableKey;
 use kernel_model::{Host, Kernel};
-use kernel_tables::{TableKernel, TableKey};
+use kernel_tables::TableKernel;
 use plugin_session::Session;
 use pod_workers::{Book, Plan};
 use session_file::SessionConf;

@@ -1,5 +1,0 @@
-use Rattle.kernel_tables.proofs.NewLease.{absent-lease}
-use Rattle.kernel_tables.proofs.tables.pool.lease_again.Goals as goal
-
-pub push-requires-clause-key : goal.push-requires-clause-key
-push-requires-clause-key c = absent-lease c.args.lease c.args.leases.now c.requires.absent
