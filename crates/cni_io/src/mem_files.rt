@@ -173,33 +173,3 @@ fn copy_within(alloc: Global, found: Option<&[u8]>, limit: u64) -> Result<Vec<u8
         },
     }
 }
-
-#[cfg(test)]
-mod tests {
-    use super::*;
-    use std::test::Fail;
-
-    #[test]
-    fn the_second_read_fails(rt: HostRuntime) -> Result<(), Fail> {
-        let mut files = MemFiles::new(rt.alloc(), vec![in rt.alloc(); 2]?);
-        for text in ["first", "bytes"] {
-            files.add(
-                Text::of(rt.alloc(), "a")?,
-                text.as_bytes().to_vec(rt.alloc())?,
-            )?;
-        }
-        assert_eq!(rt; files.files.len(), 1);
-        let read = files.read(rt.alloc(), "a", 5)?;
-        assert_eq!(rt; read.as_slice(), b"bytes".as_slice());
-        for (name, limit, fault, failed_reads) in [
-            ("a", 5, FileFault::Failed, 1),
-            ("b", 5, FileFault::Missing, 1),
-            ("a", 4, FileFault::TooLarge { limit: 4 }, 1),
-        ] {
-            let answer = files.read(rt.alloc(), name, limit);
-            assert_eq!(rt; answer.err(), Some(fault), "{name} of {limit}");
-            assert_eq!(rt; files.failed_reads, failed_reads);
-        }
-        Ok(())
-    }
-}

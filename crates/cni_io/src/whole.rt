@@ -47,28 +47,3 @@ pub fn write_whole<S: Sink>(sink: &mut S, bytes: &[u8]) -> Result<(), WriteEnd>
     }
     Ok(())
 }
-
-#[cfg(test)]
-mod tests {
-    use super::*;
-    use crate::mem_sink::MemSink;
-    use std::test::Fail;
-
-    #[test]
-    fn writes_until_a_write_ends_it(rt: HostRuntime) -> Result<(), Fail> {
-        for (failing, most, room, end, written) in [
-            (9, 5, 5, Ok(()), "c1 c2"),
-            (3, 3, 8, Ok(()), "c1 c2"),
-            (2, 3, 5, Err(WriteEnd::Failed { written: 3 }), "c1 "),
-            (1, 3, 5, Err(WriteEnd::Failed { written: 0 }), ""),
-            (9, 5, 4, Err(WriteEnd::TookNothing { written: 4 }), "c1 c"),
-            (9, 0, 5, Err(WriteEnd::TookNothing { written: 0 }), ""),
-        ] {
-            let failing = vec![in rt.alloc(); failing]?;
-            let mut sink = MemSink::new(rt.alloc(), failing, most, room).expect(&rt, "room");
-            assert_eq!(rt; write_whole(&mut sink, b"c1 c2"), end);
-            assert_eq!(rt; sink.written(), written.as_bytes());
-        }
-        Ok(())
-    }
-}
