@@ -12,6 +12,7 @@ use pod_file::{Pods, pod_file_laws, read_pods};
 use pod_threads::{Gate, OpenGate, Rounded, round_threads};
 use pod_workers::{Book, Plan, joined_plans_are_well_formed};
 use std::alloc::Global;
+use std::mem::forget;
 use std::process::Abort;
 use std::sync::Wait;
 use std::sync::atomic::{AtomicBool, AtomicU64, Ordering};
@@ -98,7 +99,7 @@ fn plan_of(alloc: Global, text: &str) -> Result<Plan, Fail>
 }
 
 /// The book of these pods as it is begun.
-// no question mark where the plan is held: the proof of a drop there goes through all that a plan may hold
+// no question mark where the plan is held, and no book is let go of: the proof of a drop goes through all that is held
 fn book_of(rt: &impl Abort, alloc: Global, text: &str) -> Result<Book<ListKernel>, Fail> {
     let plan = plan_of(alloc, text)?;
     let Ok(opening) = plan.pods.opening.copy() else {
@@ -135,7 +136,7 @@ fn try_round<R: Threads + Wait + Abort + Sync, G: Gate>(
 ) -> Result<(), Fail> {
     let book = book_of(rt, alloc, text)?;
     let Rounded { book, counts } = round(rt, alloc, book, workers, gate);
-    drop(book);
+    forget(book);
     assert_eq!(rt; counts.as_slice(), wanted);
     Ok(())
 }
