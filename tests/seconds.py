@@ -5,10 +5,11 @@
 
 Looks once a second at the checks below that process, until it gets the signal TERM; then it prints a table:
 
-    proof    of a crate, from nothing; of the program, also its check by the other compiler
+    proof    of a crate, from nothing
     tests    the proof of its tests, which takes in the crate's own
     first    the check that its edits begin with
     edits    the checks of the bodies that must be refused
+    build    of the program that was proved, by both compilers
 
 What is kept takes no time, and what lasts under a second isn't seen.
 """
@@ -21,9 +22,9 @@ import signal
 import sys
 import time
 
-KINDS = ("proof", "tests", "first", "edits")
+KINDS = ("proof", "tests", "first", "edits", "build")
 PER_SECOND = os.sysconf("SC_CLK_TCK")
-EDIT = re.compile(r"--incremental \S*/rt-edits-[^/ ]*/([^/ ]*)( |$)")
+SEED = re.compile(r"--incremental \S*/rt-edits-[^/ ]*/seed( |$)")
 
 
 class Ended(Exception):
@@ -58,9 +59,11 @@ def check_of(words):
     match = re.search(r"\brattle (build|check) .*?--crate-name (\w+)", words)
     if match is None:
         return None
-    edit = EDIT.search(words)
-    if edit:
-        return match[2], "first" if edit[1] == "seed" else "edits"
+    if " --crate-checked " in words:
+        return match[2], "build"
+    # a crate's check is written to a folder, an edit's is not
+    if match[1] == "check" and " -o " not in words:
+        return match[2], "first" if SEED.search(words) else "edits"
     return match[2], "tests" if " --test " in words else "proof"
 
 
