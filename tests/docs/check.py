@@ -110,7 +110,7 @@ def missing_laws(text):
     for name, crate in CRATES.items():
         laws = crate / "src" / "laws.rt"
         for law in re.findall(r"^pub fn (\w+)", laws.read_text(encoding="utf-8") if laws.exists() else "", re.MULTILINE):
-            # a plugin's is said of all plugins by cni_verbs
+            # a plugin's is said of all plugins by plugin_chain
             if not (re.search(rf"(?:`|::){law}`", text) or law.endswith("_keeps_its_laws")):
                 yield f"the law {law} of {name} isn't named"
 
