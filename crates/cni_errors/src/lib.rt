@@ -4,7 +4,7 @@
 //! (`specs/CommandFields.antt`), the code and the title of each kind of error (`specs/ErrorKinds.antt`), the error of
 //! each cause (`specs/Answers.antt`), and what a check asks of one object, with the cause where it isn't there
 //! (`specs/ObjectQuestions.antt`). Every error of the program has its code and its title from here. Nothing here knows
-//! plugins or the calls of a verb.
+//! plugins, or which calls a verb makes.
 //!
 //! ```text
 //! let cause = add_refusal(alloc, &add)?;                   // its netns is "": Some(BadFields(..))

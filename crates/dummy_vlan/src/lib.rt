@@ -4,9 +4,9 @@
 //! do (CNI plugins documentation, `plugins/main/dummy` and `plugins/main/vlan`). `dummy` makes a link that leads
 //! nowhere, `vlan` one that carries a VLAN of a link of the host.
 //!
-//! To who registers them it promises, wherever the options meet the plugin's needs: the calls and the result are those
-//! of the definitions in `specs/DummyVlan.antt`, and the calls make objects of the attachment alone, all of them links
-//! or what lies on links ([`laws`]).
+//! What they promise above, wherever the options meet the plugin's needs: the calls and the result are those of the
+//! definitions in `specs/DummyVlan.antt`, and the calls make objects of the attachment alone, all of them links or what
+//! lies on links ([`laws`]).
 //!
 //! A worked example, where the attachment `s/c1/eth0` of the namespace `/ns/a` is given the address 10.9.0.2/29:
 //!

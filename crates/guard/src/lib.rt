@@ -4,8 +4,8 @@
 //! comes from the address of its option `from` is accepted. It is this project's own, and the example by which
 //! `docs/REGISTRY.md` tells how such a plugin is written.
 //!
-//! To who registers it it promises: needs, kinds, calls and result are those of the definitions in `specs/Guard.antt`,
-//! and the calls make objects of the attachment alone, all of them rules.
+//! What it promises above: needs, kinds, calls and result are those of the definitions in `specs/Guard.antt`, and the
+//! calls make objects of the attachment alone, all of them rules.
 //!
 //! ```text
 //! // asked for the attachment s/c1/eth0 with the option from=192.0.2.1

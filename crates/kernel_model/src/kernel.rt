@@ -27,7 +27,7 @@ pub trait Kernel {
         ensures never { IfOk result (λ reply. is_fault reply ≡ false) }
         ensures sound { IsSound (host self.new) };
 
-    /// A copy of the host, of as many steps and as much memory as the host has objects.
+    /// A copy of the host. What it costs is the kernel's own to say.
     fn host(&self, alloc: Global) -> Result<Host, NoMemory>
         ensures copy { IfOk result (λ h. h ≡ host self.now) }
         ensures sound { IsSound (host self.now) };

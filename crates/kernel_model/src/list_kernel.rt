@@ -180,6 +180,7 @@ impl Kernel for ListKernel {
         self.lists.carry_out(alloc, call)
     }
 
+    /// Of as many steps and as much memory as the host has objects.
     fn host(&self, alloc: Global) -> Result<Host, NoMemory> {
         self.lists.copy_host(alloc)
     }

@@ -12,8 +12,8 @@ use std::cmp::Ordering;
 
 /// An object that a call asks for, with the test whether another has its key, and an order of keys.
 ///
-/// Whoever chooses names and addresses could choose many of one hash, so keys are sought by their order. Many keys of one
-/// attachment begin alike, so a number stands before them that tells most of them apart at one comparison.
+/// Whoever chooses names and addresses could choose many of one hash, so keys are sought by their order. Many keys of
+/// one attachment begin alike, so a number stands before them that tells most of them apart at one comparison.
 pub trait Asked: Duplicate + Drop {
     ghost use Rattle.std.specs.Prelude.{◌≡◌, Bool, true, IfOk, ℕ};
     ghost use Rattle.std.specs.Ordering.{eq_by_cmp};

@@ -1,7 +1,7 @@
 //! What holds of the plugins of every network list: their results and their rules.
 //!
-//! To who hands results on it promises that the result of an ADD is read again as it was printed; to a reader of a
-//! host's rules, in which chains those of each plugin stand (`specs/Laws.antt`).
+//! What it promises above (`specs/Laws.antt`): the result of an ADD is read again as it was printed, and the rules of
+//! each plugin stand in its own chains.
 //!
 //! ```text
 //! results_are_readable()         // a proof above gets the law by calling it

@@ -1,9 +1,9 @@
 //! Plugins that a caller brings, and what each of them owes.
 //!
 //! A [`Plugin`] is a pair of closures: one gives the calls of an ADD, the other its result. It has a name, the options
-//! that it needs and the kinds of objects that it makes. Who makes one proves that its closures may be called wherever
-//! the needs are met, that each call makes objects of the attachment alone, of these kinds
-//! (`OwnCalls` in `specs/Own.antt`), and that calls and result are as a [`Promise`] names them for the plugin.
+//! that it needs and the kinds of objects that it makes. Whoever makes one proves that its closures may be called
+//! wherever the needs are met, that each call makes objects of the attachment alone, of these kinds (`OwnCalls` in
+//! `specs/Own.antt`), and that calls and result are as a [`Promise`] names them for the plugin.
 //!
 //! To the sessions above it promises just these facts of every plugin of a [`Registry`], and that a registry has each
 //! name once where it was filled by [`Registry::add`].
