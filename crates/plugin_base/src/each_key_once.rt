@@ -178,7 +178,8 @@ fn note_key<'a, T: Asked>(
     keys: &mut BTreeSet<(u64, ByKey<'a, T>)>,
     object: &'a T,
 ) -> Result<bool, NoMemory>
-    ensures keys { OnOk result ((xs : List T) → AreKeysOf T.Key.cmp (λ x. (T.mark_of x, T.key_of x)) T.same_key keys.old xs
+    ensures keys { OnOk result ((xs : List T)
+        → AreKeysOf T.Key.cmp (λ x. (T.mark_of x, T.key_of x)) T.same_key keys.old xs
         → AreKeysOf T.Key.cmp (λ x. (T.mark_of x, T.key_of x)) T.same_key keys.new (xs ++ object.now ∷ [])) }
     ensures new { IfOk result (λ is_new. (xs : List T)
         → AreKeysOf T.Key.cmp (λ x. (T.mark_of x, T.key_of x)) T.same_key keys.old xs
