@@ -126,20 +126,19 @@ module _ (links : List Link) (row : Link) (free : list_any (is_at row.ns row.nam
   link-alias_free alias h = named-free links (is_host_ns row.ns) row.ns row.name alias refl h free
 
 -- no link stands where none was found
-module _ (host : Host) (key : LinkKey) (link : Link) (tag : Option Tag)
-    (key_is : key ≡ record { ns = link.ns; name = link.name })
-    (tag_is : tag ≡ option_map (λ l. l.tag) (link_at host key.ns key.name)) (none_is : tag ≡ None) where
-  pub nothing-at : link_at host link.ns link.name ≡ None
-  nothing-at =
-      ap (λ (k : LinkKey). link_at host k.ns k.name) (sym key_is)
-      ∙ none-option_map (λ l. l.tag) (link_at host key.ns key.name) (sym tag_is ∙ none_is)
+pub nothing-at : (host : Host) (link : Link) (tag : Option Tag)
+    → tag ≡ option_map (λ l. l.tag) (link_at host link.ns link.name) → tag ≡ None
+    → link_at host link.ns link.name ≡ None
+nothing-at host link tag tag_is none_is =
+    none-option_map (λ l. l.tag) (link_at host link.ns link.name) (sym tag_is ∙ none_is)
 
-  pub place-free : (links : List Link) (row : Link) → links ≡ host.links → row ≡ link
-      → list_any (is_at row.ns row.name) links ≡ false
-  place-free links row links_is row_is =
-      ap (λ (r : Link). list_any (is_at r.ns r.name) links) row_is
-      ∙ ap (λ ls. list_any (is_at link.ns link.name) ls) links_is
-      ∙ list_any-find_none (is_at link.ns link.name) host.links nothing-at
+pub place-free : (host : Host) (link : Link) (links : List Link) (row : Link)
+    → link_at host link.ns link.name ≡ None → links ≡ host.links → row ≡ link
+    → list_any (is_at row.ns row.name) links ≡ false
+place-free host link links row nothing links_is row_is =
+    ap (λ (r : Link). list_any (is_at r.ns r.name) links) row_is
+    ∙ ap (λ ls. list_any (is_at link.ns link.name) ls) links_is
+    ∙ list_any-find_none (is_at link.ns link.name) host.links nothing
 
 pub second-free : (links new : List Link) (first second : Link) → new ≡ links ++ first ∷ [] → is_host_ns first.ns ≡ true
     → is_host_ns second.ns ≡ false
@@ -170,19 +169,24 @@ first-back key links pushed later rest row link pushed_is later_is rest_is key_i
 
 -- ---- the host after a call
 
-pub veth-added : (old host : Host) (links pushed : List Link) (a b first second : Link) → old ≡ host
+pub ends-added : (old host : Host) (links pushed : List Link) (a b first second : Link) → old ≡ host
     → pushed ≡ old.links ++ a ∷ [] → links ≡ pushed ++ b ∷ [] → a ≡ first → b ≡ second
-    → has_named_ns host second.ns ≡ true → master_is_bridge_or_none host first.master ≡ true
-    → link_at host second.ns second.name ≡ None → link_at host first.ns first.name ≡ None
-    → ◌≡◌ {A = Host × Reply} (record old { links = links }, Done) (veth_add_of host first second)
-veth-added old host links pushed a b first second old_is pushed_is links_is a_is b_is named over inner outer =
+    → record old { links = links } ≡ record host { links = host.links ++ first ∷ second ∷ [] }
+ends-added old host links pushed a b first second old_is pushed_is links_is a_is b_is =
     let both : links ≡ host.links ++ first ∷ second ∷ [] =
     links_is
     ∙ ap (λ ls. ls ++ b ∷ []) pushed_is
     ∙ append_assoc old.links (a ∷ []) (b ∷ [])
     ∙ ap (λ (h : Host). h.links ++ a ∷ b ∷ []) old_is
     ∙ ap (λ l. host.links ++ l ∷ b ∷ []) a_is ∙ ap (λ l. host.links ++ first ∷ l ∷ []) b_is in
-    rw (both, old_is, named, over, inner, outer) refl
+    rw (both, old_is) refl
+
+pub veth-added : (host new : Host) (first second : Link)
+    → new ≡ record host { links = host.links ++ first ∷ second ∷ [] }
+    → has_named_ns host second.ns ≡ true → master_is_bridge_or_none host first.master ≡ true
+    → link_at host second.ns second.name ≡ None → link_at host first.ns first.name ≡ None
+    → ◌≡◌ {A = Host × Reply} (new, Done) (veth_add_of host first second)
+veth-added host new first second new_is named over inner outer = rw (new_is, named, over, inner, outer) refl
 
 pub values-set : (att : Att) (key : LinkKey) (mac : Option Mac) (mtu tx_qlen : Option ℕ) (promisc allmulti : Bool)
     (old host : Host) (links : List Link)

@@ -1,6 +1,6 @@
 //! Links of one attachment.
 
-ghost use Rattle.std.specs.Prelude.{◌≡◌, IfOk, OnErr};
+ghost use Rattle.std.specs.Prelude.{◌≡◌, ◌++◌, ◌∷◌, [], None, IfOk, OnOk, OnErr};
 ghost use Rattle.std.specs.Option.{option_copied, option_map};
 ghost use Rattle.kernel_types.specs.Allowed.{IsVethPair};
 ghost use Rattle.kernel_types.specs.Apply.Calls.{veth_add_of, master_is_bridge_or_none, macvlan_add_of, has_master};
@@ -41,6 +41,13 @@ impl Tables {
         }
     }
 
+    /// A copy of the tag of the link that stands where this one is to be.
+    fn taken_by(&self, link: &Link) -> Result<Option<Tag>, NoMemory>
+        ensures { IfOk result (λ tag. tag ≡ option_map (λ l. l.tag) (link_at self.now link.now.ns link.now.name)) }
+    {
+        self.link_tag(&key_of(link)?)
+    }
+
     fn master_is_bridge_or_none(&self, master: &Option<Text>) -> bool
         requires { IsSound self.now }
         ensures { result ≡ master_is_bridge_or_none self.now master.now }
@@ -49,6 +56,31 @@ impl Tables {
             Some(name) => self.has_host_bridge(name),
             None => true,
         }
+    }
+
+    /// Appends both ends of a veth pair, or neither.
+    fn push_ends(
+        &mut self,
+        alloc: Global,
+        host_end: &Link,
+        inner_end: &Link,
+    ) -> Result<(), NoMemory>
+        requires pair { IsVethPair host_end.now inner_end.now }
+        requires host_free { link_at self.old host_end.now.ns host_end.now.name ≡ None }
+        requires inner_free { link_at self.old inner_end.now.ns inner_end.now.name ≡ None }
+        ensures ok { OnOk result (self.new ≡ record self.old {
+          links = self.old.links ++ host_end.now ∷ inner_end.now ∷ [];
+        }) }
+        ensures err { OnErr result (self.new ≡ self.old) }
+    {
+        let key = key_of(host_end)?;
+        let second = inner_end.copy()?;
+        self.links.push(alloc, host_end.copy()?)?;
+        if let Err(e) = self.links.push(alloc, second) {
+            self.links.take(&key);
+            return Err(e);
+        }
+        Ok(())
     }
 
     /// Both ends of a veth pair, or neither.
@@ -70,19 +102,13 @@ impl Tables {
         if !self.master_is_bridge_or_none(&host_end.master) {
             return Ok(Reply::NoLink);
         }
-        let key = key_of(host_end)?;
-        if let Some(tag) = self.link_tag(&key_of(inner_end)?)? {
+        if let Some(tag) = self.taken_by(inner_end)? {
             return Ok(Reply::Taken(tag));
         }
-        if let Some(tag) = self.link_tag(&key)? {
+        if let Some(tag) = self.taken_by(host_end)? {
             return Ok(Reply::Taken(tag));
         }
-        let second = inner_end.copy()?;
-        self.links.push(alloc, host_end.copy()?)?;
-        if let Err(e) = self.links.push(alloc, second) {
-            self.links.take(&key);
-            return Err(e);
-        }
+        self.push_ends(alloc, host_end, inner_end)?;
         Ok(Reply::Done)
     }
 
@@ -120,7 +146,7 @@ impl Tables {
         if !self.has_master(&link.master) {
             return Ok(Reply::NoLink);
         }
-        if let Some(tag) = self.link_tag(&key_of(link)?)? {
+        if let Some(tag) = self.taken_by(link)? {
             return Ok(Reply::Taken(tag));
         }
         self.links.push(alloc, link.copy()?)?;

@@ -1,25 +1,20 @@
-use Rattle.std.proofs.Common.{◌≡◌, ap, None, false, rules}
-use Rattle.std.specs.List.{list_any}
-use Rattle.kernel_types.specs.{Terms.is_at, declared.object.Host.Host}
-use Rattle.host_tables.proofs.Free.{link-alias_free, link-key_free, place-free}
+use Rattle.std.proofs.Common.{◌≡◌, ap, None, rules}
+use Rattle.kernel_types.specs.declared.object.Host.{Host}
+use Rattle.host_tables.proofs.Free.{link-alias_free, link-key_free, nothing-at, place-free}
 use Rattle.host_tables.proofs.tables.Tables.macvlan_add.Goals as goal
 
 pub push-requires-clause-key : goal.push-requires-clause-key
 push-requires-clause-key c =
     let none : c.in_ok-tag.field-0 ≡ None = search rules in
-    let free : list_any (is_at c.in_ok-copy.field-0.ns c.in_ok-copy.field-0.name) c.self.inside.links ≡ false =
-    place-free c.args.self.now c.in_ok-key_of.field-0 c.args.link.now c.in_ok-tag.field-0 c.in_ok-key_of.ensures
-    c.in_ok-tag.ensures none
-    c.self.inside.links c.in_ok-copy.field-0 (ap (λ (host : Host). host.links) c.self.view_is)
-    c.in_ok-copy.ensures in
-    link-key_free c.self.inside.links c.in_ok-copy.field-0 free
+    link-key_free c.self.inside.links c.in_ok-copy.field-0
+    (place-free c.args.self.now c.args.link.now c.self.inside.links c.in_ok-copy.field-0
+    (nothing-at c.args.self.now c.args.link.now c.in_ok-tag.field-0 c.in_ok-tag.ensures none)
+    (ap (λ (host : Host). host.links) c.self.view_is) c.in_ok-copy.ensures)
 
 pub push-requires-clause-alias : goal.push-requires-clause-alias
 push-requires-clause-alias c =
     let none : c.in_ok-tag.field-0 ≡ None = search rules in
-    let free : list_any (is_at c.in_ok-copy.field-0.ns c.in_ok-copy.field-0.name) c.self.inside.links ≡ false =
-    place-free c.args.self.now c.in_ok-key_of.field-0 c.args.link.now c.in_ok-tag.field-0 c.in_ok-key_of.ensures
-    c.in_ok-tag.ensures none
-    c.self.inside.links c.in_ok-copy.field-0 (ap (λ (host : Host). host.links) c.self.view_is)
-    c.in_ok-copy.ensures in
-    link-alias_free c.self.inside.links c.in_ok-copy.field-0 free
+    link-alias_free c.self.inside.links c.in_ok-copy.field-0
+    (place-free c.args.self.now c.args.link.now c.self.inside.links c.in_ok-copy.field-0
+    (nothing-at c.args.self.now c.args.link.now c.in_ok-tag.field-0 c.in_ok-tag.ensures none)
+    (ap (λ (host : Host). host.links) c.self.view_is) c.in_ok-copy.ensures)

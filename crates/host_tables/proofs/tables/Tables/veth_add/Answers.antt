@@ -1,60 +1,17 @@
-use Rattle.std.proofs.Common.{◌≡◌, ◌∙◌, ◌++◌, ◌∷◌, [], ap, None, true, false, rules}
-use Rattle.std.specs.List.{list_any}
-use Rattle.kernel_types.specs.{Apply.Calls.master_is_bridge_or_none, Terms.{has_named_ns, is_at, is_host_ns}}
-use Rattle.kernel_types.specs.declared.object.{Host.Host, Link.Link}
-use Rattle.host_tables.proofs.Free.{first-back, link-alias_free, link-key_free, nothing-at, place-free, second-free}
-use Rattle.host_tables.proofs.Free.{veth-added}
+use Rattle.std.proofs.Common.{◌≡◌, None, true, rules}
+use Rattle.kernel_types.specs.{Apply.Calls.master_is_bridge_or_none, Terms.has_named_ns}
+use Rattle.host_tables.proofs.Free.{nothing-at, veth-added}
 use Rattle.host_tables.proofs.tables.Tables.veth_add.Goals as goal
 
-pub push-requires-clause-key : goal.push-requires-clause-key
-push-requires-clause-key c =
+pub push_ends-requires-clause-host_free : goal.push_ends-requires-clause-host_free
+push_ends-requires-clause-host_free c =
     let none : c.in_ok-tag-2.field-0 ≡ None = search rules in
-    let free : list_any (is_at c.in_ok-copy.field-0.ns c.in_ok-copy.field-0.name) c.self.inside.links ≡ false =
-    place-free c.args.self.now c.in_ok-key.key c.args.host_end.now c.in_ok-tag-2.field-0 c.in_ok-key.ensures
-    c.in_ok-tag-2.ensures none
-    c.self.inside.links c.in_ok-copy.field-0 (ap (λ (host : Host). host.links) c.self.view_is)
-    c.in_ok-copy.ensures in
-    link-key_free c.self.inside.links c.in_ok-copy.field-0 free
+    nothing-at c.args.self.now c.args.host_end.now c.in_ok-tag-2.field-0 c.in_ok-tag-2.ensures none
 
-pub push-requires-clause-alias : goal.push-requires-clause-alias
-push-requires-clause-alias c =
-    let none : c.in_ok-tag-2.field-0 ≡ None = search rules in
-    let free : list_any (is_at c.in_ok-copy.field-0.ns c.in_ok-copy.field-0.name) c.self.inside.links ≡ false =
-    place-free c.args.self.now c.in_ok-key.key c.args.host_end.now c.in_ok-tag-2.field-0 c.in_ok-key.ensures
-    c.in_ok-tag-2.ensures none
-    c.self.inside.links c.in_ok-copy.field-0 (ap (λ (host : Host). host.links) c.self.view_is)
-    c.in_ok-copy.ensures in
-    link-alias_free c.self.inside.links c.in_ok-copy.field-0 free
-
-pub push-requires-2-clause-key : goal.push-requires-2-clause-key
-push-requires-2-clause-key c =
+pub push_ends-requires-clause-inner_free : goal.push_ends-requires-clause-inner_free
+push_ends-requires-clause-inner_free c =
     let none : c.in_ok-tag.field-0 ≡ None = search rules in
-    let second = c.in_ok-second.second in
-    let pushed : c.push.new.self ≡ c.self.inside.links ++ c.in_ok-copy.field-0 ∷ [] = search rules in
-    let free : list_any (is_at second.ns second.name) c.self.inside.links ≡ false =
-    place-free c.args.self.now c.in_ok-key_of.field-0 c.args.inner_end.now c.in_ok-tag.field-0 c.in_ok-key_of.ensures
-    c.in_ok-tag.ensures none
-    c.self.inside.links second (ap (λ (host : Host). host.links) c.self.view_is) c.in_ok-second.ensures in
-    link-key_free c.push.new.self second
-    (second-free c.self.inside.links c.push.new.self c.in_ok-copy.field-0 second pushed
-    (ap (λ (l : Link). is_host_ns l.ns) c.in_ok-copy.ensures ∙ c.requires.pair.outer)
-    (ap (λ (l : Link). is_host_ns l.ns) c.in_ok-second.ensures ∙ c.requires.pair.inner) free)
-
-pub returns-in-Err-clause-err : goal.returns-in-Err-clause-err
-returns-in-Err-clause-err c =
-    let none : c.in_ok-tag-2.field-0 ≡ None = search rules in
-    let pushed : c.push.new.self ≡ c.self.inside.links ++ c.in_ok-copy.field-0 ∷ [] = search rules in
-    let later : c.push-2.new.self ≡ c.push.new.self = search rules in
-    let free : list_any (is_at c.in_ok-copy.field-0.ns c.in_ok-copy.field-0.name) c.self.inside.links ≡ false =
-    place-free c.args.self.now c.in_ok-key.key c.args.host_end.now c.in_ok-tag-2.field-0 c.in_ok-key.ensures
-    c.in_ok-tag-2.ensures none
-    c.self.inside.links c.in_ok-copy.field-0 (ap (λ (host : Host). host.links) c.self.view_is)
-    c.in_ok-copy.ensures in
-    let back : c.take.new.self ≡ c.self.inside.links =
-    first-back c.in_ok-key.key c.self.inside.links c.push.new.self c.push-2.new.self c.take.new.self
-    c.in_ok-copy.field-0 c.args.host_end.now pushed later c.take.ensures.rest c.in_ok-key.ensures
-    c.in_ok-copy.ensures free in
-    rw back c.self.view_is
+    nothing-at c.args.self.now c.args.inner_end.now c.in_ok-tag.field-0 c.in_ok-tag.ensures none
 
 pub returns-clause-ok : goal.returns-clause-ok
 returns-clause-ok c =
@@ -62,12 +19,7 @@ returns-clause-ok c =
     let inner : c.in_ok-tag.field-0 ≡ None = search rules in
     let named : has_named_ns c.args.self.now c.args.inner_end.now.ns ≡ true = search rules in
     let over : master_is_bridge_or_none c.args.self.now c.args.host_end.now.master ≡ true = search rules in
-    let pushed : c.push.new.self ≡ c.self.inside.links ++ c.in_ok-copy.field-0 ∷ [] = search rules in
-    let later : c.push-2.new.self ≡ c.push.new.self ++ c.in_ok-second.second ∷ [] = search rules in
-    veth-added _ c.args.self.now c.push-2.new.self c.push.new.self c.in_ok-copy.field-0 c.in_ok-second.second
-    c.args.host_end.now c.args.inner_end.now
-    c.self.view_is pushed later c.in_ok-copy.ensures c.in_ok-second.ensures named over
-    (nothing-at c.args.self.now c.in_ok-key_of.field-0 c.args.inner_end.now c.in_ok-tag.field-0
-    c.in_ok-key_of.ensures c.in_ok-tag.ensures inner)
-    (nothing-at c.args.self.now c.in_ok-key.key c.args.host_end.now c.in_ok-tag-2.field-0 c.in_ok-key.ensures
-    c.in_ok-tag-2.ensures outer)
+    veth-added c.args.self.now c.push_ends.new.self c.args.host_end.now c.args.inner_end.now
+    c.in_ok-push_ends.ensures.ok named over
+    (nothing-at c.args.self.now c.args.inner_end.now c.in_ok-tag.field-0 c.in_ok-tag.ensures inner)
+    (nothing-at c.args.self.now c.args.host_end.now c.in_ok-tag-2.field-0 c.in_ok-tag-2.ensures outer)
