@@ -3,13 +3,12 @@ use Rattle.std.proofs.Common.{◌≡◌, ℕ, List, [], ◌∷◌, ◌++◌, ◌
 use Rattle.cni_addr.specs.declared.address.Addr.{Addr}
 use Rattle.cni_result.specs.declared.{cached.{Cached.Cached, PortMapping.PortMapping}, result.Interface.Interface}
 use Rattle.net_conf.specs.declared.list.NetList.{NetList}
-use Rattle.pod_file.specs.declared.command.Command.{Command}
 use Rattle.kernel_types.specs.{Terms.lease_of, declared.{call.Call.{Call, TheVariants.CachePut}, object.Att.Att}}
 use Rattle.plugin_base.specs.Share.{Share, no_objects, share_after_calls}
 use Rattle.plugin_base.proofs.CallLists.{share_after_calls-append}
-use Rattle.cni_errors.specs.{CommandFields.att_of, declared.answer.Question.Question}
-use Rattle.verb_questions.specs.Questions.{bridge_questions, share_questions, addresses_of_result, cached_share}
-use Rattle.plugin_chain.specs.Wanted.{calls_before, back_calls, cached_of}
+use Rattle.cni_errors.specs.declared.answer.Question.{Question}
+use Rattle.verb_questions.specs.Questions.{bridge_questions, share_questions}
+use Rattle.plugin_chain.specs.Wanted.{calls_before, back_calls, cached_of, wanted}
 use Rattle.plugin_chain.proofs.WantedShare.{makes-wanted}
 
 -- a cached result is none of the objects that a check asks for
@@ -19,22 +18,20 @@ asked-without_cached : (s : Share) (calls : List Call) (att : Att) (cached : Cac
 asked-without_cached s calls att cached =
     sym (ap share_questions (share_after_calls-append s calls (CachePut att cached ∷ [])))
 
-pub gathered : (list : NetList) (c : Command) (cached : Cached) (att : Att) (addrs leased given : List Addr)
-    (mappings : List PortMapping) (before after : List Call) (none made with_leases all : Share)
-    → att ≡ att_of c → addrs ≡ addresses_of_result cached.result
-    → none ≡ no_objects → before ≡ calls_before list.first att cached.netns → made ≡ share_after_calls none before
-    → leased ≡ addrs → with_leases ≡ record made { leases = map (lease_of att) leased }
-    → mappings ≡ cached.mappings → given ≡ addrs
-    → after ++ CachePut att (cached_of list att cached.netns mappings given) ∷ []
-    ≡ back_calls list att cached.netns mappings given
-    → all ≡ share_after_calls with_leases after → share_questions all ≡ share_questions (cached_share list c cached)
-gathered list c cached att addrs leased given mappings before after none made with_leases all is_att is_addrs is_none
-    is_before is_made is_leased is_leases is_mappings is_given is_after is_all =
+pub gathered : (list : NetList) (att : Att) (netns : List ℕ) (mappings said : List PortMapping) (addrs : List Addr)
+    (before after : List Call) (none made with_leases all : Share)
+    → none ≡ no_objects → before ≡ calls_before list.first att netns → made ≡ share_after_calls none before
+    → with_leases ≡ record made { leases = map (lease_of att) addrs } → mappings ≡ said
+    → after ++ CachePut att (cached_of list att netns mappings addrs) ∷ [] ≡ back_calls list att netns mappings addrs
+    → all ≡ share_after_calls with_leases after
+    → share_questions all ≡ share_questions (wanted list att netns said addrs)
+gathered list att netns mappings said addrs before after none made with_leases all is_none is_before is_made is_leases
+    is_mappings is_after is_all =
     ap share_questions is_all
-    ∙ asked-without_cached with_leases after att (cached_of list att cached.netns mappings given)
+    ∙ asked-without_cached with_leases after att (cached_of list att netns mappings addrs)
     ∙ ap (λ calls. share_questions (share_after_calls with_leases calls)) is_after
-    ∙ rw (is_leases, is_made, is_before, is_none, is_leased, is_given, is_mappings, is_addrs, is_att)
-    (ap share_questions (makes-wanted list (att_of c) cached.netns cached.mappings (addresses_of_result cached.result)))
+    ∙ rw (is_leases, is_made, is_before, is_none, is_mappings)
+    (ap share_questions (makes-wanted list att netns said addrs))
 
 -- the questions of the bridge and of what was gathered are all that a check asks
 pub checked : (bridge named : Option (List ℕ)) (listed interfaces : List Interface) (none front all : List Question)

@@ -14,7 +14,7 @@ use Rattle.cni_errors.specs.declared.answer.Question.{Question}
 use Rattle.plugin_chain.specs.Wanted.{bridge_of, master_of, sets_of, wanted}
 use Rattle.cni_errors.specs.declared.answer.Missed.TheVariants as missed
 
--- ---- CHECK: each object that the cached result names
+-- ---- CHECK: the bridge, and each object that the list makes with what the cached result says
 
 abbrev pub share_questions : Share → List Question
 share_questions s =
@@ -40,7 +40,7 @@ bridge_questions (Some bridge) interfaces = first_interface interfaces
 abbrev pub addresses_of_result : AddResult → List Addr
 addresses_of_result r = map (λ ip. ip.address.addr) r.ips
 
--- what the cached result says that there is
+-- what the list makes for the attachment with the namespace, the mappings and the addresses of the cached result
 abbrev pub cached_share : NetList → Command → Cached → Share
 cached_share list c cached = wanted list (att_of c) cached.netns cached.mappings (addresses_of_result cached.result)
 

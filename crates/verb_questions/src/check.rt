@@ -1,9 +1,11 @@
-//! What a CHECK asks: the bridge, and each object that the cached result says that there is.
+//! What a CHECK asks: the bridge, and each object that the list makes with what the cached result says.
 
 ghost use Rattle.std.specs.Prelude.{◌≡◌, ◌++◌, map, IfOk, OnOk};
 ghost use Rattle.std.specs.Option.{option_copied};
 ghost use Rattle.kernel_types.specs.declared.call.Call.TheVariants as calls;
 ghost use Rattle.cni_errors.specs.ObjectQuestions.{rule_questions};
+ghost use Rattle.plugin_base.specs.Share.{no_objects};
+ghost use Rattle.plugin_chain.specs.Wanted.{wanted};
 ghost use Rattle.verb_questions.specs.Questions as asked;
 
 use cni_addr::{Addr, Duplicate, Items, Mac, NoMemory, RefCounted, Text};
@@ -11,7 +13,7 @@ use cni_errors::fields::named_att_of;
 use cni_errors::object_questions::{Checked, rule_question};
 use cni_errors::{Cause, Missed, Question};
 use cni_result::{AddResult, Cached, Interface};
-use kernel_types::{Call, Probe, Rule};
+use kernel_types::{Call, NamedAtt, Probe, Rule};
 use net_conf::NetList;
 use plugin_chain::plugins::{bridge_of, calls_before};
 use plugin_chain::share::{Objects, no_objects};
@@ -132,6 +134,28 @@ pub fn addresses_of_result(alloc: Global, added: &AddResult) -> Result<Vec<Addr>
     )
 }
 
+/// Gathers what the list's plugins want for an attachment with these addresses, but for its cached result, in a share
+/// that has nothing yet.
+fn gather(
+    share: &mut Objects,
+    alloc: Global,
+    list: &NetList,
+    att: &NamedAtt,
+    cached: &Cached,
+    addrs: &[Addr],
+) -> Result<(), NoMemory>
+    requires { share.old ≡ no_objects }
+    ensures { OnOk result (asked.share_questions share.new
+        ≡ asked.share_questions (wanted list.now att.now cached.now.netns cached.now.mappings addrs.now)) }
+{
+    share.take_calls(calls_before(alloc, &list.first, att, &cached.netns)?)?;
+    share.take_leases(alloc, att.att(), addrs)?;
+    let mappings = cached.mappings.as_slice();
+    let made = plugin_calls(alloc, list, att, &cached.netns, mappings, addrs)?;
+    share.take_calls(made.calls)?;
+    Ok(())
+}
+
 /// What a check asks of what the cached result says that there is: all of it but the result itself, which was just
 /// read.
 fn cached_share(
@@ -147,17 +171,13 @@ fn cached_share(
     let att = named_att_of(alloc, command)?;
     let addrs = addresses_of_result(alloc, &cached.result)?;
     let mut share = no_objects(alloc);
-    let before = calls_before(alloc, &list.first, &att, &cached.netns)?;
-    share.take_calls(before)?;
-    share.take_leases(alloc, att.att(), addrs.as_slice())?;
-    let mappings = cached.mappings.as_slice();
-    let made = plugin_calls(alloc, list, &att, &cached.netns, mappings, addrs.as_slice())?;
-    share.take_calls(made.calls)?;
+    gather(&mut share, alloc, list, &att, cached, addrs.as_slice())?;
     Ok(share)
 }
 
 /// The questions of a CHECK: the bridge that the cached result names, then each object that the attachment was to
-/// have: links, addresses, routes, rules, settings, leases. Linear in the calls of the ADD and the links.
+/// have: links, addresses, routes, rules, settings, leases. Linear in the calls of the ADD, where few of them set a
+/// link, and in what the cached result lists.
 pub fn check_questions(
     alloc: Global,
     list: &NetList,
