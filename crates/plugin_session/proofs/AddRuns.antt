@@ -1,16 +1,16 @@
 -- From an ADD of a plugin to what is said of its task.
 use Rattle.plugin_session.proofs.Names.{◌≡◌, ℕ, ◌+◌, Bool, true, false, cond, List, [], ◌∷◌, Option, Some, None, refl}
 use Rattle.plugin_session.proofs.Names.{sym, ap, subst, ◌∙◌, Result, Ok, Err, IfOk, none-some, same_Some, then_some}
-use Rattle.plugin_session.proofs.Names.{MatchOption, IsErr, Addr, NoMemory, Cached, Call, Begin, Reply, Done, Att, Host}
-use Rattle.plugin_session.proofs.Names.{Command, OwnCalls, Ask, att_of, Ending, Added, Yes, Refused, State, AtBegin}
-use Rattle.plugin_session.proofs.Names.{finish_of, leases_in, next_call, Made, replies}
+use Rattle.plugin_session.proofs.Names.{is_some, length, MatchOption, IsErr, Addr, NoMemory, Cached, Call, Begin, Reply}
+use Rattle.plugin_session.proofs.Names.{Done, Att, Host, Command, OwnCalls, Ask, att_of, Ending, Added, Yes, Refused}
+use Rattle.plugin_session.proofs.Names.{State, AtBegin, finish_of, leases_in, next_call, Made, replies}
 use Rattle.session_verbs.specs.{Adds.{Adds, Fills, IsAnswer, IsCourseOf, IsUnbegun}, Journal.{JournalView, Went}}
 use Rattle.session_verbs.specs.{Journal.may_go, declared.{begun.Begun.Begun, part.PartEnd.PartEnd}}
 use Rattle.plugin_session.specs.Runs.{IsAnswerToAdd, IsTurnedTo, RunsAdd, answered, row_if}
 use Rattle.session_laws.specs.{Course.{Course, IsRunFrom, advance, at_begin, begins, state_from, IsOver}, Holds.Suite}
-use Rattle.session_laws.specs.{Holds.{has_begun, is_begun}, Ran.{Handed, IsAnswerAt, IsAnswered, IsNewRow, ask_for}}
-use Rattle.session_laws.specs.{Ran.{command_for, course_for, leased_after, row_after}, Tasks.{course_by, forward_of}}
-use Rattle.session_laws.specs.{Tasks.kinds_back, Views.{PluginView, plugin_named}}
+use Rattle.session_laws.specs.{Holds.{has_begun, is_begun}, Pools.sets_by, Ran.{Handed, IsAnswerAt, IsAnswered}}
+use Rattle.session_laws.specs.Ran.{IsNewRow, ask_for, command_for, course_for, leased_after, row_after}
+use Rattle.session_laws.specs.{Tasks.{course_by, forward_of, kinds_back}, Views.{PluginView, plugin_named}}
 use Rattle.session_laws.specs.declared.{answer.TaskAnswer.TaskAnswer, row.Row.Row}
 use Rattle.session_laws.specs.declared.answer.TaskAnswer.TheVariants as answers
 use Rattle.session_verbs.specs.declared.part.PartEnd.TheVariants as parts
@@ -174,10 +174,11 @@ add-stopped co c old new b (parts.Over ending) added is = cc
 
 -- ---- its row
 
-match-then : {X : Type 0} (o : Option X) (P : Type 0) (Q R : X → Type 0) → ((x : X) → Q x → R x) → MatchOption o P Q
-    → MatchOption o P R
+match-then : {X : Type 0} (o : Option X) (P : Type 0) (Q R : X → Type 0)
+    → ((x : X) → is_some o ≡ true → Q x → R x)
+    → MatchOption o P Q → MatchOption o P R
 match-then None P Q R f h = h
-match-then (Some x) P Q R f h = f x h
+match-then (Some x) P Q R f h = f x refl h
 
 -- the ask of the task is that of the attachment with what it was leased
 ask-same : (h : Handed) (es : List Made) (att : Att) (given : List Addr) → att ≡ att_of (command_for h)
@@ -187,9 +188,10 @@ ask-same h es att given atts leases =
     ∙ ap (λ (x : List Addr). adds.ask_for h.conf h.task (att_of (command_for h)) x) leases
 
 answered-same : (suite : Suite) (h : Handed) (es : List Made) (row : Row) (name : List ℕ) (ask : Ask) (cached : Cached)
-    → name ≡ h.task.kind_name → ask ≡ ask_for h es
+    → name ≡ h.task.kind_name → ask ≡ ask_for h es → length (leases_in (replies es)) ≡ length (sets_by h.conf.ipam)
     → IsAnswer (suite.may_call name) (suite.may_result name) ask row cached → IsAnswered suite h es row cached
-answered-same suite h es row name ask cached named asked is = record {
+answered-same suite h es row name ask cached named asked leased is = record {
+  leased = leased;
   calls =
       subst (λ (n : List ℕ). suite.may_call n (ask_for h es) row.calls) named
       (subst (λ (a : Ask). suite.may_call name a row.calls) asked is.calls);
@@ -206,9 +208,10 @@ pub new-row : (suite : Suite) (h : Handed) (plugin : PluginView) (sets : ℕ) (b
     → IsUnbegun h.number (att_of (command_for h)) plugin.kinds sets before
     → Fills (suite.may_call plugin.name) (suite.may_result plugin.name)
     (adds.ask_for h.conf h.task before.row.att b.given.items) before.row b.row
+    → (is_some b.row.cached ≡ true → length b.given.items ≡ length (sets_by h.conf.ipam))
     → (es : List Made) → (b.begun ≡ true → b.given.items ≡ leases_in (replies es)) → b.begun ≡ true
     → IsNewRow suite h es b.row
-new-row suite h plugin sets before b name named unbegun fills es given begun = record {
+new-row suite h plugin sets before b name named unbegun fills asked es given begun = record {
   task = fills.task ∙ unbegun.task;
   att = fills.att ∙ unbegun.att;
   plugin = plugin;
@@ -218,8 +221,9 @@ new-row suite h plugin sets before b name named unbegun fills es given begun = r
       match-then b.row.cached (b.row.calls ≡ [])
       (IsAnswer (suite.may_call plugin.name) (suite.may_result plugin.name)
       (adds.ask_for h.conf h.task before.row.att b.given.items) b.row)
-      (IsAnswered suite h es b.row) (λ cached.
+      (IsAnswered suite h es b.row) (λ cached some.
       answered-same suite h es b.row plugin.name _ cached name
-      (ask-same h es before.row.att b.given.items unbegun.att (given begun)))
+      (ask-same h es before.row.att b.given.items unbegun.att (given begun))
+      (sym (ap length (given begun)) ∙ asked some))
       fills.filled;
 }

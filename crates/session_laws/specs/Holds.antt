@@ -17,9 +17,10 @@ use Rattle.cni_errors.specs.declared.error_kind.ErrorKind.TheVariants.{InvalidLi
 use Rattle.cni_verbs.specs.{Replies.is_granted, Script.{IsOpen, cause_of}}
 use Rattle.gc_sweep.specs.{Keep.keep, Sweep.fault_numbers, Trace.Made}
 use Rattle.session_laws.specs.{Course.{IsRunFrom, begins}, Views.{PluginView, SessionView, number, own, start, finish}}
-use Rattle.session_laws.specs.Views.{row_of, part_by, att_by, command_by, ask_by, course, state, plugin_named}
-use Rattle.session_laws.specs.declared.answer.TaskAnswer.{TaskAnswer, TheVariants.{Added, Yes, Refused, OutOfMemory}}
-use Rattle.session_laws.specs.declared.{answer.TaskAnswer.TheVariants.Stopped, entry.Entry.Entry, row.Row.Row}
+use Rattle.session_laws.specs.Views.{row_of, part_by, att_by, command_by, ask_by, course, HasLeaseOfEachSet, state}
+use Rattle.session_laws.specs.{Views.plugin_named, declared.answer.TaskAnswer.{TaskAnswer, TheVariants.{Added, Yes}}}
+use Rattle.session_laws.specs.declared.answer.TaskAnswer.TheVariants.{Refused, OutOfMemory, Stopped}
+use Rattle.session_laws.specs.declared.{entry.Entry.Entry, row.Row.Row}
 use Rattle.session_file.specs.declared.session.Task.{Task}
 use Rattle.pod_file.specs.declared.command.Verb.TheVariants as verbs
 use Rattle.cni_errors.specs.declared.answer.Cause.TheVariants as causes
@@ -98,8 +99,9 @@ abbrev pub has_begun : List Made → Bool
 has_begun [] = false
 has_begun (e ∷ es) = is_begun e.call e.reply
 
--- what the plugin answered
+-- what the plugin answered, after an address of each set was leased
 pub record IsFilled (suite : Suite) (s : SessionView) (t : Task) (row : Row) (cached : Cached) : Type 0 where
+  pub leased : HasLeaseOfEachSet s row
   pub calls : suite.may_call t.kind_name (ask_by s t) row.calls
   pub own : OwnCalls (ask_by s t) row.kinds row.calls
   pub netns : cached.netns ≡ t.netns

@@ -52,8 +52,9 @@ abbrev pub course_for : Handed → List Made → Option Row → Course
 course_for h es more =
     course_by h.conf.network h.conf.ipam h.task (row_after h more) (leased_after h es more)
 
--- what the plugin answered
+-- what the plugin answered, after an address of each set was leased
 pub record IsAnswered (suite : Suite) (h : Handed) (es : List Made) (row : Row) (cached : Cached) : Type 0 where
+  pub leased : length (leases_in (replies es)) ≡ length (sets_by h.conf.ipam)
   pub calls : suite.may_call h.task.kind_name (ask_for h es) row.calls
   pub own : OwnCalls (ask_for h es) row.kinds row.calls
   pub netns : cached.netns ≡ h.task.netns

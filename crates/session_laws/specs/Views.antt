@@ -1,6 +1,6 @@
 -- What contracts see of a session, and what is said of its last task.
-use Rattle.std.specs.{Option.option_map_or, Prelude.{ℕ, ◌+◌, ◌==◌, nat_le, nat_lt, List, [], ◌∷◌, zero, suc, slice_get}}
-use Rattle.std.specs.{Prelude.{length, map, filter, find, reverse, take, Option, Some, None}, Str.bytes_eq}
+use Rattle.std.specs.{Option.option_map_or, Prelude.{◌≡◌, ℕ, ◌+◌, ◌==◌, nat_le, nat_lt, List, [], ◌∷◌, zero, suc}}
+use Rattle.std.specs.{Prelude.{slice_get, length, map, filter, find, reverse, take, Option, Some, None}, Str.bytes_eq}
 use Rattle.cni_addr.specs.declared.address.Addr.{Addr}
 use Rattle.cni_result.specs.declared.cached.Cached.{Cached}
 use Rattle.host_local.specs.Leases.{given_of}
@@ -75,6 +75,10 @@ row_of s att = find (λ r. att_eq r.att att) (reverse s.rows)
 -- what the row's task was leased
 abbrev pub leased_to : SessionView → Row → List Addr
 leased_to s row = leases_in (replies (entries_of row.task s.history))
+
+-- an address of each set was leased to the row's task
+abbrev pub HasLeaseOfEachSet : SessionView → Row → Type 0
+HasLeaseOfEachSet s row = length (leased_to s row) ≡ length (sets_by s.conf.ipam)
 
 abbrev pub leased_by : SessionView → Option Row → List Addr
 leased_by s row = option_map_or (leased_to s) row []

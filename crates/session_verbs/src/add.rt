@@ -65,6 +65,7 @@ fn make_all<K: Kernel + Drop, P: Promise>(
         [] given.new.items result }
     ensures row { Fills (P.may_call plugin.now.name) (P.may_result plugin.now.name)
         (ask_for conf.now task.now row.old.att given.new.items) row.old row.new }
+    ensures asked { is_some row.new.cached ≡ true → length given.new.items ≡ length (sets_by conf.now.ipam) }
     ensures filled { result ≡ Ok StepEnd.Granted → is_some row.new.cached ≡ true }
     ensures ready { IsReady (pools_of conf.now) journal.new.host }
 {
@@ -123,6 +124,7 @@ fn add_begun<K: Kernel + Drop, P: Promise>(
         → GoesOn co c journal.old journal.new (leasing co (sets_by conf.now.ipam) []) given.new.items result }
     ensures row { Fills (P.may_call plugin.now.name) (P.may_result plugin.now.name)
         (ask_for conf.now task.now row.old.att given.new.items) row.old row.new }
+    ensures asked { is_some row.new.cached ≡ true → length given.new.items ≡ length (sets_by conf.now.ipam) }
     ensures filled { result ≡ Ok (PartEnd.Over Ending.Added) → is_some row.new.cached ≡ true }
     ensures ready { IsReady (pools_of conf.now) journal.new.host }
 {
@@ -158,6 +160,9 @@ pub fn add<K: Kernel + Drop, P: Promise>(
         → IsFor begun.old.row.att task.now.netns c → Adds co c journal.old journal.new begun.new result }
     ensures row { Fills (P.may_call plugin.now.name) (P.may_result plugin.now.name)
         (ask_for conf.now task.now begun.old.row.att begun.new.given.items) begun.old.row begun.new.row }
+    ensures unbegun { begun.new.begun ≡ false → begun.new ≡ begun.old }
+    ensures asked { is_some begun.new.row.cached ≡ true
+        → length begun.new.given.items ≡ length (sets_by conf.now.ipam) }
     ensures filled { result ≡ Ok (PartEnd.Over Ending.Added) → is_some begun.new.row.cached ≡ true }
     ensures ready { IsReady (pools_of conf.now) journal.new.host }
 {

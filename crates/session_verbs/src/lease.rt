@@ -109,6 +109,8 @@ pub(crate) fn lease_by<K: Kernel + Drop>(
     requires room { length (sets_by (option_copied ipam)) ≤ vec_capacity given.old }
     ensures ends { (co : Course) (c : Command) → att_of c ≡ att.now → Steps co c journal.old journal.new
         (leasing co (sets_by (option_copied ipam.entry)) []) (leasing co [] given.new.items) [] given.new.items result }
+    ensures whole { result ≡ Ok StepEnd.Granted
+        → length given.new.items ≡ length (sets_by (option_copied ipam.entry)) }
     ensures ready { IsReady (record { network = att.now.network; sets = sets_by (option_copied ipam.entry) })
         journal.new.host }
 {

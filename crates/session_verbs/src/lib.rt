@@ -9,7 +9,7 @@
 //! refused, each time along the states of the task's course (`EndsAs` in `specs/Journal.antt`). The machine is that of
 //! the verbs, `specs/Script.antt` of the crate `cni_verbs`, with what a row and a plugin give in place of a network
 //! list. Of an ADD it says besides what was made and is to be kept, however it ends (`Adds` and `Fills` in
-//! `specs/Adds.antt`).
+//! `specs/Adds.antt`), and that its plugin is asked only after an address of each range set was leased.
 //!
 //! ```text
 //! let mut journal = Journal::new(alloc, kernel)?;

@@ -1,16 +1,18 @@
 -- The session's law holds after each task: its row, what a success made, and all other fields.
 use Rattle.session_laws.proofs.Names.{◌≡◌, ℕ, Bool, List, [], ◌∷◌, ◌++◌, Option, Some, None, refl, sym, ap, subst, ◌∙◌}
 use Rattle.session_laws.proofs.Names.{arith, slice_get, length_push, same_Some, MatchOption, MatchBool, Cached}
-use Rattle.session_laws.proofs.Names.{AddResult, Att, share_of, AtBegin, Made, replies, Task}
+use Rattle.session_laws.proofs.Names.{AddResult, Att, share_of, AtBegin, Made, replies, Task, leases_in}
 use Rattle.plugin_registry.specs.Own.{OwnCalls}
 use Rattle.std.proofs.{Common.◌-◌, lemmas.Option.MatchOption-at_some}
 use Rattle.cni_errors.specs.declared.answer.Ending.TheVariants as endings
 use Rattle.session_laws.specs.{Course.{begins, state_from, IsOver}, Holds.{HasAdded, HasRow, HoldsOf, IsFilled}}
 use Rattle.session_laws.specs.{Holds.{IsRowBy, RefusedAt, Suite, TaskCause, early, has_begun}, Laws.IsUndone}
-use Rattle.session_laws.specs.Ran.{Handed, IsAnswerAt, IsAnswered, IsNewRow, Ran, ask_for, course_for, early_for}
-use Rattle.session_laws.specs.Steps.{IsViewKept, StepsHold, StepsHoldOfTheLast, after_task, handed, if_any, seen}
-use Rattle.session_laws.specs.{Steps.seen_for, Views.{SessionView, ask_by, att_by, finish, number, own}}
-use Rattle.session_laws.specs.declared.{answer.TaskAnswer.TaskAnswer, row.Row.Row}
+use Rattle.session_laws.specs.{Pools.sets_by, Ran.{Handed, IsAnswerAt, IsAnswered, IsNewRow, Ran, ask_for, course_for}}
+use Rattle.session_laws.specs.{Ran.early_for, Steps.{IsViewKept, StepsHold, StepsHoldOfTheLast, after_task, handed}}
+use Rattle.session_laws.specs.{Steps.{if_any, seen, seen_for}, Views.{SessionView, ask_by, att_by, entries_of, finish}}
+use Rattle.session_laws.specs.{Views.{leased_to, number, own}, declared.{answer.TaskAnswer.TaskAnswer, row.Row.Row}}
+use Rattle.session_file.specs.declared.session.SessionConf.{SessionConf}
+use Rattle.std.specs.Prelude.{length}
 use Rattle.session_laws.specs.declared.answer.TaskAnswer.TheVariants as answers
 use Rattle.session_laws.proofs.{Courses.Added.added_is_whole, Steps.{StepAnswers.early-added, StepEnds.ended-found}}
 use Rattle.session_laws.proofs.Steps.StepFields.{match-map, IsRun, SeenRuns, SeenCauses, SeenRefused, SeenDeletes}
@@ -25,11 +27,12 @@ use Rattle.kernel_types.proofs.ListLemmas.{slice_get-middle}
 
 row-filled : (suite : Suite) (old : SessionView) (t : Task) (es : List Made) (row : Row) (new : SessionView)
     (cached : Option Cached)
-    → ask_by new t ≡ ask_for (handed old t) es
+    → new.conf ≡ old.conf → leased_to new row ≡ leases_in (replies es) → ask_by new t ≡ ask_for (handed old t) es
     → MatchOption cached (row.calls ≡ []) (IsAnswered suite (handed old t) es row)
     → MatchOption cached (row.calls ≡ []) (IsFilled suite new t row)
-row-filled suite old t es row new None ask is = is
-row-filled suite old t es row new (Some cached) ask is = record {
+row-filled suite old t es row new None conf leased ask is = is
+row-filled suite old t es row new (Some cached) conf leased ask is = record {
+  leased = ap length leased ∙ is.leased ∙ ap (λ (c : SessionConf). length (sets_by c.ipam)) (sym conf);
   calls = subst (λ k. suite.may_call t.kind_name k row.calls) (sym ask) is.calls;
   own = subst (λ k. OwnCalls k row.kinds row.calls) (sym ask) is.own;
   netns = is.netns;
@@ -46,7 +49,12 @@ row-by suite old t es row a v is = record {
   plugin = is.plugin;
   named = is.named;
   kinds = is.kinds;
-  filled = row-filled suite old t es row (after_task old es (Some row) a) row.cached (ap (λ s. s.ask) v) is.filled;
+  filled =
+      row-filled suite old t es row (after_task old es (Some row) a) row.cached refl
+      (ap (λ n. leases_in (replies (entries_of n (after_task old es (Some row) a).history)))
+      (is.task ∙ sym (ap (λ s. s.number) v))
+      ∙ ap (λ made. leases_in (replies made)) (ap (λ s. s.own) v))
+      (ap (λ s. s.ask) v) is.filled;
 }
 
 -- a task made these rows, by whether its Begin was granted

@@ -19,6 +19,7 @@ use Rattle.session_verbs.specs.declared.step.StepEnd.TheVariants as steps
 use Rattle.session_verbs.proofs.Adds.{AddCalls.MakesRow, AddSteps.{IsShort, both-leased, same-went, steps-short}}
 use Rattle.session_verbs.proofs.{Adds.AddSteps.{steps-then, steps-unmade}, Going.{went-one, went-then}}
 use Rattle.session_laws.proofs.Courses.QuietRuns.{quiet-run, refused-back}
+use Rattle.std.proofs.Common.{is_some}
 
 -- ---- what the plugin is asked
 
@@ -51,6 +52,11 @@ fills-none may_call may_result ask old new same calls cached =
     let P : Row → Type 0 = λ r. Fills may_call may_result ask old r in
     let Q : Option Cached → Type 0 = λ o. MatchOption o (old.calls ≡ []) (IsAnswer may_call may_result ask old) in
     subst P (sym same) (record { task = refl; att = refl; kinds = refl; filled = subst Q (sym cached) calls })
+
+-- a row that isn't filled says nothing of what was leased
+pub unfilled : {X : Type 0} (o : Option X) (P : Type 0) → o ≡ None → is_some o ≡ true → P
+unfilled None P none filled = cc
+unfilled (Some x) P none filled = cc
 
 -- ---- the leases, and then the calls
 

@@ -28,7 +28,7 @@ returns-in_err-end-clause-ran g c = λ plugins named.
     add-cut suite h c.args.journal.now c.add.new.journal b _ c.from_residual.result c.requires.turned
     (ap begins c.requires.verb)
     (new-row suite h view (length (sets_by h.conf.ipam)) c.args.begun.now b c.requires.name named unbegun
-    c.add.ensures.row)
+    c.add.ensures.row c.add.ensures.asked)
     (c.in_err-end.ensures.ends (course_left h b) (command_for h) (left-course h b)
     (for-it h p.kinds c.args.begun.now unbegun))
     c.from_residual.ensures.0
@@ -55,7 +55,7 @@ returns-clause-ran g c = λ plugins named.
     add-ends suite h c.args.journal.now c.add.new.journal b c.in_ok-end.end c.answer_add.result c.requires.turned
     (ap begins c.requires.verb)
     (new-row suite h view (length (sets_by h.conf.ipam)) c.args.begun.now b c.requires.name named unbegun
-    c.add.ensures.row)
+    c.add.ensures.row c.add.ensures.asked)
     (c.in_ok-end.ensures.ends (course_left h b) (command_for h) (left-course h b)
     (for-it h p.kinds c.args.begun.now unbegun))
     (subst (λ x. IfOk c.answer_add.result (IsAnswerToAdd x c.add.new.journal b.row c.in_ok-end.end))
