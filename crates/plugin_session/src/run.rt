@@ -18,8 +18,8 @@ use crate::answer::answer_to;
 use crate::run_add::run_add;
 use crate::words::command_of;
 use cni_addr::{Addr, Items, NoMemory};
+use cni_errors::Ending;
 use cni_errors::fields::{att_of, del_refusal};
-use cni_errors::{Cause, Ending};
 use cni_result::AddResult;
 use kernel_model::Kernel;
 use kernel_types::Call;
@@ -37,6 +37,7 @@ use std::alloc::Global;
 /// row's task was leased.
 #[derive(Drop)]
 pub(crate) struct Hand<'a> {
+    pub alloc: Global,
     pub conf: &'a SessionConf,
     /// The task's number, from 1.
     pub number: u32,
@@ -84,6 +85,7 @@ fn ran_or(run: Result<TaskRun, NoMemory>) -> TaskRun
 
 /// The answer to a part that ends a task; an ADD's result is no part of it.
 pub(crate) fn answer_end<K: Kernel + Drop>(
+    alloc: Global,
     journal: &Journal<K>,
     command: &Command,
     end: &PartEnd,
@@ -92,7 +94,7 @@ pub(crate) fn answer_end<K: Kernel + Drop>(
     ensures { IfOk result (IsAnswerToEnd command.now journal.now end.now) }
 {
     match end {
-        PartEnd::Over(ending) => answer_to(journal.alloc(), command, ending),
+        PartEnd::Over(ending) => answer_to(alloc, command, ending),
         PartEnd::Stopped => Ok(TaskAnswer::Stopped {
             calls: journal.stopped_after(),
         }),
@@ -113,14 +115,14 @@ fn run_del<K: Kernel + Drop>(
         (runs.answered result) }
     ensures ready { IsReady (pools_of hand.now.conf.now) journal.new.host }
 {
-    let alloc = journal.alloc();
+    let alloc = hand.alloc;
     if let Some(cause) = del_refusal(command) {
         return answer_to(alloc, command, &Ending::Refused(cause));
     }
     let att = att_of(command)?;
     let kinds = kinds_back(alloc, hand.conf.ipam.as_ref(), hand.row)?;
     let end = take_back(journal, &att, kinds.as_slice(), Ending::Yes)?;
-    answer_end(journal, command, &end)
+    answer_end(alloc, journal, command, &end)
 }
 
 /// A CHECK, by the row of its attachment and what that was leased.
@@ -137,13 +139,13 @@ fn run_check<K: Kernel + Drop>(
         (runs.answered result) }
     ensures ready { IsReady (pools_of hand.now.conf.now) journal.new.host }
 {
-    let alloc = journal.alloc();
+    let alloc = hand.alloc;
     if let Some(cause) = del_refusal(command) {
         return answer_to(alloc, command, &Ending::Refused(cause));
     }
     let att = att_of(command)?;
     let end = check(journal, &att, hand.row, hand.leased)?;
-    answer_end(journal, command, &end)
+    answer_end(alloc, journal, command, &end)
 }
 
 /// A GC, which keeps the attachments that its task names.
@@ -160,7 +162,7 @@ fn run_gc<K: Kernel + Drop>(
     ensures ready { IsReady (pools_of hand.now.conf.now) journal.new.host }
 {
     let end = collect(journal, &hand.conf.network, hand.task.valid.as_slice())?;
-    answer_end(journal, command, &end)
+    answer_end(hand.alloc, journal, command, &end)
 }
 
 /// Runs a task that the journal is turned to.
@@ -191,18 +193,18 @@ fn run_by_verb<K: Kernel + Drop, P: Promise>(
         Verb::Add => run_add(journal, hand, command, registry),
         Verb::Del => {
             let answer = run_del(journal, hand, command);
-            journal.keeps_its_stop();
+            let _made = journal.made();
             Ok(without_row(answer))
         }
         Verb::Check => {
             let answer = run_check(journal, hand, command);
-            journal.keeps_its_stop();
+            let _made = journal.made();
             Ok(without_row(answer))
         }
         // A session's configuration has no verb besides, but a GC.
         _ => {
             let answer = run_gc(journal, hand, command);
-            journal.keeps_its_stop();
+            let _made = journal.made();
             Ok(without_row(answer))
         }
     }
@@ -220,7 +222,7 @@ fn begin_task<K: Kernel + Drop>(
 {
     let task = hand.task;
     journal.turn_to(hand.number, task.stop, task.faults.as_slice())?;
-    command_of(journal.alloc(), &hand.conf.network, hand.number, task)
+    command_of(hand.alloc, &hand.conf.network, hand.number, task)
 }
 
 /// Runs the task of this number, from 1, to its answer. Want of memory is an answer too, and what was made then is

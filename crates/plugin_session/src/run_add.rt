@@ -51,6 +51,7 @@ fn added(alloc: Global, row: &Row) -> Result<TaskAnswer, NoMemory>
 
 /// The answer to an ADD that left this row.
 fn answer_add<K: Kernel + Drop>(
+    alloc: Global,
     journal: &Journal<K>,
     command: &Command,
     end: &PartEnd,
@@ -61,8 +62,8 @@ fn answer_add<K: Kernel + Drop>(
     ensures { IfOk result (IsAnswerToAdd command.now journal.now row.now end.now) }
 {
     match end {
-        PartEnd::Over(Ending::Added) => added(journal.alloc(), row),
-        _ => answer_end(journal, command, end),
+        PartEnd::Over(Ending::Added) => added(alloc, row),
+        _ => answer_end(alloc, journal, command, end),
     }
 }
 
@@ -97,7 +98,7 @@ fn add_answer<K: Kernel + Drop, P: Promise>(
     ensures ready { IsReady (pools_of hand.now.conf.now) journal.new.host }
 {
     let end = add(journal, plugin, hand.conf, hand.task, begun)?;
-    answer_add(journal, command, &end, &begun.row)
+    answer_add(hand.alloc, journal, command, &end, &begun.row)
 }
 
 /// What an ADD made, where its Begin was granted.
@@ -170,7 +171,7 @@ fn run_named<K: Kernel + Drop, P: Promise>(
         (handed_of hand.now) journal.old journal.new (ran_or result) }
     ensures ready { IsReady (pools_of hand.now.conf.now) journal.new.host }
 {
-    let alloc = journal.alloc();
+    let alloc = hand.alloc;
     if let Some(need) = first_unmet(plugin.needs.as_slice(), hand.task.options.as_slice()) {
         return Ok(refused(wrong_error(alloc, need.key.as_str())?));
     }
@@ -183,7 +184,7 @@ fn run_named<K: Kernel + Drop, P: Promise>(
         count_of_sets(hand.conf),
     )?;
     let run = run_begun(journal, hand, command, plugin, begun);
-    journal.keeps_its_stop();
+    let _made = journal.made();
     Ok(run)
 }
 
@@ -232,7 +233,7 @@ pub(crate) fn run_add<K: Kernel + Drop, P: Promise>(
     }) (handed_of hand.now) journal.old journal.new (ran_or result) }
     ensures ready { IsReady (pools_of hand.now.conf.now) journal.new.host }
 {
-    let alloc = journal.alloc();
+    let alloc = hand.alloc;
     if let Some(cause) = add_refusal(alloc, command)? {
         let answer = answer_to(alloc, command, &Ending::Refused(cause));
         return Ok(without_row(answer));

@@ -26,6 +26,7 @@ use std::marker::Model;
 /// A network, the kernel that it is on, and all that its tasks did so far.
 #[derive(Drop)]
 pub struct Session<K: Kernel> {
+    alloc: Global,
     conf: SessionConf,
     journal: Journal<K>,
     rows: Vec<Row>,
@@ -73,6 +74,7 @@ impl<K: Kernel + Drop> Session<K> {
         let count = tasks.len();
         let numbered = number_attachments(alloc, tasks)?;
         Ok(Session {
+            alloc,
             journal: Journal::new(alloc, kernel)?,
             rows: Vec::with_capacity(alloc, count)?,
             leased: Vec::with_capacity(alloc, count)?,
@@ -105,6 +107,7 @@ impl<K: Kernel + Drop> Session<K> {
         let place = self.last_rows[attachment];
         let conf = &self.conf;
         let hand = Hand {
+            alloc: self.alloc,
             conf,
             number: number as u32 + 1,
             task: &conf.tasks.as_slice()[number],
@@ -158,7 +161,7 @@ impl<K: Kernel + Drop> Session<K> {
     }
 
     /// The answer of the task of this number, from 1, where it has one.
-    pub fn answer(&self, task: u32) -> Option<&TaskAnswer>
+    pub fn answer(&self, task: u64) -> Option<&TaskAnswer>
         ensures { option_copied result ≡ answer_of self.now task }
     {
         if task == 0 {

@@ -1,9 +1,8 @@
 //! The text of a session, part by part.
 
 ghost use Rattle.std.specs.Prelude.{◌≡◌, ◌++◌, IfOk, OnOk};
-ghost use Rattle.std.specs.Option.{option_copied};
 ghost use Rattle.kernel_text.specs.Dump.{dump_of};
-ghost use Rattle.session_laws.specs.Views.{answer_of, finish};
+ghost use Rattle.session_laws.specs.Views.{finish};
 ghost use Rattle.pod_text.specs.Lines.{where_asked};
 ghost use Rattle.session_text.specs.SessionText.{entry_line, numbered, task_line, text_of_session};
 
@@ -14,18 +13,8 @@ use kernel_text::{push_dump, push_line, trace_value};
 use plugin_session::Session;
 use pod_text::{SessionAsked, answer_value};
 use session_file::Task;
-use session_laws::{Entry, TaskAnswer};
+use session_laws::Entry;
 use std::alloc::Global;
-
-/// The answer of the task of this number, from 1, where it has one.
-fn answer_of<K: Kernel + Drop>(session: &Session<K>, number: u64) -> Option<&TaskAnswer>
-    ensures { option_copied result ≡ answer_of session.now number }
-{
-    if number == 0 {
-        return None;
-    }
-    session.answers().get(number as usize - 1)
-}
 
 fn push_task<K: Kernel + Drop>(
     alloc: Global,
@@ -36,7 +25,7 @@ fn push_task<K: Kernel + Drop>(
 ) -> Result<(), NoMemory>
     ensures { OnOk result (lines.new.items ≡ lines.old.items ++ task_line session.now number task.now) }
 {
-    match answer_of(session, number) {
+    match session.answer(number) {
         Some(answer) => {
             let value = answer_value(alloc, number, task.verb, &answer_as(answer)?)?;
             push_line(alloc, &value, lines)

@@ -68,7 +68,7 @@ fn told<K: Kernel + Drop>(
             .iter()
             .filter(|entry| entry.task == number)
             .count();
-        let code = code_of(session.answer(number));
+        let code = code_of(session.answer(number as u64));
         told.push((calls, code)).expect(rt, "no memory");
     }
     told

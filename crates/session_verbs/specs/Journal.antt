@@ -29,6 +29,13 @@ pub record JournalView : Type 0 where
 abbrev pub may_go : JournalView → Bool
 may_go j = option_map_or (nat_lt j.made) j.stop true
 
+-- no task is at hand
+pub record IsIdle (j : JournalView) : Type 0 where
+  pub task : j.task ≡ 0
+  pub made : j.made ≡ 0
+  pub stop : j.stop ≡ None
+  pub faults : (made : ℕ) → are_after made j.faults ≡ false
+
 -- no more calls were made than entered, and none behind the stop
 pub record IsKeptBy (history : List Entry) (made : ℕ) (stop : Option ℕ) : Type 0 where
   pub entered : made ≤ length history

@@ -8,7 +8,7 @@ ghost use Rattle.kernel_types.specs.Allowed.{IsAllowed};
 ghost use Rattle.kernel_types.specs.Replies.{is_fault};
 ghost use Rattle.kernel_types.specs.Sound.{IsSound};
 ghost use Rattle.pod_file.specs.Faults.{are_after};
-ghost use Rattle.session_verbs.specs.Journal.{IsLastReply, after_entries, made_next, may_go};
+ghost use Rattle.session_verbs.specs.Journal.{IsIdle, IsLastReply, after_entries, made_next, may_go};
 
 use cni_addr::{NoMemory, RefCounted};
 use kernel_model::Kernel;
@@ -47,10 +47,11 @@ impl<K: Kernel> Model for Journal<K> {
 }
 
 impl<K: Kernel + Drop> Journal<K> {
-    /// A journal in which nothing is done yet.
+    /// A journal in which nothing is done yet, and that is turned to no task.
     pub fn new(alloc: Global, kernel: K) -> Result<Journal<K>, NoMemory>
         ensures host { IfOk result (λ j. j.host ≡ K.host kernel) }
         ensures history { IfOk result (λ j. j.history ≡ []) }
+        ensures idle { IfOk result IsIdle }
     {
         Ok(Journal {
             kernel,
@@ -135,9 +136,10 @@ impl<K: Kernel + Drop> Journal<K> {
         }
     }
 
-    /// The number of the last call of the task at hand, from 1.
-    pub(crate) fn made(&self) -> u64
-        ensures { result ≡ self.now.made }
+    /// How many calls of the task at hand were made.
+    pub fn made(&self) -> u64
+        ensures made { result ≡ self.now.made }
+        ensures stopped { IfSome self.now.stop (λ most. result ≤ most) }
     {
         self.made
     }
@@ -154,13 +156,6 @@ impl<K: Kernel + Drop> Journal<K> {
         }
     }
 
-    /// No call of the task at hand was made behind its stop.
-    pub fn keeps_its_stop(&self)
-        ensures { IfSome self.now.stop (λ most. self.now.made ≤ most) }
-    {
-        let _made = self.made;
-    }
-
     /// The calls that were made and their replies, oldest first.
     pub fn history(&self) -> &[Entry]
         ensures { result.now ≡ self.now.history }
@@ -169,7 +164,7 @@ impl<K: Kernel + Drop> Journal<K> {
     }
 
     /// The allocator of the history.
-    pub fn alloc(&self) -> Global {
+    pub(crate) fn alloc(&self) -> Global {
         *self.history.allocator()
     }
 

@@ -14,7 +14,7 @@ returns-in-Del-clause-ran g c =
     ran-plain suite h (del_refusal c.args.command.now) c.args.journal.now c.run_del-answer.new.journal
     (answered c.run_del-answer.result) c.without_row.result c.requires.turned (is-del h.task.verb c.in-Del.is)
     (early-as suite h verbs.Del c.in-Del.is ∙ ap (λ x. option_map Known (del_refusal x)) (sym c.requires.command))
-    c.run_del-answer.ensures.ran c.without_row.ensures c.keeps_its_stop.ensures
+    c.run_del-answer.ensures.ran c.without_row.ensures (rw c.made-made.ensures.made at c.made-made.ensures.stopped)
 
 pub returns-in-Check-clause-ran : goal.returns-in-Check-clause-ran
 returns-in-Check-clause-ran g c =
@@ -27,7 +27,8 @@ returns-in-Check-clause-ran g c =
     (is-check h.task.verb c.in-Check.is)
     (early-as suite h verbs.Check c.in-Check.is
     ∙ ap (λ x. option_map Known (del_refusal x)) (sym c.requires.command))
-    c.run_check-answer.ensures.ran c.without_row-in-Check.ensures c.keeps_its_stop-in-Check.ensures
+    c.run_check-answer.ensures.ran c.without_row-in-Check.ensures
+    (rw c.made-made-in-Check.ensures.made at c.made-made-in-Check.ensures.stopped)
 
 pub returns-in_default-clause-ran : goal.returns-in_default-clause-ran
 returns-in_default-clause-ran g c =
@@ -39,4 +40,5 @@ returns-in_default-clause-ran g c =
     c.without_row-in_default.result c.requires.turned c.in_default.not-Add
     (early-as suite h h.task.verb refl
     ∙ collects-early suite h h.task.verb c.in_default.not-Add c.in_default.not-Del c.in_default.not-Check)
-    c.run_gc-answer.ensures.ran c.without_row-in_default.ensures c.keeps_its_stop-in_default.ensures
+    c.run_gc-answer.ensures.ran c.without_row-in_default.ensures
+    (rw c.made-made-in_default.ensures.made at c.made-made-in_default.ensures.stopped)

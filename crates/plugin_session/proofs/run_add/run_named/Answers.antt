@@ -66,7 +66,7 @@ returns-clause-ran g c = λ plugins named.
     (early-as suite h verbs.Add c.requires.verb
     ∙ none-wrong plugins (command_for h) h.task view
     (sym (ap add_refusal c.requires.command) ∙ c.requires.words) named met)
-    run.1 run.2 c.keeps_its_stop.ensures
+    run.1 run.2 (rw c.made-made.ensures.made at c.made-made.ensures.stopped)
 
 pub returns-in_err-wrong_error-clause-ran : goal.returns-in_err-wrong_error-clause-ran
 returns-in_err-wrong_error-clause-ran g c = λ plugins named.

@@ -11,7 +11,7 @@ entered : (g : Over) (c : After-end_by_entry g) (co : Course) (command : Command
 entered g c co command of =
     entry-asked co command c.args.att.now c.in_ok-of.field-0 c.args.journal.now c.make.new.self _ c.made.result
     c.end_by_entry.result (c.in_ok-of.ensures ∙ ap (λ (att : Att). CacheGet att) c.in_ok-copy.ensures) of
-    c.in_ok-make.ensures.ok (c.reply.ensures _ c.in_ok-make.ensures.reply) c.made.ensures c.end_by_entry.ensures
+    c.in_ok-make.ensures.ok (c.reply.ensures _ c.in_ok-make.ensures.reply) c.made.ensures.made c.end_by_entry.ensures
 
 pub ask_questions-requires-clause-probes : goal.ask_questions-requires-clause-probes
 ask_questions-requires-clause-probes g c =

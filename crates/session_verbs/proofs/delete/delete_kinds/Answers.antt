@@ -16,7 +16,7 @@ returns-in-Fault-clause-ends g c =
     EndsEach c.args.att.now c.args.kinds.now c.args.journal.now c.delete_each.new.journal (Ok end) in
     kinds-fault c.args.att.now c.args.kinds.now c.args.ending c.faulted.result c.args.journal.now
     c.delete_each.new.journal (subst P c.in-Fault.is c.in_ok-delete_each.ensures.ends)
-    (c.faulted.ensures ∙ ap (λ n. faulted n c.args.ending) c.made.ensures)
+    (c.faulted.ensures ∙ ap (λ n. faulted n c.args.ending) c.made.ensures.made)
 
 pub returns-in-Stopped-clause-ends : goal.returns-in-Stopped-clause-ends
 returns-in-Stopped-clause-ends g c =

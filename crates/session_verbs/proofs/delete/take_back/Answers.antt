@@ -7,7 +7,7 @@ returns-then-met_fault-clause-ends g c =
     back-fault c.args.att.now c.args.kinds.now c.args.ending c.faulted.result c.args.journal.now
     c.read_cached.new.journal c.in_ok-met_fault.ensures.ok
     (sym c.in_ok-met_fault.ensures.fault ∙ c.if-met_fault.true)
-    (c.faulted.ensures ∙ ap (λ n. faulted n c.args.ending) c.made.ensures)
+    (c.faulted.ensures ∙ ap (λ n. faulted n c.args.ending) c.made.ensures.made)
 
 pub returns-clause-ends : goal.returns-clause-ends
 returns-clause-ends g c =

@@ -12,5 +12,5 @@ returns-clause-ends g c =
     lease-ends c.args.att.now c.args.set.now c.args.journal.now c.make.new.self c.args.given.now.items
     c.take_lease.new.given.items
     c.in_ok-of.field-0 c.len-number.result c.made.result c.in-Some.reply.now c.take_lease.result same (search rules)
-    c.made.ensures made replied
+    c.made.ensures.made made replied
     c.take_lease.ensures.ok c.take_lease.ensures.given
