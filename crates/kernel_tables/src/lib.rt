@@ -11,6 +11,6 @@
 //! ```
 #![tactic(auto)]
 
-pub mod table_kernel;
+mod table_kernel;
 
 pub use table_kernel::TableKernel;

@@ -106,11 +106,7 @@ fn ask_for_leases(questions: &mut Vec<Question>, att: &Att, leased: &[Addr]) -> 
 
 /// What a CHECK asks, in order: each object that the row's calls append, and then the leases. It takes memory in
 /// proportion to both.
-pub(crate) fn row_questions(
-    alloc: Global,
-    row: &Row,
-    leased: &[Addr],
-) -> Result<Items<Question>, NoMemory>
+fn row_questions(alloc: Global, row: &Row, leased: &[Addr]) -> Result<Items<Question>, NoMemory>
     ensures { IfOk result (λ questions. questions ≡ asked.row_questions (Some row.now) leased.now) }
 {
     let mut questions = Vec::new(alloc);
